@@ -10,7 +10,7 @@ mod tests;
 
 pub use asked::Options;
 use clap::{Arg, ArgAction, ArgMatches, Command, Error, value_parser};
-use crew::Crew;
+use engine::Crew;
 use keys::Settings;
 use std::alloc::{AllocError, Global};
 

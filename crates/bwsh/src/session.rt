@@ -27,9 +27,10 @@ use crate::options::{Options, options};
 use crate::show::{show_cleaned, show_flushed, show_reply, show_report, show_upgraded};
 use cleaner::laws::a_clean_keeps_the_store;
 use climb_plan::laws::the_plan_holds_the_map_after_the_commands;
-use crew::{BadCrew, Crew, NoGate};
-use engine::{Answer, Disk, FileDisk, LockFile, MemDisk, Step, Store};
-use flush_log::segments::disk_size;
+use engine::{
+    Answer, BadCrew, Crew, Disk, FileDisk, LockFile, MemDisk, NoGate, Report, Step, Store,
+};
+use flush_log::disk_size;
 use keys::{Fault, Reply, Settings};
 use std::alloc::{AllocError, Global};
 use std::fmt::{InlineText, Write as _};
@@ -37,7 +38,6 @@ use std::io::{ErrorKind, Read, Write};
 use std::rt::Files;
 use std::thread::Threads;
 use std::{fmt, io};
-use verify::Report;
 
 // Bytes that hold the line of each ending but that for refused words.
 const LINE: usize = 64;

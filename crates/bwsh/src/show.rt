@@ -5,9 +5,9 @@ ghost use Rattle.std.specs.List.{flat_map};
 ghost use Rattle.bwsh.specs.Shown.{reply_text, row_lines, shown_reply, shown_flushed, shown_cleaned, shown_upgraded, shown_report, shown_row};
 
 use crate::token::push_token;
+use engine::Report;
 use keys::{Reply, RowList};
 use std::alloc::{AllocError, Global};
-use verify::Report;
 
 // Appends what the first line of a reply with so many rows says.
 fn push_count(count: usize, out: &mut Vec<u8>) -> Result<(), AllocError>

@@ -16,10 +16,10 @@ ghost use Rattle.recovery.specs.declared.gather.Wanted.TheVariants.{Head};
 ghost use Rattle.cleaner.specs.Chosen.{BeginsAt, image_in, frames_kept};
 ghost use Rattle.cleaner.specs.CleanText.{clean_text};
 
-use flush_log::image::Image;
+use flush_log::Image;
 use frame_codec::{Format, skim_frame};
 use keys::Fault;
-use recovery::gather::{Gathering, Kept};
+use recovery::{Gathering, Kept};
 use std::alloc::{AllocError, Global};
 use std::collections::BTreeMap;
 

@@ -3,8 +3,11 @@
 //! (`choose`), and written as a flush writes its own. Frames are copied as they stand, and the log keeps its version.
 //!
 //! Laws: a clean keeps the store that the disk stands for; a crash in it leaves the store before or after.
+//! Other crates name items by this root, and laws by the public module `laws`.
 #![tactic(auto)]
 
-pub mod choose;
-pub mod clean;
+mod choose;
+mod cleaning;
 pub mod laws;
+
+pub use crate::cleaning::clean;

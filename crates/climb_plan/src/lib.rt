@@ -3,10 +3,11 @@
 //! `specs/` has the plan of a batch, and its laws stand in `laws`. The climb makes the tree of that plan, level by level from the
 //! leaves up: which groups of a level are rewritten, what is made of them, and what their parents are told; then, from the root
 //! down, what is done to the mapping table.
+//! Other crates name items by this root, and laws by the public module `laws`.
 #![tactic(auto)]
 
+mod ascent;
 mod change;
-pub mod climb;
 mod family;
 mod install;
 pub mod laws;
@@ -17,4 +18,5 @@ mod seen;
 mod shrink;
 mod top;
 
+pub use crate::ascent::climb;
 pub use crate::refused::Refused;

@@ -1,3 +1,4 @@
+//! Why a climb is refused.
 ghost use Rattle.std.specs.Prelude.{◌≡◌};
 ghost use Rattle.climb_plan.specs.declared.refused.Refused.TheVariants.{NoMemory};
 

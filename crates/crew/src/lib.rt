@@ -1,5 +1,6 @@
 //! What a round of work asks of each kind of work. A job goes in; what is made of it comes out, or the job itself
 //! where memory was refused. Rounds, in one thread or in several, are built on this contract alone.
+//! Other crates name items by this root, and laws by the public module `laws`.
 #![tactic(auto)]
 
 ghost use Rattle.std.specs.Prelude.{◌≡◌};

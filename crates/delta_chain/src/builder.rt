@@ -1,3 +1,4 @@
+//! Builds a base, entry by entry.
 ghost use Rattle.std.specs.Prelude.{◌≡◌, ◌∷◌, ◌++◌, [], true, false, IfOk, OnOk, OnErr, IsErrOf, ◌↔◌};
 ghost use Rattle.delta_chain.specs.Building.{goes_last};
 

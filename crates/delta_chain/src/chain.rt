@@ -1,3 +1,4 @@
+//! The state of a page: runs in front of a base, owned (`Chain`) or borrowed (`ChainRef`).
 ghost use Rattle.std.specs.Prelude.{◌≡◌, ◌<◌, ◌≤◌, ◌+◌, ◌-◌, ◌∷◌, [], false, List, length, min, take, drop, reverse, vec_len, vec_capacity, if◌then◌else◌, OnOk, OnErr, IfOk, IfErr, MatchOption};
 ghost use Rattle.std.specs.List.{sum_by};
 ghost use Rattle.std.specs.Option.{unwrap_or};

@@ -1,3 +1,4 @@
+//! Items under rising keys, as runs keep them: one in place, more in a list.
 ghost use Rattle.std.specs.Prelude.{◌≡◌, ◌<◌, ◌≤◌, ◌∷◌, ◌++◌, [], true, length, set, slice_get, vec_capacity, Some, None, MatchResult, IfOk, OnOk, OnErr};
 ghost use Rattle.std.specs.List.{insert};
 ghost use Rattle.std.specs.Map.{keys_of, values_of};

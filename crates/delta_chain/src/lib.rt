@@ -1,19 +1,20 @@
 //! The state of a page: runs of changes in front of a base. A page is never changed in place; a change is a run
 //! that is put in front of what was there (the Bw-tree's delta), until the page is replaced as a whole. A page that
 //! counts as replaced may lie in memory as it was, since its base can be made late.
+//! Other crates name items by this root, and laws by the public module `laws`.
 #![tactic(auto)]
 
-pub mod base;
-pub mod builder;
-pub mod chain;
+mod base;
+mod builder;
+mod chain;
 mod entries;
-pub mod key_list;
-pub mod late;
+mod key_list;
+mod late;
 pub mod laws;
 mod merging;
 mod newest_runs;
-pub mod pairs;
-pub mod run;
+mod pairs;
+mod run;
 
 pub use crate::base::Base;
 pub use crate::builder::{BaseBuilder, PushError};

@@ -1,3 +1,4 @@
+//! A run of changes to a page.
 ghost use Rattle.std.specs.Prelude.{◌≡◌, ◌<◌, ◌∷◌, ◌++◌, [], true, false, length, drop, slice_get, Option, Some, None, IfOk, IfSome, MatchOption, OnOk, OnErr, IsErrOf, ◌↔◌};
 ghost use Rattle.std.specs.Map.{keys_of, values_of};
 ghost use Rattle.std.specs.Option.{option_copied, unwrap_or};

@@ -22,12 +22,11 @@ ghost use Rattle.engine.specs.SoundTree.{IsSoundInMemory};
 use crate::execute_one::execute_one;
 use crate::leaves::{take_replies, undo_leaves, work_leaves};
 use crate::reads::{do_all_look, read_leaves, replies_of};
-use climb_plan::Refused;
-use climb_plan::climb::climb;
 use climb_plan::laws::{
     the_log_states_stay_true, the_plan_holds_the_map_after_the_commands,
     the_plan_of_a_proper_store_is_proper,
 };
+use climb_plan::{Refused, climb};
 use crew::{Crew, Gate};
 use keys::{Command, Fault, Reply, Settings};
 use mapping::Tree;

@@ -21,7 +21,7 @@ ghost use Rattle.engine.specs.SoundTree.{IsSoundInMemory};
 
 use crate::execute::{fault_of, pairs_can_be_counted};
 use crate::leaves::{put_leaf_back, undo_leaves};
-use climb_plan::climb::climb;
+use climb_plan::climb;
 use climb_plan::laws::{
     commands_that_come_to_nothing_change_nothing, the_log_states_stay_true,
     the_plan_holds_the_map_after_the_commands, the_plan_of_a_proper_store_is_proper,

@@ -9,8 +9,7 @@ ghost use Rattle.engine.specs.declared.file_store.OpenFault.TheVariants as open_
 use crate::refusal::admit_crew;
 use crate::store::Store;
 use crew::Crew;
-use flush_log::segments::disk_size;
-use flush_log::{Disk, FileDisk, LockFile};
+use flush_log::{Disk, FileDisk, LockFile, disk_size};
 use keys::{Fault, Settings};
 use std::alloc::Global;
 use std::error::Error;

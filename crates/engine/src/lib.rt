@@ -1,25 +1,26 @@
 //! The store: a tree of pages on which batches of commands are executed, and its log on a disk, to which it is flushed, which is
 //! cleaned, and which can be upgraded.
+//! Other crates name items by this root, and laws by the public modules `laws` and `step_laws`.
 #![tactic(auto)]
 
 mod execute;
 mod execute_one;
-pub mod file_store;
+mod file_store;
 pub mod laws;
 mod leaf_tasks;
 mod leaves;
 mod reads;
 mod refusal;
-pub mod step;
+mod step;
 pub mod step_laws;
-pub mod store;
+mod store;
 #[cfg(test)]
 mod tests;
 
 pub use crate::file_store::{OpenFault, open_or_create};
 pub use crate::step::{Answer, Step};
 pub use crate::store::Store;
-pub use crew::{Crew, Gate, NoGate};
+pub use crew::{BadCrew, Crew, Gate, NoGate};
 pub use flush_log::{
     CrashDisk, Disk, DiskFault, Failing, FaultDisk, FileDisk, Fill, LockFile, MemDisk,
 };

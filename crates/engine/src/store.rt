@@ -31,11 +31,7 @@ use crate::execute::execute;
 use crate::laws::a_batch_stays_in_step;
 use crate::refusal::{admit, admit_crew};
 use crew::{Crew, Gate};
-use flush_log::Disk;
-use flush_log::commit::write_through;
-use flush_log::new_store::{first_slot, new_bytes};
-use flush_log::segments::disk_size;
-use flush_log::slot::LogEnds;
+use flush_log::{Disk, LogEnds, disk_size, first_slot, new_bytes, write_through};
 use keys::{Command, Fault, Reply, Settings, Version};
 use mapping::laws::{
     nothing_is_found_exactly_in_a_proper_tree, the_first_tree_is_proper_and_empty,

@@ -3,36 +3,43 @@
 //!
 //! Laws: what is spelled is read back; a text that is written is found by the next reading; a crash during a commit leaves what was
 //! before, or all of it.
+//! Other crates name items by this root, and laws by the public modules `commit_laws`, `laws`, `record_laws` and `slot_laws`.
 #![tactic(auto)]
 
-pub mod commit;
+mod commit;
 pub mod commit_laws;
-pub mod commit_plan;
-pub mod crash_disk;
-pub mod disk;
-pub mod fault_disk;
-pub mod file_disk;
-pub mod image;
-pub mod image_work;
+mod commit_plan;
+mod crash_disk;
+mod disk;
+mod fault_disk;
+mod file_disk;
+mod image;
+mod image_work;
 mod kind;
 pub mod laws;
 mod layout;
-pub mod lock_file;
-pub mod mem_disk;
-pub mod new_store;
+mod lock_file;
+mod mem_disk;
+mod new_store;
 pub mod record_laws;
-pub mod segments;
-pub mod settings_block;
-pub mod slot;
+mod segments;
+mod settings_block;
+mod slot;
 pub mod slot_laws;
-pub mod text;
-pub mod write;
+mod text;
+mod write;
 
-pub use crate::commit::{is_gate_open, write_flush};
+pub use crate::commit::{SLOTS_BEGIN, is_gate_open, slot_place, write_flush, write_through};
 pub use crate::commit_plan::Commit;
 pub use crate::crash_disk::{CrashDisk, Fill};
 pub use crate::disk::{Disk, DiskFault};
 pub use crate::fault_disk::{Failing, FaultDisk};
 pub use crate::file_disk::FileDisk;
+pub use crate::image::Image;
 pub use crate::lock_file::LockFile;
 pub use crate::mem_disk::MemDisk;
+pub use crate::new_store::{first_slot, new_bytes};
+pub use crate::segments::{disk_size, last_segment, place_of_segment, segment_header};
+pub use crate::settings_block::read_settings;
+pub use crate::slot::{LogEnds, SLOT_SIZE, Slot, newer, read_slot, slot_in};
+pub use crate::text::{Text, images, is_all_written};

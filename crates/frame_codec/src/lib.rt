@@ -3,18 +3,19 @@
 //!
 //! Laws: a frame is read back from its bytes; no frame's bytes begin another's; what is read is what stands there; how many
 //! bytes a frame has; the base and the runs of a page are frames. The same of cells.
+//! Other crates name items by this root, and laws by the public module `laws`.
 #![tactic(auto)]
 
 mod cell;
-pub mod format;
-pub mod frame;
+mod format;
+mod frame;
 mod kinds;
 mod last_key;
 pub mod laws;
 mod parts;
-pub mod read;
-pub mod skim;
-pub mod write;
+mod read;
+mod skim;
+mod write;
 
 pub use crate::format::{Format, Spelling};
 pub use crate::frame::Frame;

@@ -1,3 +1,4 @@
+//! The state of an index page: its chain, and its children in one list.
 ghost use Rattle.std.specs.Prelude.{◌≡◌};
 ghost use Rattle.delta_chain.specs.Layers.{entries_of};
 ghost use Rattle.index_page.specs.ChildList.{IsListOf};

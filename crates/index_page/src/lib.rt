@@ -4,14 +4,15 @@
 //! `specs/` has what a page is, its children, and what is asked of a page. Laws: the tests by which a page is checked
 //! find exactly the pages of which the facts don't hold; the children's ranges tile that of their page; a range meets
 //! bounds where they share a key.
+//! Other crates name items by this root, and laws by the public module `laws`.
 #![tactic(auto)]
 
-pub mod child_list;
-pub mod in_memory;
+mod child_list;
+mod in_memory;
 mod index_state;
 pub mod laws;
-pub mod page;
-pub mod within;
+mod page;
+mod within;
 
 pub use crate::child_list::ChildList;
 pub use crate::in_memory::PageInMemory;

@@ -1,3 +1,4 @@
+//! Pages of either kind: a low key and a chain.
 ghost use Rattle.std.specs.Prelude.{◌≡◌, ℕ, ◌∷◌, [], true, ◌↔◌, Option, map, MatchOption, IsTrue};
 ghost use Rattle.std.specs.List.{filter};
 ghost use Rattle.std.specs.Option.{option_copied, option_map, option_or};

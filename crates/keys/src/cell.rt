@@ -1,3 +1,4 @@
+//! The trait of what a page has at a key: a value or a page id.
 ghost use Rattle.std.specs.Prelude.{◌≡◌, IfOk};
 
 use crate::pid::Pid;

@@ -1,3 +1,4 @@
+//! Commands, and the replies to them.
 ghost use Rattle.std.specs.Prelude.{◌≡◌, IfOk};
 ghost use Rattle.keys.specs.declared.command.Command.TheVariants.{Get, Put, Add, Del};
 ghost use Rattle.keys.specs.CommandKey.{key_of, is_ranged, is_scan};

@@ -1,3 +1,4 @@
+//! Faults: why a call of the store is refused.
 ghost use Rattle.std.specs.Prelude.{◌≡◌};
 ghost use Rattle.keys.specs.declared.fault.Fault.TheVariants.{NoMemory};
 

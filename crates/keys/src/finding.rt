@@ -1,3 +1,4 @@
+//! Findings: a rule of the structure of a tree, and the page that breaks it.
 use crate::pid::Pid;
 use std::fmt;
 use std::marker::Model;

@@ -1,3 +1,4 @@
+//! The bytes of a key or a value: few in place, more in a list.
 ghost use Rattle.std.specs.Prelude.{◌≡◌, [], IfOk};
 
 use crate::short_bytes::ShortBytes;

@@ -1,3 +1,4 @@
+//! Keys with their first eight bytes as a number, borrowed (`KeyRef`) or owned (`KeyWithWord`).
 ghost use Rattle.std.specs.Prelude.{◌≡◌, ◌<◌, length};
 ghost use Rattle.std.proofs.Common.{rules};
 ghost use Rattle.std.proofs.lemmas.Cmp.{nat_list_cmp_total, eq_by_cmp_equiv};

@@ -1,26 +1,27 @@
 //! What every layer of the engine speaks of: keys, values and page ids, settings, the version of a log, commands and
 //! their replies, and the faults. `specs/` has the order of keys, the ordered map, and what a command does to it.
+//! Other crates name items by this root, and laws by the public module `laws`.
 #![tactic(auto)]
 
-pub mod cell;
-pub mod command;
-pub mod fault;
-pub mod finding;
-pub mod fingerprint;
+mod cell;
+mod command;
+mod fault;
+mod finding;
+mod fingerprint;
 mod kept_bytes;
-pub mod key;
-pub mod key_ref;
+mod key;
+mod key_ref;
 pub mod laws;
-pub mod order;
-pub mod pid;
-pub mod piece;
-pub mod pieces;
-pub mod row_list;
-pub mod settings;
+mod order;
+mod pid;
+mod piece;
+mod pieces;
+mod row_list;
+mod settings;
 mod short_bytes;
 mod shown;
-pub mod value;
-pub mod version;
+mod value;
+mod version;
 
 pub use crate::cell::Cell;
 pub use crate::command::{Command, Reply};

@@ -1,3 +1,4 @@
+//! Page ids.
 use std::marker::Model;
 
 /// A page id: the number by which pages name one another, and under which the mapping table keeps a page's

@@ -1,3 +1,4 @@
+//! The answer of one page to one command of a batch.
 use crate::command::Reply;
 use std::alloc::Allocator;
 

@@ -1,3 +1,4 @@
+//! The settings of a store: their fields, the default, and the check of their limits.
 ghost use Rattle.std.specs.Prelude.{◌≡◌, ◌+◌, ◌*◌, ◌≤◌, Ok, Err, None, if◌then◌else◌, IfOk, MatchOption};
 ghost use Rattle.keys.specs.Limits.{is_in_limits, first_bad_field};
 ghost use Rattle.keys.specs.LogSize.{room_of_pairs};

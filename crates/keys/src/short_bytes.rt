@@ -1,3 +1,4 @@
+//! Up to 23 bytes, kept in place.
 ghost use Rattle.std.specs.Prelude.{◌≡◌, ◌<◌, [], length, MatchOption};
 
 use std::marker::Model;

@@ -1,3 +1,4 @@
+//! Values: byte strings.
 ghost use Rattle.std.specs.Prelude.{◌≡◌, [], length, IfOk};
 ghost use Rattle.std.proofs.lemmas.Cmp.{nat_list_cmp_total, eq_by_cmp_equiv};
 ghost use Rattle.std.specs.Cmp.{partial_equiv_from_equiv};

@@ -1,3 +1,4 @@
+//! The pids that a flush may have to write, as they are noted.
 ghost use Rattle.std.specs.Prelude.{◌≡◌, ℕ, true, false, [], IfSome};
 ghost use Rattle.mapping.specs.Due.{may_be_due};
 ghost use Rattle.mapping.specs.FreshPids.{is_among};

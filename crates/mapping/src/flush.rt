@@ -1,3 +1,4 @@
+//! What the log has of a page once it is written.
 ghost use Rattle.std.specs.Prelude.{◌≡◌, [], ◌∷◌};
 ghost use Rattle.mapping.specs.Flushed.{depth_counted, logged_then, marked};
 ghost use Rattle.mapping.specs.Proper.{AreRisingPids};

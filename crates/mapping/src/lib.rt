@@ -3,18 +3,19 @@
 //!
 //! Besides, what a store is, how its pages are levels, when it is proper, and which pids are given to new pages, as
 //! definitions (`specs/`), and the laws of these.
+//! Other crates name items by this root, and laws by the public module `laws`.
 #![tactic(auto)]
 
 mod due;
 mod flush;
 pub mod laws;
-pub mod logged;
+mod logged;
 mod page_table;
 mod pids;
 mod room;
 mod slots;
-pub mod table;
-pub mod tree;
+mod table;
+mod tree;
 
 pub use crate::flush::depth;
 pub use crate::logged::Logged;

@@ -1,3 +1,4 @@
+//! What the log has of a pid.
 ghost use Rattle.std.specs.Prelude.{◌≡◌};
 ghost use Rattle.mapping.specs.Outdate.{outdate};
 ghost use Rattle.mapping.specs.LogState.{log_state};

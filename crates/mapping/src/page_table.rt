@@ -1,3 +1,4 @@
+//! A table of pages that notes which of them a flush may have to write.
 ghost use Rattle.std.specs.Prelude.{◌≡◌, Some, None, IsSome, IfSome, IfOk, OnOk, OnErr};
 ghost use Rattle.mapping.specs.Due.{AreDue};
 ghost use Rattle.mapping.specs.Flushed.{marked_as_written};

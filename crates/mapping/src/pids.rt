@@ -1,3 +1,4 @@
+//! Iterates over the pids of a table: those in use, and those of the pages at home.
 ghost use Rattle.std.specs.Prelude.{◌≡◌};
 ghost use Rattle.std.specs.Iterator.{YieldsFirst, item_count};
 ghost use Rattle.mapping.specs.Slots.{is_known, is_home};

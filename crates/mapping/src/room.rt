@@ -1,3 +1,4 @@
+//! Gives pids their places in a table, and finds numbers that have none.
 ghost use Rattle.std.specs.Prelude.{◌≡◌, ◌+◌, ◌<◌, ◌≤◌, IfOk, OnOk, OnErr, IsOk, vec_len, vec_capacity};
 ghost use Rattle.mapping.specs.Proper.{AreRisingPids};
 ghost use Rattle.mapping.specs.Table.{with_room, with_rooms, pids_in_use, fresh_pids};

@@ -1,3 +1,4 @@
+//! The slots of a table, by rising pid, and the search for one.
 ghost use Rattle.std.specs.Prelude.{◌≡◌, ◌↔◌, IsTrue, MatchResult, IsSome, is_some};
 ghost use Rattle.std.specs.List.{AllByRecursion};
 ghost use Rattle.mapping.specs.Proper.{AreRisingPids};

@@ -1,3 +1,4 @@
+//! Iterates over the changes to a leaf from a key on.
 ghost use Rattle.std.specs.Prelude.{◌≡◌, ◌∷◌, [], drop, MatchOption};
 ghost use Rattle.std.specs.Iterator.{YieldsFirstBy, item_count};
 ghost use Rattle.page_runs.specs.PageRows.{change_lent};

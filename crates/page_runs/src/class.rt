@@ -1,3 +1,5 @@
+//! The classes of pages after a step.
+
 /// What became of a page in a step, which says what its parent has to do about it.
 #[derive(Clone, Copy, Debug, PartialEq, Eq)]
 pub enum Class {

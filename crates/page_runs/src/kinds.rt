@@ -1,3 +1,4 @@
+//! Counts the commands of each kind that a page has to work.
 use keys::Command;
 use std::alloc::Global;
 

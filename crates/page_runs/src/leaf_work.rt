@@ -1,3 +1,4 @@
+//! The work on a leaf in a batch: its commands, one after the other.
 ghost use Rattle.std.specs.Prelude.{◌≡◌, []};
 ghost use Rattle.crew.specs.Turn.{IfDone, IfBack};
 ghost use Rattle.index_page.specs.InMemory.{page_shown};

@@ -1,19 +1,20 @@
 //! What a batch does to one page: a leaf's commands are replayed against what it holds, and it is changed once, by their
 //! net run; an index page is changed once, by the run of its terms.
+//! Other crates name items by this root, and laws by the public module `laws`.
 #![tactic(auto)]
 
 mod changes;
 mod changes_from;
-pub mod class;
+mod class;
 mod kinds;
 pub mod laws;
 mod leaf_after;
-pub mod leaf_work;
+mod leaf_work;
 mod page_after;
 mod page_rows;
-pub mod read_work;
+mod read_work;
 mod replay;
-pub mod term_work;
+mod term_work;
 
 pub use crate::class::Class;
 pub use crate::leaf_work::{LeafDone, LeafJob, LeafRest, LeafWork};

@@ -1,3 +1,4 @@
+//! The work on an index page in a batch: the run of its terms.
 ghost use Rattle.std.specs.Prelude.{◌≡◌};
 ghost use Rattle.index_page.specs.Page.PageOfKind.{Index};
 

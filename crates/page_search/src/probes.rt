@@ -1,3 +1,4 @@
+//! Counts comparisons of keys.
 ghost use Rattle.std.specs.Prelude.{◌≡◌, ◌+◌, ◌≤◌, min};
 ghost use Rattle.keys.specs.Order.{order};
 

@@ -1,3 +1,4 @@
+//! Searches pages and lists of keys by halves.
 ghost use Rattle.std.specs.Prelude.{◌≡◌, ◌+◌, ◌≤◌, min, length, slice_get, is_some, Some, MatchResult};
 ghost use Rattle.std.specs.Map.{keys_of};
 ghost use Rattle.std.specs.Option.{option_copied};

@@ -1,3 +1,4 @@
+//! The side of a key on which the nearest entry is searched.
 ghost use Rattle.std.specs.Prelude.{◌≡◌, ◌+◌, ◌≤◌};
 ghost use Rattle.std.specs.Ordering.{is_lt};
 ghost use Rattle.page_search.specs.Nearest.{nearness, past};

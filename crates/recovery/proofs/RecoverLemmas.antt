@@ -21,7 +21,7 @@ use Rattle.recovery.specs.StoreOfDisk.{and_then, frames_in, store_of_disk, store
 use Rattle.recovery.proofs.FrontLemmas.{front-settings, front-slot}
 use Rattle.recovery.specs.declared.gather.Gathering.{Gathering}
 use Rattle.recovery.specs.declared.gather.Wanted.TheVariants.{Every}
-use Rattle.recovery.specs.declared.recover.LogRead.{LogRead}
+use Rattle.recovery.specs.declared.recovered.LogRead.{LogRead}
 
 -- ---- what the bytes of a disk stand for
 

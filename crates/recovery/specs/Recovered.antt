@@ -12,8 +12,8 @@ use Rattle.flush_log.specs.SettingsBlock.{store_settings}
 use Rattle.flush_log.specs.Slot.{store_slot}
 use Rattle.recovery.specs.Gathered.{AreGathered}
 use Rattle.recovery.specs.declared.gather.Wanted.TheVariants.{Every}
-use Rattle.recovery.specs.declared.recover.LogRead.{LogRead}
-use Rattle.recovery.specs.declared.recover.Recovered.{Recovered}
+use Rattle.recovery.specs.declared.recovered.LogRead.{LogRead}
+use Rattle.recovery.specs.declared.recovered.Recovered.{Recovered}
 
 -- bytes that a reading of a disk may have found: as many as it has; and of an honest disk what a read gives
 pub record IsReadOf (v : View) (file : Bytes) : Type 0 where

@@ -20,7 +20,7 @@ ghost use Rattle.recovery.specs.declared.gather.Wanted.TheVariants.{Every};
 use crate::gather::{Gathering, Kept};
 use crate::rebuild::{PageLog, RebuildWork, Rebuilt};
 use crew::{Crew, NoGate, run_round};
-use flush_log::slot::Slot;
+use flush_log::Slot;
 use frame_codec::Format;
 use index_page::Page;
 use keys::{Fault, Pid};

@@ -6,17 +6,23 @@
 //! Laws: what was flushed is what is read, and so is what was upgraded; what is read is a store; a new disk stands for the first
 //! store; a tree that keeps what the log has stays in step; bytes that no reading looks at don't matter; a crash in a flush or in an
 //! upgrade leaves the store before or after; what a flush of a tree is on its table in memory.
+//! Other crates name items by this root, and laws by the public modules `laws` and `table_laws`.
 #![tactic(auto)]
 
 mod build_tree;
-pub mod gather;
+mod gather;
 pub mod laws;
+mod log_reading;
 mod log_so_far;
 mod page_parts;
-pub mod read_bytes;
+mod read_bytes;
 mod read_disk;
-pub mod read_log;
-pub mod rebuild;
-pub mod recover;
-pub mod scan_segment;
+mod rebuild;
+mod recovered;
+mod scan_segment;
 pub mod table_laws;
+
+pub use crate::gather::{Gathering, Kept, Told, Wanted};
+pub use crate::log_reading::read_log;
+pub use crate::read_bytes::read;
+pub use crate::recovered::{Recovered, recover};

@@ -10,11 +10,9 @@ ghost use Rattle.flush_log.specs.Slot.{slots_begin, is_slot, store_slot};
 ghost use Rattle.recovery.specs.Recovered.{IsReadOf, IsLate};
 
 use crate::read_bytes::read;
-use flush_log::Disk;
-use flush_log::commit::SLOTS_BEGIN;
-use flush_log::segments::disk_size;
-use flush_log::settings_block::read_settings as read_block;
-use flush_log::slot::{SLOT_SIZE, Slot, newer, read_slot};
+use flush_log::{
+    Disk, SLOT_SIZE, SLOTS_BEGIN, Slot, disk_size, newer, read_settings as read_block, read_slot,
+};
 use keys::{Fault, Settings};
 
 // How many bytes the settings block has.

@@ -6,7 +6,7 @@ ghost use Rattle.keys.specs.declared.fault.Fault.TheVariants.{NoMemory};
 ghost use Rattle.recovery.specs.Scan.{is_end_at, held_segment, scanned, held_frame, said_of};
 
 use crew::{Turn, Work};
-use flush_log::segments::segment_header;
+use flush_log::segment_header;
 use frame_codec::{Format, FrameKind, skim_frame};
 use keys::Fault;
 use std::alloc::Global;

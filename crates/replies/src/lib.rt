@@ -1,4 +1,5 @@
 //! The replies of a batch, put together from what each page answered.
+//! Other crates name items by this root, and laws by the public module `laws`.
 #![tactic(auto)]
 
 pub mod laws;

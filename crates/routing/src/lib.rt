@@ -1,10 +1,11 @@
 //! Which commands of a batch go to which page.
+//! Other crates name items by this root, and laws by the public module `laws`.
 #![tactic(auto)]
 
-pub mod batch;
-pub mod descent;
+mod batch;
+mod descent;
 pub mod laws;
-pub mod page_run;
+mod page_run;
 mod reaching;
 mod share;
 mod sort;

@@ -1,3 +1,4 @@
+//! The commands of a batch that one page has to work.
 ghost use Rattle.std.specs.Prelude.{◌≡◌, ◌∷◌, []};
 ghost use Rattle.std.specs.List.Sorted.{IsStrictlyIncreasing};
 

@@ -1,3 +1,4 @@
+//! A page's part of a batch, on the way down the tree.
 ghost use Rattle.std.specs.Prelude.{◌≡◌, IfOk};
 
 use crate::sort::Keyed;

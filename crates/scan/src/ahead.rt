@@ -1,3 +1,4 @@
+//! Iterates over the changes of one run.
 ghost use Rattle.std.specs.Prelude.{◌≡◌, drop, slice_get};
 ghost use Rattle.std.specs.Option.{option_copied, option_map};
 ghost use Rattle.keys.specs.Order.{AreRisingKeys, IsRising};

@@ -1,3 +1,4 @@
+//! Iterates over the pairs of a base: a leaf without runs.
 ghost use Rattle.std.specs.Prelude.{◌≡◌};
 ghost use Rattle.std.specs.Iterator.{YieldsFirstBy, item_count};
 ghost use Rattle.scan.specs.Leaf.{from};

@@ -1,3 +1,4 @@
+//! Iterates over the pairs of one leaf in key order.
 ghost use Rattle.std.specs.Prelude.{◌≡◌, []};
 ghost use Rattle.std.specs.Iterator.{YieldsFirstBy, item_count};
 ghost use Rattle.delta_chain.specs.Layers.{entries_of};

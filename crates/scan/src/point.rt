@@ -1,3 +1,4 @@
+//! Looks up one key in a leaf.
 ghost use Rattle.std.specs.Prelude.{◌≡◌};
 ghost use Rattle.std.specs.Option.{option_copied};
 ghost use Rattle.keys.specs.OrderedMap.{value_at};

@@ -1,3 +1,4 @@
+//! Iterates over a leaf with many runs: searches each next key.
 ghost use Rattle.std.specs.Prelude.{◌≡◌};
 ghost use Rattle.std.specs.Option.{option_map};
 ghost use Rattle.std.specs.Iterator.{YieldsFirstBy, item_count};

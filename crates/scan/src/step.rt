@@ -1,3 +1,4 @@
+//! Iterates over the children of one index page: a step of a path down the tree.
 ghost use Rattle.std.specs.Prelude.{◌≡◌, ◌∷◌, [], drop, MatchOption};
 ghost use Rattle.std.specs.Map.{values_of};
 ghost use Rattle.index_page.specs.Children.{children_within};

@@ -1,3 +1,4 @@
+//! The work on a group of pages: joins their entries and cuts them into new pages.
 ghost use Rattle.std.specs.Prelude.{◌≡◌, ◌<◌, map, IfOk};
 ghost use Rattle.std.specs.List.{AllByRecursion};
 ghost use Rattle.keys.specs.Order.{IsRising};

@@ -1,3 +1,4 @@
+//! The two kinds of pages, by their cells.
 ghost use Rattle.std.specs.Prelude.{◌≡◌};
 ghost use Rattle.delta_chain.specs.Layers.{entries_of};
 ghost use Rattle.index_page.specs.InMemory.{page_shown};

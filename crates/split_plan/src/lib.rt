@@ -3,15 +3,16 @@
 //!
 //! `specs/` says how entries are cut, how children are grouped, what stands in a group's place and which terms its
 //! parent gets.
+//! Other crates name items by this root, and laws by the public module `laws`.
 #![tactic(auto)]
 
 mod cutting;
-pub mod group_work;
-pub mod grouping;
+mod group_work;
+mod grouping;
 mod kind;
 pub mod laws;
-pub mod name;
-pub mod parent_run;
+mod name;
+mod parent_run;
 
 pub use crate::group_work::{GroupDone, GroupJob, GroupWork, index_pages};
 pub use crate::grouping::groups;

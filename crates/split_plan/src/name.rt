@@ -1,3 +1,4 @@
+//! What a parent's entry says of a child.
 use keys::{Key, Pid};
 use std::alloc::Global;
 use std::marker::Model;

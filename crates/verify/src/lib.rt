@@ -7,9 +7,9 @@ mod look;
 mod met;
 mod page_rules;
 mod place;
-pub mod report;
+mod report;
 mod rules;
-pub mod walk;
+mod walk;
 
 pub use crate::report::Report;
 pub use crate::walk::verify;

@@ -1,3 +1,4 @@
+//! Checks one page by itself, as one of its level.
 ghost use Rattle.std.specs.Prelude.{◌≡◌, ◌&&◌, nat_le, [], Some, length, IfOk};
 ghost use Rattle.delta_chain.specs.Late.{seen};
 ghost use Rattle.index_page.specs.Page.{entries, first_key};

@@ -1,3 +1,4 @@
+//! The page ids that a walk has met.
 ghost use Rattle.std.specs.Prelude.{◌≡◌, ◌+◌, not, [], length, IfOk, OnOk, if◌then◌else◌};
 ghost use Rattle.std.specs.Ordering.{nat_cmp};
 ghost use Rattle.std.specs.BTreeSet.{insert_key};

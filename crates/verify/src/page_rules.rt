@@ -1,3 +1,4 @@
+//! The rules on every page.
 ghost use Rattle.std.specs.Prelude.{◌≡◌};
 ghost use Rattle.delta_chain.specs.Layers.{IsInOrder};
 ghost use Rattle.mapping.specs.Finding.{common_rules, first_broken};

@@ -1,3 +1,4 @@
+//! Where a page stands in the tree: its page id and its range of keys.
 use keys::Pid;
 use std::marker::Model;
 

@@ -1,3 +1,5 @@
+//! The report on a proper tree.
+
 /// What is told of a tree in which nothing is wrong.
 #[derive(Clone, Copy, Debug, PartialEq, Eq)]
 pub struct Report {

@@ -1,3 +1,4 @@
+//! Verifies a tree, from its root down, level by level.
 ghost use Rattle.std.specs.Prelude.{◌≡◌, [], ◌∷◌, None, IfOk, IfErr};
 ghost use Rattle.mapping.specs.Finding.{finding, unmet};
 ghost use Rattle.mapping.specs.TreeInMemory.{AreAllHome, tree_of};

@@ -1,5 +1,5 @@
 //! What the command line asks for.
-use crew::Crew;
+use engine::Crew;
 use keys::Settings;
 
 /// What the command line asks for.

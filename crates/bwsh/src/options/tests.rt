@@ -2,7 +2,7 @@
 use super::options;
 use crate::tests::words_of;
 use clap::error::ErrorKind;
-use crew::Crew;
+use engine::Crew;
 use std::alloc::{AllocError, Global};
 use std::test::Fail;
 

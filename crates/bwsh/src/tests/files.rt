@@ -4,8 +4,9 @@ use crate::batch_file::{Order, parse};
 use crate::options::Options;
 use crate::session::{run, session};
 use bstr::ByteSlice;
-use crew::{Crew, NoGate};
-use engine::{Disk, FileDisk, LockFile, MemDisk, OpenFault, Step, Store, open_or_create};
+use engine::{
+    Crew, Disk, FileDisk, LockFile, MemDisk, NoGate, OpenFault, Step, Store, open_or_create,
+};
 use keys::Settings;
 use std::alloc::Global;
 use std::fs::{File, Metadata, OpenFile, OpenOptions};

@@ -12,10 +12,10 @@ ghost use Rattle.engine.specs.State.{IsSound};
 
 use crate::refusal::admit_crew;
 use crate::store::Store;
-use cleaner::clean::clean;
+use cleaner::clean;
 use cleaner::laws::a_clean_keeps_the_store;
 use crew::Crew;
-use flush_log::disk::Disk;
+use flush_log::Disk;
 use frame_codec::Format;
 use keys::Fault;
 use std::thread::Threads;

@@ -8,7 +8,7 @@ use crate::refusal::admit_crew;
 use crate::step::Step;
 use crate::store::Store;
 use crew::{Crew, NoGate};
-use flush_log::disk::Disk;
+use flush_log::Disk;
 use keys::Fault;
 use std::thread::Threads;
 

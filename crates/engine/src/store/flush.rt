@@ -20,9 +20,7 @@ use crate::refusal::admit_crew;
 use crate::store::Store;
 use crew::Crew;
 use flush_log::laws::an_upgrade_is_a_flush_of_outdated_pages;
-use flush_log::slot::{LogEnds, Slot};
-use flush_log::text::{Text, images, is_all_written};
-use flush_log::{Commit, Disk};
+use flush_log::{Commit, Disk, LogEnds, Slot, Text, images, is_all_written};
 use keys::{Fault, Settings, Version};
 use mapping::Tree;
 use recovery::laws::{

@@ -14,7 +14,7 @@ use crate::laws::steps_answer_as_a_map_and_are_read_back;
 use crate::step::{Answer, Step};
 use crate::store::Store;
 use crew::{Crew, Gate};
-use flush_log::disk::Disk;
+use flush_log::Disk;
 use keys::Fault;
 use std::alloc::Global;
 use std::thread::Threads;

@@ -1,3 +1,4 @@
+//! Reads of the store by reference: a key, a range, a prefix.
 ghost use Rattle.std.specs.Prelude.{◌≡◌, Some, IsOk, IfOk};
 ghost use Rattle.std.specs.Option.{option_copied};
 ghost use Rattle.keys.specs.Bytes.{Bytes};

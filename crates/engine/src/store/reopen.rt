@@ -10,10 +10,10 @@ ghost use Rattle.engine.specs.State.{IsSound};
 use crate::refusal::admit_crew;
 use crate::store::Store;
 use crew::Crew;
-use flush_log::disk::{Disk, DiskFault};
+use flush_log::{Disk, DiskFault};
 use keys::Fault;
 use recovery::laws::what_is_read_is_a_store;
-use recovery::recover::recover;
+use recovery::recover;
 use std::alloc::Global;
 use std::thread::Threads;
 

@@ -15,8 +15,7 @@ ghost use Rattle.engine.specs.State.{IsSound};
 use crate::refusal::admit_crew;
 use crate::store::Store;
 use crew::Crew;
-use flush_log::disk::Disk;
-use flush_log::text::Text;
+use flush_log::{Disk, Text};
 use keys::{Fault, Version};
 use std::thread::Threads;
 

@@ -1,5 +1,0 @@
--- Proof for climb_parents of climb.rt.
-use Rattle.climb_plan.proofs.climb.+climb_parents.Given as goal
-
-abbrev pub decreases-climb_parents : goal.decreases-climb_parents
-decreases-climb_parents g l = l.depth

@@ -1,0 +1,70 @@
+use Rattle.std.proofs.Common.{◌≡◌, ℕ, ◌+◌, ◌-◌, refl, sym, subst, ◌∙◌, arith}
+use Rattle.std.specs.List.{length_refill}
+use Rattle.flush_log.specs.Reading.{read_earlier}
+use Rattle.flush_log.specs.Segments.{last_segment}
+use Rattle.recovery.specs.Gathered.{IsSoFar}
+use Rattle.recovery.proofs.ReadBytes.{kept_self, same_self, kept_then, same_then}
+use Rattle.recovery.proofs.ReadLog.{none-read, round-more, is_last}
+use Rattle.recovery.proofs.log_reading.read_earlier.Goals as goal
+
+pub loop-first-init : goal.loop-first-init
+loop-first-init g c =
+    let format = c.args.format.now in
+    let s = format.settings in
+    let t = c.args.ends.now in
+    let start = g.D.Disk.view c.args.disk.now in
+    let last = (is_last s t c.requires.checked c.requires.ends).from in
+    record {
+      from = omega arith;
+      upto = omega (arith, last);
+      buffer = refl;
+      kept = kept_self start;
+      same = λ honest. same_self start;
+      counted = refl;
+      read = λ w file is none. (file, none-read (IsSoFar w c.args.so_far.now.gathering c.args.so_far.now.fault) start format t.head (t.head - t.head) file (omega arith) is none);
+    }
+
+pub loop-first-preserved : goal.loop-first-preserved
+loop-first-preserved g c =
+    let disk = g.D.Disk in
+    let start = disk.view c.args.disk.now in
+    let old = disk.view c.loop-first.disk in
+    let new = disk.view c.read_whole.new.disk in
+    let format = c.args.format.now in
+    let s = format.settings in
+    let t = c.args.ends.now in
+    let n = c.loop-first.first in
+    let count = c.min-count.result in
+    let so_far = c.loop-first.invariant in
+    let last = c.last_segment-last.ensures in
+    let less = c.loop-first-test.true in
+    let few = c.min-count.ensures in
+    let from = so_far.from in
+    let free = (is_last s t c.requires.checked c.requires.ends).free in
+    record {
+      from = omega (arith, from);
+      upto = omega (arith, last, less, few);
+      buffer = sym (length_refill c.loop-first.buffer.len c.loop-first.buffer.items _ c.loop-first.buffer.ok.0) ∙ c.loop-first.buffer.ok.0 ∙ so_far.buffer;
+      kept = kept_then start old new so_far.kept c.read_whole.ensures.kept;
+      same = λ honest. same_then start old new (so_far.same honest) (c.read_whole.ensures.same (so_far.kept.honest ∙ honest));
+      counted = c.in_ok-segments.ensures.counted ∙ so_far.counted;
+      read = λ w file is none.
+          let (now, upto) = so_far.read w file is none in
+          let (then, bytes, front, told) = c.in_ok-segments.ensures.read now t.head upto.bytes from (omega (arith, free, few, less, last, from)) in (
+            then,
+            round-more (IsSoFar w c.loop-first.so_far.gathering c.loop-first.so_far.fault) (IsSoFar w c.take.new.self.gathering c.take.new.self.fault) old new format t.head (n - t.head) (n + count - t.head) c.in_ok-segments.segments.items file now then
+                upto bytes front told (c.in_ok-take.ensures.ok w),
+          );
+    }
+
+pub returns-clause-read : goal.returns-clause-read
+returns-clause-read g c w file is none =
+    let format = c.args.format.now in
+    let s = format.settings in
+    let t = c.args.ends.now in
+    let last = c.last_segment-last.ensures in
+    let upto = c.loop-first.invariant.upto in
+    let over = c.loop-first-test.false in
+    let all : c.loop-first.first - t.head ≡ last_segment s t.tail - t.head = omega (arith, last, upto, over) in
+    let (now, read) = c.loop-first.invariant.read w file is none in
+    (now, read.bytes, read.front, subst (λ (k : ℕ). IsSoFar w c.loop-first.so_far.gathering c.loop-first.so_far.fault (read_earlier format now t.head k)) all read.found)

@@ -1,0 +1,102 @@
+use Rattle.std.proofs.Common.{◌-◌, ◌∙◌}
+use Rattle.flush_log.specs.Reading.{read_earlier, log_between}
+use Rattle.flush_log.specs.Segments.{last_segment}
+use Rattle.recovery.specs.Gathered.{IsSoFar}
+use Rattle.recovery.specs.Recovered.{IsLate}
+use Rattle.recovery.proofs.ReadBytes.{IsUncounted, kept_then, same_on, late_since, err_on, not_ok, counted_by, uncounted_by, late_by_memory}
+use Rattle.recovery.proofs.ReadLog.{Told, last-taken}
+use Rattle.recovery.proofs.log_reading.read_segments.Goals as goal
+
+-- the segments in front of the last one were not read
+pub returns-in_err-read_earlier-clause-read : goal.returns-in_err-read_earlier-clause-read
+returns-in_err-read_earlier-clause-read g c w file is none =
+    let (now, bytes, front, told) = c.in_err-read_earlier.ensures.read w file is none in (
+      now,
+      bytes,
+      front,
+      not_ok c.from_residual.result _ c.in_err-read_earlier.field-0.0 c.from_residual.ensures.1,
+    )
+
+pub returns-in_err-read_earlier-clause-err : goal.returns-in_err-read_earlier-clause-err
+returns-in_err-read_earlier-clause-err g c =
+    let failed = g.D.Disk.failed in
+    err_on c.from_residual.result (IsLate (failed c.args.disk.now) (failed c.read_earlier.new.disk)) c.in_err-read_earlier.field-0.0
+    c.from_residual.ensures.1 c.in_err-read_earlier.ensures.err
+
+pub returns-in_err-read_earlier-clause-counted : goal.returns-in_err-read_earlier-clause-counted
+returns-in_err-read_earlier-clause-counted g c = not_ok c.from_residual.result _ c.in_err-read_earlier.field-0.0 c.from_residual.ensures.1
+
+pub returns-in_err-read_earlier-clause-uncounted : goal.returns-in_err-read_earlier-clause-uncounted
+returns-in_err-read_earlier-clause-uncounted g c =
+    let failed = g.D.Disk.failed in
+    err_on c.from_residual.result (IsUncounted (failed c.args.disk.now) (failed c.read_earlier.new.disk)) c.in_err-read_earlier.field-0.0
+    c.from_residual.ensures.1 c.in_err-read_earlier.ensures.uncounted
+
+-- the last one was not
+pub returns-in_err-segments-clause-read : goal.returns-in_err-segments-clause-read
+returns-in_err-segments-clause-read g c w file is none =
+    let (now, bytes, front, told) = c.in_ok-read_earlier.ensures.read w file is none in
+    let (then, got, stays, rest) = c.in_err-segments.ensures.read now bytes in (
+      then,
+      got,
+      stays ∙ front,
+      not_ok c.from_residual-in_err-segments.result _ c.in_err-segments.field-0.0 c.from_residual-in_err-segments.ensures.1,
+    )
+
+pub returns-in_err-segments-clause-err : goal.returns-in_err-segments-clause-err
+returns-in_err-segments-clause-err g c =
+    let failed = g.D.Disk.failed in
+    err_on c.from_residual-in_err-segments.result (IsLate (failed c.args.disk.now) (failed c.read_last.new.disk)) c.in_err-segments.field-0.0 c.from_residual-in_err-segments.ensures.1
+    (late_since _ _ _ _ c.in_ok-read_earlier.ensures.counted c.in_err-segments.ensures.err)
+
+pub returns-in_err-segments-clause-kept : goal.returns-in_err-segments-clause-kept
+returns-in_err-segments-clause-kept g c =
+    let view = g.D.Disk.view in
+    kept_then (view c.args.disk.now) (view c.read_earlier.new.disk) (view c.read_last.new.disk) c.read_earlier.ensures.kept c.read_last.ensures.kept
+
+pub returns-in_err-segments-clause-same : goal.returns-in_err-segments-clause-same
+returns-in_err-segments-clause-same g c =
+    let view = g.D.Disk.view in
+    same_on (view c.args.disk.now) (view c.read_earlier.new.disk) (view c.read_last.new.disk) c.read_earlier.ensures.kept c.read_earlier.ensures.same c.read_last.ensures.same
+
+pub returns-in_err-segments-clause-counted : goal.returns-in_err-segments-clause-counted
+returns-in_err-segments-clause-counted g c = not_ok c.from_residual-in_err-segments.result _ c.in_err-segments.field-0.0 c.from_residual-in_err-segments.ensures.1
+
+pub returns-in_err-segments-clause-uncounted : goal.returns-in_err-segments-clause-uncounted
+returns-in_err-segments-clause-uncounted g c =
+    let failed = g.D.Disk.failed in
+    err_on c.from_residual-in_err-segments.result (IsUncounted (failed c.args.disk.now) (failed c.read_last.new.disk)) c.in_err-segments.field-0.0 c.from_residual-in_err-segments.ensures.1
+    (λ other. c.in_err-segments.ensures.uncounted other ∙ c.in_ok-read_earlier.ensures.counted)
+
+-- all were read
+pub returns-clause-read : goal.returns-clause-read
+returns-clause-read g c w file is none =
+    let format = c.args.format.now in
+    let t = c.args.ends.now in
+    let (now, bytes, front, told) = c.in_ok-read_earlier.ensures.read w file is none in
+    let (then, got, stays, all) = c.in_ok-segments.ensures.read now bytes in
+    let earlier : Told = read_earlier format now t.head (last_segment format.settings t.tail - t.head) in
+    (then, got, stays ∙ front, last-taken c.take.result (IsSoFar w c.take.new.self.gathering c.take.new.self.fault) _ (log_between format then t.head t.tail) all (c.take.ensures.ok w earlier told))
+
+pub returns-clause-err : goal.returns-clause-err
+returns-clause-err g c = let failed = g.D.Disk.failed in late_by_memory c.take.result (failed c.args.disk.now) (failed c.read_last.new.disk) c.take.ensures.err
+
+pub returns-clause-kept : goal.returns-clause-kept
+returns-clause-kept g c =
+    let view = g.D.Disk.view in
+    kept_then (view c.args.disk.now) (view c.read_earlier.new.disk) (view c.read_last.new.disk) c.read_earlier.ensures.kept c.read_last.ensures.kept
+
+pub returns-clause-same : goal.returns-clause-same
+returns-clause-same g c =
+    let view = g.D.Disk.view in
+    same_on (view c.args.disk.now) (view c.read_earlier.new.disk) (view c.read_last.new.disk) c.read_earlier.ensures.kept c.read_earlier.ensures.same c.read_last.ensures.same
+
+pub returns-clause-counted : goal.returns-clause-counted
+returns-clause-counted g c =
+    let failed = g.D.Disk.failed in
+    counted_by c.take.result (failed c.args.disk.now) (failed c.read_last.new.disk) (c.in_ok-segments.ensures.counted ∙ c.in_ok-read_earlier.ensures.counted)
+
+pub returns-clause-uncounted : goal.returns-clause-uncounted
+returns-clause-uncounted g c =
+    let failed = g.D.Disk.failed in
+    uncounted_by c.take.result (failed c.args.disk.now) (failed c.read_last.new.disk) (c.in_ok-segments.ensures.counted ∙ c.in_ok-read_earlier.ensures.counted)

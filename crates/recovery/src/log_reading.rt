@@ -1,0 +1,231 @@
+//! The reading of a log: its segments, from the head to the tail, are read, some at a time, and their frames are gathered by page.
+ghost use Rattle.std.specs.Prelude.{◌≡◌, ◌≢◌, ◌⊎◌, ℕ, ◌+◌, ◌-◌, ◌*◌, ◌^◌, ◌<◌, ◌≤◌, [], IsTrue, List, map, length, take, None, Ok, Err, MatchResult, IfOk, IfErr, OnOk};
+ghost use Rattle.std.specs.List.{All};
+ghost use Rattle.keys.specs.Bytes.{Bytes};
+ghost use Rattle.keys.specs.Limits.{first_bad_field};
+ghost use Rattle.keys.specs.declared.fault.Fault.TheVariants.{Device};
+ghost use Rattle.flush_log.specs.Disk.{Kept, Same};
+ghost use Rattle.flush_log.specs.Ends.{AreEnds};
+ghost use Rattle.flush_log.specs.Reading.{Found, read_earlier as earlier_segments, log_between};
+ghost use Rattle.flush_log.specs.Segments.{segments_begin, disk_size, last_segment, bytes_in_use};
+ghost use Rattle.recovery.specs.Gathered.{AreGathered, IsSoFar};
+ghost use Rattle.recovery.specs.Recovered.{IsReadOf, IsLate};
+ghost use Rattle.recovery.specs.Scan.{held_segment, scanned_behind};
+ghost use Rattle.recovery.specs.declared.gather.Wanted as declared;
+
+use crate::gather::{Gathering, Wanted};
+use crate::log_so_far::LogSoFar;
+use crate::read_bytes::read;
+use crate::scan_segment::{End, Segment};
+use crew::Crew;
+use flush_log::{Disk, LogEnds, last_segment, place_of_segment};
+use frame_codec::Format;
+use keys::Fault;
+use std::alloc::Global;
+use std::thread::Threads;
+
+// How many bytes are read before a crew gets them: whole segments, of which the largest is a quarter of it. It isn't the crew's to
+// say, so that a reading takes the same memory and makes the same calls of the disk for every crew.
+const BYTES_AT_ONCE: u64 = 4_194_304;
+
+// How many bytes of the last segment are in use.
+fn bytes_in_use(format: &Format, ends: &LogEnds) -> usize
+    requires checked { first_bad_field format.now.settings ≡ None }
+    requires ends { AreEnds format.now.settings ends.now }
+    ensures same { result ≡ bytes_in_use format.now.settings ends.now.tail }
+    ensures within { result ≤ format.now.settings.seg_size }
+{
+    let last = last_segment(&format.settings, ends.tail);
+    (ends.tail - last * u64::from(format.settings.seg_size)) as usize
+}
+
+// How many segments are read before a crew gets them: as many as may be, and no more than stand in front of the last one, if any do.
+fn segments_at_once(format: &Format, ends: &LogEnds) -> usize
+    requires checked { first_bad_field format.now.settings ≡ None }
+    requires ends { AreEnds format.now.settings ends.now }
+    ensures some { 0 < result }
+    ensures bounded { result * format.now.settings.seg_size ≤ 4194304 }
+{
+    let earlier = last_segment(&format.settings, ends.tail) - ends.head;
+    let most = BYTES_AT_ONCE / u64::from(format.settings.seg_size);
+    most.min(earlier.max(1)) as usize
+}
+
+// Reads so many segments from the first on, behind each of which is another. The buffer has room for just these.
+fn read_whole<'b, D: Disk>(
+    alloc: Global,
+    disk: &mut D,
+    format: &Format,
+    first: u64,
+    count: usize,
+    buf: &'b mut [u8],
+) -> Result<Vec<Segment<'b>>, Fault>
+    requires checked { first_bad_field format.now.settings ≡ None }
+    requires within { disk_size format.now.settings ≤ (D.view disk.old).size }
+    requires numbers { first + count < 2 ^ 64 }
+    requires whole { length buf.old ≡ count * format.now.settings.seg_size }
+    ensures read { (file : Bytes) (head : ℕ) → IsReadOf (D.view disk.old) file → head ≤ first → first + count ≤ head + format.now.settings.segments →
+        (now : Bytes) × IsReadOf (D.view disk.new) now × (take segments_begin now ≡ take segments_begin file) × IfOk result (λ segments.
+        scanned_behind format.now (earlier_segments format.now file head (first - head)) (map held_segment segments.items)
+        ≡ earlier_segments format.now now head (first + count - head)) }
+    ensures short { IfOk result (λ segments. All (λ g. length (held_segment g).bytes < 2 ^ 32) segments.items) }
+    ensures err { IfErr result (IsLate (D.failed disk.old) (D.failed disk.new)) }
+    ensures kept { Kept (D.view disk.old) (D.view disk.new) }
+    ensures same { IsTrue (D.view disk.old).is_honest → Same (D.view disk.old) (D.view disk.new) }
+    ensures counted { OnOk result (D.failed disk.new ≡ D.failed disk.old) }
+    ensures uncounted { IfErr result (λ fault. fault ≢ Device → D.failed disk.new ≡ D.failed disk.old) }
+{
+    let mut segments = Vec::with_capacity(alloc, count)?;
+    let mut rest = buf;
+    for number in first..first + count as u64 {
+        let (bytes, behind) = rest.split_at_mut(format.settings.seg_size as usize);
+        read(disk, place_of_segment(&format.settings, number), bytes)?;
+        segments.push_reserved(Segment {
+            number,
+            end: End::Padding,
+            bytes,
+        });
+        rest = behind;
+    }
+    Ok(segments)
+}
+
+// Reads what is in use of the last segment. The buffer has room for a segment.
+fn read_last<'b, D: Disk>(
+    alloc: Global,
+    disk: &mut D,
+    format: &Format,
+    ends: &LogEnds,
+    buf: &'b mut [u8],
+) -> Result<Vec<Segment<'b>>, Fault>
+    requires checked { first_bad_field format.now.settings ≡ None }
+    requires within { disk_size format.now.settings ≤ (D.view disk.old).size }
+    requires ends { AreEnds format.now.settings ends.now }
+    requires room { format.now.settings.seg_size ≤ length buf.old }
+    ensures read { (file : Bytes) → IsReadOf (D.view disk.old) file →
+        (now : Bytes) × IsReadOf (D.view disk.new) now × (take segments_begin now ≡ take segments_begin file) × IfOk result (λ segments.
+        scanned_behind format.now (earlier_segments format.now file ends.now.head (last_segment format.now.settings ends.now.tail - ends.now.head))
+        (map held_segment segments.items) ≡ log_between format.now now ends.now.head ends.now.tail) }
+    ensures short { IfOk result (λ segments. All (λ g. length (held_segment g).bytes < 2 ^ 32) segments.items) }
+    ensures err { IfErr result (IsLate (D.failed disk.old) (D.failed disk.new)) }
+    ensures kept { Kept (D.view disk.old) (D.view disk.new) }
+    ensures same { IsTrue (D.view disk.old).is_honest → Same (D.view disk.old) (D.view disk.new) }
+    ensures counted { OnOk result (D.failed disk.new ≡ D.failed disk.old) }
+    ensures uncounted { IfErr result (λ fault. fault ≢ Device → D.failed disk.new ≡ D.failed disk.old) }
+{
+    let number = last_segment(&format.settings, ends.tail);
+    let bytes = &mut buf[..bytes_in_use(format, ends)];
+    let mut segments = Vec::with_capacity(alloc, 1)?;
+    read(disk, place_of_segment(&format.settings, number), bytes)?;
+    segments.push_reserved(Segment {
+        number,
+        end: End::Tail,
+        bytes,
+    });
+    Ok(segments)
+}
+
+// Reads all segments in front of the last one, at a time as many as the buffer has room for.
+fn read_earlier<D: Disk>(
+    rt: &(impl Threads + Sync),
+    crew: Crew,
+    disk: &mut D,
+    format: &Format,
+    ends: &LogEnds,
+    buffer: &mut Vec<u8>,
+    so_far: &mut LogSoFar,
+) -> Result<(), Fault>
+    requires checked { first_bad_field format.now.settings ≡ None }
+    requires within { disk_size format.now.settings ≤ (D.view disk.old).size }
+    requires ends { AreEnds format.now.settings ends.now }
+    requires room { format.now.settings.seg_size ≤ length buffer.old.items }
+    ensures read { (w : declared.Wanted) (file : Bytes) → IsReadOf (D.view disk.old) file → IsSoFar w so_far.old.gathering so_far.old.fault (Ok []) →
+        (now : Bytes) × IsReadOf (D.view disk.new) now × (take segments_begin now ≡ take segments_begin file)
+        × OnOk result (IsSoFar w so_far.new.gathering so_far.new.fault (earlier_segments format.now now ends.now.head (last_segment format.now.settings ends.now.tail - ends.now.head))) }
+    ensures room { length buffer.new.items ≡ length buffer.old.items }
+    ensures err { IfErr result (IsLate (D.failed disk.old) (D.failed disk.new)) }
+    ensures kept { Kept (D.view disk.old) (D.view disk.new) }
+    ensures same { IsTrue (D.view disk.old).is_honest → Same (D.view disk.old) (D.view disk.new) }
+    ensures counted { OnOk result (D.failed disk.new ≡ D.failed disk.old) }
+    ensures uncounted { IfErr result (λ fault. fault ≢ Device → D.failed disk.new ≡ D.failed disk.old) }
+{
+    let alloc = *buffer.allocator();
+    let size = format.settings.seg_size as usize;
+    let at_once = (buffer.len() / size) as u64;
+    let last = last_segment(&format.settings, ends.tail);
+    let mut first = ends.head;
+    while first < last {
+        let count = at_once.min(last - first) as usize;
+        let buf = &mut buffer[..count * size];
+        let segments = read_whole(alloc, disk, format, first, count, buf)?;
+        so_far.take(rt, crew, format, segments)?;
+        first += count as u64;
+    }
+    Ok(())
+}
+
+// Reads the log as `read_log` does. The buffer has room for a segment at least.
+fn read_segments<D: Disk>(
+    rt: &(impl Threads + Sync),
+    crew: Crew,
+    disk: &mut D,
+    format: &Format,
+    ends: &LogEnds,
+    buffer: &mut Vec<u8>,
+    so_far: &mut LogSoFar,
+) -> Result<(), Fault>
+    requires checked { first_bad_field format.now.settings ≡ None }
+    requires within { disk_size format.now.settings ≤ (D.view disk.old).size }
+    requires ends { AreEnds format.now.settings ends.now }
+    requires room { format.now.settings.seg_size ≤ length buffer.old.items }
+    ensures read { (w : declared.Wanted) (file : Bytes) → IsReadOf (D.view disk.old) file → IsSoFar w so_far.old.gathering so_far.old.fault (Ok []) →
+        (now : Bytes) × IsReadOf (D.view disk.new) now × (take segments_begin now ≡ take segments_begin file)
+        × OnOk result (IsSoFar w so_far.new.gathering so_far.new.fault (log_between format.now now ends.now.head ends.now.tail)) }
+    ensures err { IfErr result (IsLate (D.failed disk.old) (D.failed disk.new)) }
+    ensures kept { Kept (D.view disk.old) (D.view disk.new) }
+    ensures same { IsTrue (D.view disk.old).is_honest → Same (D.view disk.old) (D.view disk.new) }
+    ensures counted { OnOk result (D.failed disk.new ≡ D.failed disk.old) }
+    ensures uncounted { IfErr result (λ fault. fault ≢ Device → D.failed disk.new ≡ D.failed disk.old) }
+{
+    let alloc = *buffer.allocator();
+    read_earlier(rt, crew, disk, format, ends, buffer, so_far)?;
+    let segments = read_last(alloc, disk, format, ends, buffer)?;
+    so_far.take(rt, crew, format, segments)
+}
+
+/// Reads the log between its ends, and gathers its frames by page: of each page what they tell, and the bytes of those
+/// that are wanted. The crew scans the segments.
+///
+/// The fault at the least position of the log counts, `Fault::BadSegment` or `Fault::BadFrame`. Besides there is `Fault::NoMemory`,
+/// and `Fault::Device` where a read failed: also behind a segment that has a fault, since all are read, and then no longer
+/// scanned. It takes the memory of some segments and of where their frames stand, at most 4 MiB of segments whatever the crew, and what
+/// is kept of the pages. No byte of the disk changes.
+pub fn read_log<D: Disk>(
+    rt: &(impl Threads + Sync),
+    crew: Crew,
+    alloc: Global,
+    disk: &mut D,
+    format: &Format,
+    ends: &LogEnds,
+    wanted: Wanted,
+) -> Result<Gathering, Fault>
+    requires checked { first_bad_field format.now.settings ≡ None }
+    requires within { disk_size format.now.settings ≤ (D.view disk.old).size }
+    requires ends { AreEnds format.now.settings ends.now }
+    // Of bytes that were read, which are those from before in front of the segments, and on an honest disk what a read gives.
+    ensures read { (file : Bytes) → IsReadOf (D.view disk.old) file →
+        (now : Bytes) × IsReadOf (D.view disk.new) now × (take segments_begin now ≡ take segments_begin file) × MatchResult result
+        (λ g. (found : List Found) × (log_between format.now now ends.now.head ends.now.tail ≡ Ok found) × AreGathered format.now wanted g found)
+        (λ fault. (log_between format.now now ends.now.head ends.now.tail ≡ Err fault) ⊎ IsLate (D.failed disk.old) (D.failed disk.new) fault) }
+    ensures kept { Kept (D.view disk.old) (D.view disk.new) }
+    ensures same { IsTrue (D.view disk.old).is_honest → Same (D.view disk.old) (D.view disk.new) }
+    ensures counted { OnOk result (D.failed disk.new ≡ D.failed disk.old) }
+    ensures uncounted { IfErr result (λ fault. fault ≢ Device → D.failed disk.new ≡ D.failed disk.old) }
+{
+    let mut so_far = LogSoFar::new(alloc, wanted);
+    let at_once = segments_at_once(format, ends);
+    let mut buffer = Vec::new(alloc);
+    buffer.resize(at_once * format.settings.seg_size as usize, 0)?;
+    read_segments(rt, crew, disk, format, ends, &mut buffer, &mut so_far)?;
+    so_far.into_gathering()
+}
