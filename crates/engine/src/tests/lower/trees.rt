@@ -411,7 +411,7 @@ static ROWS: [Row; 16] = [
     },
 ];
 
-// A run of these words.
+// A run of these words, which has no change in an empty word.
 fn run_of(alloc: Global, words: &str) -> Result<Run<Value<Global>, Global>, AllocError> {
     let mut run = Run::with_capacity(alloc, 4)?;
     for word in words.split(' ') {
@@ -420,7 +420,7 @@ fn run_of(alloc: Global, words: &str) -> Result<Run<Value<Global>, Global>, Allo
             None => (word, Some(Value::from_bytes(alloc, b"1")?)),
         };
         let key = Key::from_bytes(alloc, name.as_bytes())?;
-        if run.push(key, change).is_err() {
+        if !word.is_empty() && run.push(key, change).is_err() {
             return Err(AllocError);
         }
     }
