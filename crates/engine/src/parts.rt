@@ -1,7 +1,9 @@
-//! What the crates below give and nothing above them asks for yet, once each, and the texts of faults.
-use delta_chain::{Base, Chain, PushError, Run};
+//! What the crates below give and no other test shows, once each, and the texts of faults.
+use delta_chain::{Base, BaseBuilder, Chain, EntryBounds, PushError, Run};
 use keys::{Fault, Field, Finding, Key, Pid, fingerprint_of};
 use mapping::{Logged, Table};
+use page_search::{Probes, above, floor, lower};
+use recovery::scan_segment::{End, is_end};
 use std::alloc::{AllocError, Global};
 use std::process::Abort;
 use std::test::Fail;
@@ -88,7 +90,8 @@ fn are_places(
     run.len() == len && run.place(b"a") == of_a && run.place(b"b") == of_b
 }
 
-// Whether a run has what was set, without a change, with one, which takes no list, and with two, set in the wrong order.
+// Whether a run has what was set, without a change, with one, which takes no list, and with two, set in the wrong order; and no more, where
+// its last key is put behind the others again.
 fn changes_stay(alloc: Global) -> Result<bool, AllocError> {
     let a = Key::from_bytes(alloc, b"a")?;
     let b = Key::from_bytes(alloc, b"b")?;
@@ -97,7 +100,9 @@ fn changes_stay(alloc: Global) -> Result<bool, AllocError> {
     run.set(b, Some(Pid(2)))?;
     is_right &= are_places(&run, 1, None, Some(0));
     run.set(a, None)?;
-    Ok(is_right && are_places(&run, 2, Some(0), Some(1)))
+    let again = Key::from_bytes(alloc, b"b")?;
+    let is_refused = matches!(run.push(again, None), Err(PushError::OutOfOrder));
+    Ok(is_right && is_refused && are_places(&run, 2, Some(0), Some(1)))
 }
 
 #[test]
@@ -113,6 +118,17 @@ const OTHER: &[u8] = b"ag";
 
 const APART: &[u8] = b"z";
 
+// Puts the run in front of the page. Where memory is refused the page is as it was and the run comes back, so that it goes there after all.
+fn put_in_front(chain: &mut Chain<Pid, Global>, run: Run<Pid, Global>) -> Result<(), AllocError> {
+    let Err((_refused, run)) = chain.prepend(run) else {
+        return Ok(());
+    };
+    match chain.prepend(run) {
+        Ok(()) => Ok(()),
+        Err((refused, _run)) => Err(refused),
+    }
+}
+
 // A page of so many runs, which name the two keys in turn, each with the number of its run, the oldest first.
 fn page_of_runs(alloc: Global, count: u64) -> Result<Chain<Pid, Global>, PushError> {
     let mut chain = Chain::of_base(Base::empty(alloc));
@@ -121,9 +137,7 @@ fn page_of_runs(alloc: Global, count: u64) -> Result<Chain<Pid, Global>, PushErr
         let key = Key::from_bytes(alloc, bytes)?;
         let mut run = Run::with_capacity(alloc, 1)?;
         run.push(key, Some(Pid(number)))?;
-        if chain.prepend(run).is_err() {
-            return Err(PushError::NoMemory);
-        }
+        put_in_front(&mut chain, run)?;
     }
     Ok(chain)
 }
@@ -141,16 +155,18 @@ fn looked_up(chain: &Chain<Pid, Global>, key: &[u8]) -> Option<u64> {
     None
 }
 
-// Whether each of the two keys has the number of its newest run, and no run is looked at for the third. With 255 runs and more, a byte
-// has no number for the newest.
+// Whether there are so many runs, each of the two keys has the number of its newest one, and no run is looked at for the third. With 255
+// runs and more, a byte has no number for the newest.
 fn are_looked_up(alloc: Global, count: u64) -> Result<bool, PushError> {
     let chain = page_of_runs(alloc, count)?;
     let one = (0..count).rev().find(|number| number % 2 == 0);
     let other = (0..count).rev().find(|number| number % 2 == 1);
     let is_apart = chain.lent_for(APART).newest().is_none();
-    Ok(looked_up(&chain, ONE) == one && looked_up(&chain, OTHER) == other && is_apart)
+    let are_found = looked_up(&chain, ONE) == one && looked_up(&chain, OTHER) == other;
+    Ok(are_found && is_apart && chain.depth() == count)
 }
 
+// To be run with each allocation refused in turn too (`bench/README.md`).
 #[test]
 fn a_key_is_looked_for_in_the_runs_that_may_name_it(rt: HostRuntime) -> Result<(), Fail> {
     assert_eq!(rt; fingerprint_of(ONE), fingerprint_of(OTHER));
@@ -160,6 +176,84 @@ fn a_key_is_looked_for_in_the_runs_that_may_name_it(rt: HostRuntime) -> Result<(
         assert!(rt; are_found, "{count} runs");
     }
     Ok(())
+}
+
+// How many entries a page has at least, by what it knows: it had one, in its only run, and that run is taken off.
+fn fewest_without_a_run(alloc: Global) -> Result<usize, PushError> {
+    let mut chain = page_of_runs(alloc, 1)?;
+    let entries = chain.entries(alloc)?;
+    let count = entries.len();
+    chain.bound(EntryBounds {
+        fewest: count,
+        most: count,
+    });
+    let _run = chain.pop();
+    Ok(chain.fewest_entries())
+}
+
+#[test]
+fn a_page_without_its_run_may_be_empty(rt: HostRuntime) -> Result<(), Fail> {
+    let fewest = fewest_without_a_run(rt.alloc())?;
+    assert_eq!(rt; fewest, 0);
+    Ok(())
+}
+
+// A page whose base has b, d and f with the pids 1, 2 and 3, under a run that puts c with 4 and deletes d.
+fn page_to_search(alloc: Global) -> Result<Chain<Pid, Global>, PushError> {
+    let mut base = BaseBuilder::with_capacity(alloc, 3, 3)?;
+    base.push(b"b", Pid(1))?;
+    base.push(b"d", Pid(2))?;
+    base.push(b"f", Pid(3))?;
+    let mut run = Run::with_capacity(alloc, 2)?;
+    let c = Key::from_bytes(alloc, b"c")?;
+    let d = Key::from_bytes(alloc, b"d")?;
+    run.push(c, Some(Pid(4)))?;
+    run.push(d, None)?;
+    let mut chain = Chain::of_base(base.finish());
+    put_in_front(&mut chain, run)?;
+    Ok(chain)
+}
+
+// A key, the pid of the page's last entry up to it, that of the first one above it, and how many keys of the base are below it.
+type Searched = (&'static [u8], Option<u64>, Option<u64>, usize);
+
+static SEARCHED: [Searched; 7] = [
+    (b"a", None, Some(1), 0),
+    (b"b", Some(1), Some(4), 0),
+    (b"c", Some(4), Some(3), 1),
+    (b"d", Some(4), Some(3), 1),
+    (b"e", Some(4), Some(3), 2),
+    (b"f", Some(3), None, 2),
+    (b"g", Some(3), None, 3),
+];
+
+fn pid_of(found: Option<(&[u8], &Pid)>) -> Option<u64> {
+    let (_, pid) = found?;
+    Some(pid.0)
+}
+
+// Whether the searches find this. The base has three keys, so two comparisons are enough there.
+fn is_found(chain: &Chain<Pid, Global>, wanted: &Searched) -> bool {
+    let mut probes = Probes::new();
+    let below = lower(chain.base(), wanted.0, &mut probes);
+    let is_by_halves = probes.count() <= 2;
+    let up_to = pid_of(floor(chain, wanted.0, &mut probes));
+    let next = pid_of(above(chain, wanted.0, &mut probes));
+    is_by_halves && up_to == wanted.1 && next == wanted.2 && below == wanted.3
+}
+
+#[test]
+fn entries_next_to_a_key_are_found_by_halves(rt: HostRuntime) -> Result<(), Fail> {
+    let chain = page_to_search(rt.alloc())?;
+    for wanted in &SEARCHED {
+        assert!(rt; is_found(&chain, wanted), "{}", wanted.0[0]);
+    }
+    Ok(())
+}
+
+#[test]
+fn zeros_before_the_tail_are_not_the_end(rt: HostRuntime) {
+    assert!(rt; !is_end(End::Tail, &[0]));
 }
 
 // Makes room for the pid and puts the page there, where the pid has no place.
