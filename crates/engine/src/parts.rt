@@ -118,7 +118,7 @@ const OTHER: &[u8] = b"ag";
 
 const APART: &[u8] = b"z";
 
-// Puts the run in front of the page. Where memory is refused the page is as it was and the run comes back, so that it goes there after all.
+// Puts the run in front of the page. Where memory is refused the page stays as it was and the run comes back, so it is put there again.
 fn put_in_front(chain: &mut Chain<Pid, Global>, run: Run<Pid, Global>) -> Result<(), AllocError> {
     let Err((_refused, run)) = chain.prepend(run) else {
         return Ok(());
@@ -155,7 +155,7 @@ fn looked_up(chain: &Chain<Pid, Global>, key: &[u8]) -> Option<u64> {
     None
 }
 
-// Whether there are so many runs, each of the two keys has the number of its newest one, and no run is looked at for the third. With 255
+// Whether the runs are all there, each of the two keys has the number of its newest one, and no run is looked at for the third. With 255
 // runs and more, a byte has no number for the newest.
 fn are_looked_up(alloc: Global, count: u64) -> Result<bool, PushError> {
     let chain = page_of_runs(alloc, count)?;
@@ -178,7 +178,7 @@ fn a_key_is_looked_for_in_the_runs_that_may_name_it(rt: HostRuntime) -> Result<(
     Ok(())
 }
 
-// How many entries a page has at least, by what it knows: it had one, in its only run, and that run is taken off.
+// The fewest entries that a page knows to have: its one entry was counted, and then the run that has it was taken off.
 fn fewest_without_a_run(alloc: Global) -> Result<usize, PushError> {
     let mut chain = page_of_runs(alloc, 1)?;
     let entries = chain.entries(alloc)?;
