@@ -37,7 +37,7 @@ const PAGE_FREED: [&str; 6] = [SEVENTEEN_PUTS, "flush", "-d -e -f", "d=1", "-d",
 
 const UPGRADED: [&str; 3] = [FIVE_PUTS, "flush", "upgrade"];
 
-static DAMAGED_ROWS: [DamagedRow; 56] = [
+static DAMAGED_ROWS: [DamagedRow; 57] = [
     DamagedRow {
         name: "log 20",
         steps: &PUT_AGAIN,
@@ -66,6 +66,12 @@ static DAMAGED_ROWS: [DamagedRow; 56] = [
         name: "log 21, a tail",
         steps: &ONE_RUN,
         damage: Damage::Set(&[(159, 51)]),
+        answer: "15 BadFrame 0 33",
+    },
+    DamagedRow {
+        name: "log 21, zeros before the tail",
+        steps: &ONE_RUN,
+        damage: Damage::Set(&[(545, 0), (549, 0), (559, 0), (561, 0), (562, 0)]),
         answer: "15 BadFrame 0 33",
     },
     DamagedRow {
@@ -553,7 +559,7 @@ fn a_damaged_disk_has_one_answer(rt: HostRuntime) {
         for row in &DAMAGED_ROWS {
             outcomes.note(is_answered(&rt, *crew, rt.alloc(), row), row.name);
         }
-        outcomes.check(&rt, *crew, 56);
+        outcomes.check(&rt, *crew, 57);
     }
 }
 
