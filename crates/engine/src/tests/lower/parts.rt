@@ -64,7 +64,7 @@ fn a_page_gives_its_entries(rt: HostRuntime) -> Result<(), Fail> {
     put_in_front(&mut chain, run)?;
     let entries = chain.entries(alloc)?;
     assert!(rt; entries.len() == 1);
-    assert!(rt; entries[0].0.as_bytes() == b"b" && *entries[0].1 == Pid(2));
+    assert!(rt; entries[0].0.as_bytes() == b"b".as_slice() && entries[0].1 == Pid(2));
     Ok(())
 }
 
