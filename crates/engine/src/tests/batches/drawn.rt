@@ -43,7 +43,7 @@ pub(crate) fn next_number(state: &mut u64) -> u64 {
 
 // Draws a command. Of twenty, two are look-ups, two puts of what isn't there, one is a scan without an upper bound, one a scan with it, one a wipe, those from 4
 // up to `puts` are puts, and the others delete.
-pub(crate) fn draw(state: &mut u64, puts: u64) -> Draw {
+pub(crate) fn next_draw(state: &mut u64, puts: u64) -> Draw {
     let kind = match next_number(state) % 20 {
         0 | 1 => b'?',
         2 | 3 => b'+',
@@ -261,7 +261,7 @@ fn is_answered_alike(
     let mut letters = String::new(alloc);
     let mut batch = Vec::new(alloc);
     for _place in 0..next_number(state).checked_rem(run.most).unwrap_or(0) {
-        let draw = draw(state, puts);
+        let draw = next_draw(state, puts);
         let command = drawn_command(alloc, draw)?;
         batch.push(command)?;
         write_reply_of_map(&mut letters, map, draw)?;

@@ -2,7 +2,7 @@
 //! the last flush that was answered, or at the one that was stopped.
 use crate::store::Store;
 use crate::tests::batches::drawn::{
-    are_letters, draw, drawn_command, next_number, text_of_map, write_reply_of_map,
+    are_letters, drawn_command, next_draw, next_number, text_of_map, write_reply_of_map,
 };
 use crate::tests::harness::crews::ALONE;
 use crate::tests::harness::shown::write_rows;
@@ -100,7 +100,7 @@ fn draw_few(
 ) -> Result<Vec<Command<Global>>, AllocError> {
     let mut batch = Vec::new(alloc);
     for _place in 0..next_number(state) % 8 {
-        let mut drawn = draw(state, 10);
+        let mut drawn = next_draw(state, 10);
         drawn.key %= KEYS;
         let command = drawn_command(alloc, drawn)?;
         batch.push(command)?;

@@ -196,7 +196,7 @@ fn page_to_search(alloc: Global) -> Result<Chain<Pid, Global>, PushError> {
 // A key, the pid of the page's last entry up to it, that of the first one above it, and how many keys of the base are below it.
 type Searched = (&'static [u8], Option<u64>, Option<u64>, usize);
 
-static SEARCHED: [Searched; 7] = [
+static SEARCHES: [Searched; 7] = [
     (b"a", None, Some(1), 0),
     (b"b", Some(1), Some(4), 0),
     (b"c", Some(4), Some(3), 1),
@@ -224,7 +224,7 @@ fn is_found(chain: &Chain<Pid, Global>, wanted: &Searched) -> bool {
 #[test]
 fn entries_next_to_a_key_are_found_by_halves(rt: HostRuntime) -> Result<(), Fail> {
     let chain = page_to_search(rt.alloc())?;
-    for wanted in &SEARCHED {
+    for wanted in &SEARCHES {
         assert!(rt; is_found(&chain, wanted), "{}", wanted.0[0]);
     }
     Ok(())

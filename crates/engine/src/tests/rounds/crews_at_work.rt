@@ -1,7 +1,7 @@
 //! Batches that several work at once, as a gate shows that holds pieces; and long runs by a seed, whose answers and bytes are the same for
 //! every crew, in whatever order the pieces are drawn.
 use crate::store::Store;
-use crate::tests::batches::drawn::{draw, drawn_command, next_number};
+use crate::tests::batches::drawn::{drawn_command, next_draw, next_number};
 use crate::tests::harness::crews::ALONE;
 use crate::tests::harness::shown::write_replies;
 use crate::tests::harness::steps::play;
@@ -194,7 +194,7 @@ fn answer_drawn(
 ) -> Result<(), Fault> {
     let mut batch = Vec::new(alloc);
     for _place in 0..next_number(state) % 48 {
-        let command = drawn_command(alloc, draw(state, 12))?;
+        let command = drawn_command(alloc, next_draw(state, 12))?;
         batch.push(command)?;
     }
     let replies = store.batch(rt, crew, gate, &batch)?;
