@@ -25,11 +25,11 @@ PATIENCE = 60  # seconds that a run may take
 BUDGET = 90  # seconds that a part may take
 
 
-def build_library(folder: Path) -> Path:
-    """Builds the library that stands in front of the C library's, with the kit's compiler."""
-    made, library = folder / "refuse.o", folder / "refuse.so"
+def build_library(folder: Path, source: Path = HERE / "refuse.c") -> Path:
+    """Builds a library that stands in front of the C library's, with the kit's compiler."""
+    made, library = folder / f"{source.stem}.o", folder / f"{source.stem}.so"
     target = ["--target=x86_64-unknown-linux-gnu", f"--sysroot={TOOLS}", "--no-default-config"]
-    subprocess.run([TOOLS / "bin/clang", *target, "-O2", "-fPIC", "-c", HERE / "refuse.c", "-o", made], check=True)
+    subprocess.run([TOOLS / "bin/clang", *target, "-O2", "-fPIC", "-c", source, "-o", made], check=True)
     subprocess.run([TOOLS / "bin/ld.lld", "-shared", "-o", library, made, TOOLS / "lib/libc.so.6"], check=True)
     return library
 

@@ -273,11 +273,12 @@ def store_of_disk(disk: bytes) -> Store:
     return Store(pairs, len(pages), slot.height, slot)
 
 
+SPELLED = [bytes([byte]) if 0x21 <= byte <= 0x7E and byte != 0x25 else b"%%%02X" % byte for byte in range(256)]
+
+
 def token(text: bytes) -> bytes:
     """A key or a value as it is printed."""
-    if not text:
-        return b"%"
-    return b"".join(bytes([byte]) if 0x21 <= byte <= 0x7E and byte != 0x25 else b"%%%02X" % byte for byte in text)
+    return b"".join([SPELLED[byte] for byte in text]) or b"%"
 
 
 LOOK = b"scan % * 4294967295\nverify\n"  # asks for all pairs, and for the report
