@@ -7,6 +7,7 @@ import shutil
 import subprocess
 import sys
 import tempfile
+from concurrent.futures import ThreadPoolExecutor
 from pathlib import Path
 
 HERE = Path(__file__).resolve().parent
@@ -32,7 +33,7 @@ def add_crate(copied: Path, name: str) -> Path:
         made.parent.mkdir(parents=True, exist_ok=True)
         shutil.copy(source, made)
     with open(copied / "crates.txt", "a") as crates:
-        crates.write(f"{name}: keys mapping engine anyhow\n")
+        crates.write(f"{name}: keys mapping scan engine anyhow\n")
     return crate
 
 
@@ -62,13 +63,12 @@ def build(names: list[str], is_proved: bool) -> None:
     if shutil.which("rt") is None:
         sys.exit("There is no kit on this machine: the examples can't be built.")
     BUILT.mkdir(exist_ok=True)
-    with tempfile.TemporaryDirectory() as folder:
+    with tempfile.TemporaryDirectory() as folder, ThreadPoolExecutor(1 if is_proved else len(names)) as pool:
         copied = Path(folder)
         library.copy_repository(copied, is_proved)
-        for name in names:
-            crate = add_crate(copied, name)
-            print(f"building {name}, {'proved' if is_proved else 'unproved: a minute or two'}", file=sys.stderr, flush=True)
-            (build_proved if is_proved else library.build_unproved)(crate, BUILT / name)
+        crates = [add_crate(copied, name) for name in names]
+        print(f"building {', '.join(names)}, {'proved' if is_proved else 'unproved: a minute or two'}", file=sys.stderr, flush=True)
+        list(pool.map(build_proved if is_proved else library.build_unproved, crates, [BUILT / name for name in names]))
 
 
 def show(name: str) -> None:
