@@ -22,6 +22,7 @@ from run import HALF, HERE, LOAD, LONG, PEER, PROGRAM, Phase, Results, Running, 
 
 BIG, SMALL = "fan 64, chain 16", "defaults"
 SETTINGS = {BIG: (64, 16), SMALL: (16, 4)}  # fan and chain
+UNIT = "ns a command"  # of most rows
 RANGES = 100_000
 WORKERS = 4
 PARTS = ["speeds", "lengths", "many pairs", "ranges", "workers", "persistent"]
@@ -132,7 +133,7 @@ class Bench:
             runs = {name: times for (of, name), times in results.seconds.items() if of == phase}
             figures = {name: min(times) / phase.count * 1e9 for name, times in runs.items()}
             reached = {name: figures[PEER] / figures[name] for name in goal if PEER in figures}
-            rows.append(row(phase.name, phase.count, "ns a command", figures, reached, goal, runs))
+            rows.append(row(phase.name, phase.count, UNIT, figures, reached, goal, runs))
         return rows
 
     def memory(self, results, work):
@@ -181,7 +182,7 @@ class Bench:
             sys.exit("ranges: the programs print different sums")
         goal, figures = wanted(0.8, 0.6), {name: min(times) / RANGES * 1e9 for name, times in runs.items()}
         reached = {name: figures[PEER] / figures[name] for name in goal if PEER in figures}
-        return [row("ranges of 100 rows, by `Store::range`", RANGES, "ns a command", figures, reached, goal, runs)]
+        return [row("ranges of 100 rows, by `Store::range`", RANGES, UNIT, figures, reached, goal, runs)]
 
     def workers(self):
         """Four workers beside one, by the clock, the calls alone."""
@@ -271,15 +272,20 @@ def number(value, unit):
 
 
 def verdict(each, name):
-    """What is reached of what is wanted."""
+    """What is reached of what is wanted, in bold where that is all."""
     if name not in each["wanted"]:
         return "–"
     if name not in each["is"]:
         return "no peer"
     value, goal = each["is"][name], each["wanted"][name]
-    missed = value / goal - 1 if each["most"] else 1 - value / goal
-    ending = "reached" if missed <= 0 else f"{'over' if each['most'] else 'short'} by {max(1, round(100 * missed))} %"
-    return f"{value:.2f} of {goal}, {ending}"
+    is_reached = value <= goal if each["most"] else value >= goal
+    shown = f"{value:.2f} of {goal}"
+    return f"**{shown}**" if is_reached else shown
+
+
+def named(each):
+    """What a row is of, with its unit where that is another than most rows have."""
+    return each["name"] if each["unit"] == UNIT else f"{each['name']}, {each['unit']}"
 
 
 def cell_of(each, name):
@@ -300,15 +306,15 @@ def print_goals(figures):
     rows = []
     for each in figures["rows"]:
         cells = [cell for name in SETTINGS for cell in (cell_of(each, name), verdict(each, name))]
-        rows.append([each["name"], f"{each['commands']:,}", each["unit"], cell_of(each, PEER), *cells])
-    table(["", "commands", "", PEER, *(head for name in SETTINGS for head in (name, "is, of what is wanted"))], rows)
+        rows.append([named(each), cell_of(each, PEER), *cells])
+    table([UNIT, PEER, *(head for name in SETTINGS for head in (name, "is, of what is wanted"))], rows)
 
 
 def shown_tables(figures):
     """What is printed, by the name of its place in the README."""
     tables = {"goals": (print_goals, figures)}
     if "persistent" in figures:
-        tables["stores"] = persistent.show, figures["persistent"]
+        tables["stores"] = persistent.show_stores, figures["persistent"]
     shown = {}
     for name, (show, taken) in tables.items():
         printed = io.StringIO()
@@ -316,6 +322,11 @@ def shown_tables(figures):
             show(taken)
         shown[name] = printed.getvalue().strip()
     return shown
+
+
+def as_in_readme(line):
+    """A line of a table as all documents have them, without bars at its ends."""
+    return line.removeprefix("| ").removesuffix(" |").removeprefix("|").removesuffix("|") if line.startswith("|") else line
 
 
 def write_readme(shown):
@@ -326,6 +337,7 @@ def write_readme(shown):
         start, end = f"<!-- {name} -->\n", f"<!-- end of {name} -->"
         before, _, rest = text.partition(start)
         _, _, after = rest.partition(end)
+        tables = "\n".join(as_in_readme(line) for line in tables.splitlines())
         text = f"{before}{start}\n{tables}\n\n{end}{after}"
     path.write_text(text)
 
@@ -356,6 +368,8 @@ def main():
     figures = json.loads(chosen.figures.read_text())
     shown = shown_tables(figures)
     print("\n\n".join(shown.values()))
+    if "persistent" in figures:
+        persistent.show_beside(figures["persistent"])
     if chosen.readme:
         write_readme(shown)
     chosen.plot.write_text(plot.goals(figures, list(SETTINGS)))

@@ -332,21 +332,26 @@ def print_beside(figures):
 
 
 def print_text(figures):
-    """What belongs to the text and the start of a program, and not to its store; and batches without a flush for each."""
+    """What belongs to the text of a program, and not to its store."""
     rows = []
     for name in SETTINGS:
         for commits in BOTH:
             took = figures["stores"][name][commits.name()]
             rows.append([f"{name}, {commits.name()}", f"{took['ready']:.2f}", f"{figures['printing at most'][commits.name()]:.2f}", f"{took['load']:.2f}"])
     table(["bwsh, s", "reading the text, in no figure", "printing, at most, in the figure", "the figure"], rows)
+
+
+def show_stores(figures):
+    """The figures of each store, the start of Python, and batches without a flush for each."""
+    print(f"\n{figures['pairs']:,} pairs of 16 and 100 bytes, {figures['file system']}, the least of {figures['repeats']}")
+    print_rates(figures)
     print(f"\nPython's start, which is in SQLite's recovery: {figures[PYTHON_START]:.3f} s")
     for name in SETTINGS:
         print(f"bwsh, {name}, {SPACED.name()}: {rate(figures, name, SPACED):,.0f} pairs a second")
 
 
-def show(figures):
-    print(f"\n{figures['pairs']:,} pairs of 16 and 100 bytes, {figures['file system']}, the least of {figures['repeats']}")
-    print_rates(figures)
+def show_beside(figures):
+    """What these come to: the stores beside one another, and what is not the store's."""
     print_beside(figures)
     print_text(figures)
 
@@ -364,7 +369,8 @@ def main():
     figures = measure(chosen.program, chosen.pairs, chosen.repeats, chosen.folder)
     if chosen.figures:
         chosen.figures.write_text(json.dumps(figures, indent=1) + "\n")
-    show(figures)
+    show_stores(figures)
+    show_beside(figures)
 
 
 if __name__ == "__main__":

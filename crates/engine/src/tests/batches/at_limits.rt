@@ -1,23 +1,21 @@
 //! The longest batch, and the greatest keys, values and chains: what no clause says is that they are answered.
-use crate::store::Store;
 use crate::tests::harness::crews::ALONE;
+use crate::tests::harness::steps::play;
 use crate::tests::harness::stores::new_store;
 use crate::tests::harness::words::{S, commands};
 use crew::NoGate;
-use flush_log::MemDisk;
 use index_page::Page;
-use keys::{Command, Fault, Key, Pid, Reply, Settings, Value};
+use keys::{Command, Fault, Pid, Reply, Settings, Value};
 use mapping::Tree;
 use std::alloc::{AllocError, Global};
-use std::thread::Threads;
+use std::test::Fail;
 
-// Puts of so many keys of two bytes, from 00 00 on.
+// Puts of this many keys of two bytes, from 00 00 on.
 fn many_puts(alloc: Global, count: u32) -> Result<Vec<Command<Global>>, AllocError> {
     let mut commands = Vec::new(alloc);
     for number in 0..count {
-        let key = Key::from_bytes(alloc, &number.to_be_bytes()[2..])?;
-        let value = Value::from_bytes(alloc, b"1")?;
-        commands.push(Command::Put(key, value))?;
+        let put = Command::put(alloc, &number.to_be_bytes()[2..], b"1")?;
+        commands.push(put)?;
     }
     Ok(commands)
 }
@@ -28,19 +26,6 @@ fn entries_of(page: &Page<Global>) -> usize {
         Some(chain) if chain.settled() == 0 => chain.whole().base().len(),
         _ => 0,
     }
-}
-
-// Whether the pages of the first 16,384 ids are leaves of four entries, the first one of three.
-fn are_leaves(tree: &Tree<Global>) -> bool {
-    for pid in 0..16_384u64 {
-        let Some(page) = tree.page(Pid(pid)) else {
-            return false;
-        };
-        if page.as_leaf().is_none() || entries_of(page) != if pid == 0 { 3 } else { 4 } {
-            return false;
-        }
-    }
-    true
 }
 
 // Whether the page is an index page of four children, whose ids follow one another from this one on.
@@ -60,67 +45,42 @@ fn has_four_children(page: &Page<Global>, first: u64) -> bool {
     true
 }
 
-// Whether each page from the id 16,384 on has the next four pages as its children: so page ids rise level by level, from the leaves up to
-// the root, and on each level from left to right.
+// Whether the pages of the first 16,384 ids are leaves of four entries, the first one of three, and each page after them has the next four pages
+// as its children: so page ids rise level by level, from the leaves up to the root, and on each level from left to right.
 fn are_levels(tree: &Tree<Global>) -> bool {
-    for at in 0..5_461u64 {
-        let Some(page) = tree.page(Pid(at.saturating_add(16_384))) else {
+    for pid in 0..21_845_u64 {
+        let Some(page) = tree.page(Pid(pid)) else {
             return false;
         };
-        if !has_four_children(page, at.saturating_mul(4)) {
+        let is_right = match pid.checked_sub(16_384) {
+            Some(at) => has_four_children(page, at.saturating_mul(4)),
+            None => entries_of(page) == if pid == 0 { 3 } else { 4 },
+        };
+        if !is_right {
             return false;
         }
     }
     true
 }
 
-// Whether the tree of row 18 is in the store.
-fn is_row_18(rt: &(impl Threads + Sync), store: &Store<MemDisk<Global>>) -> Result<bool, Fault> {
-    let tree = store.tree();
-    let is_root = tree.root() == Pid(21_844) && tree.height() == 8;
-    let are_pages = are_leaves(tree) && are_levels(tree);
-    let report = store.verify(rt)?;
-    let is_counted = report.pages == 21_845 && report.height == 8 && report.pairs == 65_535;
-    Ok(is_root && are_pages && is_counted)
-}
-
-// How many replies that many puts get.
-fn count_replies(
-    rt: &(impl Threads + Sync),
-    alloc: Global,
-    store: &mut Store<MemDisk<Global>>,
-    count: u32,
-) -> Result<usize, Fault> {
-    let batch = many_puts(alloc, count)?;
-    let replies = store.batch(rt, ALONE, &NoGate, &batch)?;
-    Ok(replies.len())
-}
-
-// Whether a flush is refused, as its pages find no room, and the disk stays as it was.
-fn is_full(
-    rt: &(impl Threads + Sync),
-    alloc: Global,
-    store: &mut Store<MemDisk<Global>>,
-) -> Result<bool, AllocError> {
-    let before = store.disk().bytes().to_vec(alloc)?;
-    let flushed = store.flush(rt, ALONE);
-    Ok(flushed == Err(Fault::Full) && store.disk().bytes() == before.as_slice())
-}
-
-// Whether the longest batch is answered and leaves the tree of row 18, for which the log has no room, and one of one command more is
-// refused.
-fn is_longest_batch_answered(rt: &(impl Threads + Sync), alloc: Global) -> Result<bool, Fault> {
-    let mut store = new_store(alloc, S)?;
-    let longest = count_replies(rt, alloc, &mut store, 65_535)?;
-    let longer = count_replies(rt, alloc, &mut store, 65_536);
-    let is_full = is_full(rt, alloc, &mut store)?;
-    let is_row_18 = is_row_18(rt, &store)?;
-    Ok(longest == 65_535 && longer == Err(Fault::BatchTooLong) && is_full && is_row_18)
-}
-
+// The longest batch is answered and leaves the tree of row 18, for which the log has no room, and one of one command more is refused.
 #[test]
-fn the_longest_batch_is_answered(rt: HostRuntime) {
-    assert!(rt; matches!(is_longest_batch_answered(&rt, rt.alloc()), Ok(true)));
+fn the_longest_batch_is_answered(rt: HostRuntime) -> Result<(), Fail> {
+    let alloc = rt.alloc();
+    let mut store = new_store(alloc, S)?;
+    let longest = many_puts(alloc, 65_535)?;
+    let replies = store.batch(&rt, ALONE, &NoGate, &longest)?;
+    assert_eq!(rt; replies.len(), 65_535);
+    let longer = many_puts(alloc, 65_536)?;
+    let refused = store.batch(&rt, ALONE, &NoGate, &longer);
+    assert!(rt; matches!(refused, Err(Fault::BatchTooLong)));
+    let before = store.disk().bytes().to_vec(alloc)?;
+    assert!(rt; store.flush(&rt, ALONE) == Err(Fault::Full));
+    assert!(rt; store.disk().bytes() == before.as_slice());
+    assert!(rt; store.tree().root() == Pid(21_844) && are_levels(store.tree()));
+    let report = store.verify(&rt)?;
+    assert!(rt; report.pages == 21_845 && report.height == 8 && report.pairs == 65_535);
+    Ok(())
 }
 
 // The greatest values of all settings that a page looks at.
@@ -133,63 +93,31 @@ const GREATEST: Settings = Settings {
     segments: 4,
 };
 
-fn longest_key(alloc: Global) -> Result<Key<Global>, AllocError> {
-    let bytes = vec![in alloc; b'k'; 255]?;
-    Key::from_bytes(alloc, &bytes)
-}
-
-// A hundred short keys, and behind them the longest value under the longest key.
+// A hundred short keys, and after them the longest value under the longest key.
 fn greatest_batch(alloc: Global) -> Result<Vec<Command<Global>>, AllocError> {
     let mut batch = Vec::new(alloc);
-    for byte in 0..100u8 {
-        let key = Key::from_bytes(alloc, &[byte])?;
-        let value = Value::from_bytes(alloc, &[byte])?;
-        batch.push(Command::Put(key, value))?;
+    for byte in 0..100_u8 {
+        let put = Command::put(alloc, &[byte], &[byte])?;
+        batch.push(put)?;
     }
-    let key = longest_key(alloc)?;
-    let bytes = vec![in alloc; b'v'; 1_024]?;
-    let value = Value::from_bytes(alloc, &bytes)?;
-    batch.push(Command::Put(key, value))?;
+    let put = Command::put(alloc, &[b'k'; 255], &[b'v'; 1_024])?;
+    batch.push(put)?;
     Ok(batch)
 }
 
-// A store with these, and with another key that was put seventeen times, a batch each.
-fn greatest_store(
-    rt: &(impl Threads + Sync),
-    alloc: Global,
-) -> Result<Store<MemDisk<Global>>, Fault> {
+// And another key is put seventeen times, a batch each.
+#[test]
+fn the_greatest_keys_values_and_chains_are_held(rt: HostRuntime) -> Result<(), Fail> {
+    let alloc = rt.alloc();
     let mut store = new_store(alloc, GREATEST)?;
     let batch = greatest_batch(alloc)?;
-    store.batch(rt, ALONE, &NoGate, &batch)?;
-    let put = commands(alloc, "a=1")?;
+    store.batch(&rt, ALONE, &NoGate, &batch)?;
     for _batch in 0..17 {
-        store.batch(rt, ALONE, &NoGate, &put)?;
+        play(&rt, alloc, &mut store, &["a=1"])?;
     }
-    Ok(store)
-}
-
-fn look_up_longest(alloc: Global) -> Result<Vec<Command<Global>>, AllocError> {
-    let key = longest_key(alloc)?;
-    Ok(vec![in alloc; Command::Get(key)]?)
-}
-
-// How many bytes the first reply has, which is a value's.
-fn bytes_of_first(replies: &[Reply<Global>]) -> usize {
-    match replies.first() {
-        Some(Reply::Value(value)) => value.as_bytes().len(),
-        _ => 0,
-    }
-}
-
-// How many bytes such a store finds at the longest key.
-fn bytes_found(rt: &(impl Threads + Sync), alloc: Global) -> Result<usize, Fault> {
-    let mut store = greatest_store(rt, alloc)?;
-    let batch = look_up_longest(alloc)?;
-    let replies = store.batch(rt, ALONE, &NoGate, &batch)?;
-    Ok(bytes_of_first(&replies))
-}
-
-#[test]
-fn the_greatest_keys_values_and_chains_are_held(rt: HostRuntime) {
-    assert!(rt; matches!(bytes_found(&rt, rt.alloc()), Ok(1_024)));
+    let look_up = vec![in alloc; Command::get(alloc, &[b'k'; 255])?]?;
+    let replies = store.batch(&rt, ALONE, &NoGate, &look_up)?;
+    let wanted = Value::from_bytes(alloc, &[b'v'; 1_024])?;
+    assert!(rt; replies.as_slice() == [Reply::Value(wanted)].as_slice());
+    Ok(())
 }

@@ -6,15 +6,32 @@ use crate::tests::harness::stores::new_store;
 use crate::tests::harness::words::S;
 use crew::{Crew, NoGate};
 use flush_log::MemDisk;
-use keys::{Command, Fault, Key, Reply, Settings, Value};
+use keys::{Command, Fault, Key, Reply, Settings};
 use std::alloc::{AllocError, Global};
 use std::collections::BTreeMap;
 use std::test::Fail;
 use std::thread::Threads;
 
-// A command on keys of one byte: its kind, the key or the lower bound, the value, a digit, which of a scan is the limit, and how far above the
-// lower bound the upper one is.
-pub(crate) type Draw = (u8, u8, u8, u8);
+// A command on keys of one byte: its kind, the key or the lower bound, the value, a digit, by which the limit of a scan is given, and how far
+// above the lower bound the upper one is.
+#[derive(Clone, Copy)]
+pub(crate) struct Draw {
+    kind: u8,
+    pub(crate) key: u8,
+    digit: u8,
+    width: u16,
+}
+
+impl Draw {
+    // The upper bound: 256 is none, and above all keys.
+    fn end(self) -> u16 {
+        if self.kind == b'[' {
+            256
+        } else {
+            u16::from(self.key).saturating_add(self.width).min(256)
+        }
+    }
+}
 
 // Numbers that look random: a linear congruence with the constants of Knuth's MMIX.
 pub(crate) fn next_number(state: &mut u64) -> u64 {
@@ -26,7 +43,7 @@ pub(crate) fn next_number(state: &mut u64) -> u64 {
 
 // Draws a command. Of twenty, two are look-ups, two puts of what isn't there, one is a scan without an upper bound, one a scan with it, one a wipe, those from 4
 // up to `puts` are puts, and the others delete.
-pub(crate) fn draw(state: &mut u64, puts: u64) -> Draw {
+pub(crate) fn next_draw(state: &mut u64, puts: u64) -> Draw {
     let kind = match next_number(state) % 20 {
         0 | 1 => b'?',
         2 | 3 => b'+',
@@ -38,73 +55,56 @@ pub(crate) fn draw(state: &mut u64, puts: u64) -> Draw {
     };
     let key = (next_number(state) % 256) as u8;
     let digit = b'0' + (next_number(state) % 10) as u8;
-    (kind, key, digit, draw_width(state))
-}
-
-// Draws how far above the lower bound the upper one is: of sixteen times once above all keys, or nearly all.
-fn draw_width(state: &mut u64) -> u8 {
-    match next_number(state) % 16 {
+    // Of sixteen times once above all keys, or nearly all.
+    let width = match next_number(state) % 16 {
         15 => 255,
-        width => width as u8,
-    }
-}
-
-// The upper bound of the scan or wipe, if it has one.
-fn end_of(draw: Draw) -> Option<u8> {
-    let (kind, lo, _digit, width) = draw;
-    if kind == b'[' {
-        None
-    } else {
-        lo.checked_add(width)
-    }
-}
-
-// How many rows a scan with this digit may have.
-fn limit_of(digit: u8) -> u8 {
-    digit.saturating_sub(b'0')
-}
-
-// The range of the scan or wipe.
-fn range_of(alloc: Global, draw: Draw) -> Result<(Key<Global>, Option<Key<Global>>), AllocError> {
-    let lo = Key::from_bytes(alloc, &[draw.1])?;
-    match end_of(draw) {
-        Some(end) => {
-            let hi = Key::from_bytes(alloc, &[end])?;
-            Ok((lo, Some(hi)))
-        }
-        None => Ok((lo, None)),
+        width => width as u16,
+    };
+    Draw {
+        kind,
+        key,
+        digit,
+        width,
     }
 }
 
 pub(crate) fn drawn_command(alloc: Global, draw: Draw) -> Result<Command<Global>, AllocError> {
-    let (kind, _key, digit, _width) = draw;
-    let (key, hi) = range_of(alloc, draw)?;
-    let value = Value::from_bytes(alloc, &[digit])?;
-    Ok(match kind {
-        b'?' => Command::Get(key),
-        b'[' | b']' => Command::Scan(key, hi, u32::from(limit_of(digit))),
-        b'!' => Command::Wipe(key, hi),
-        b'+' => Command::Add(key, value),
-        b'=' => Command::Put(key, value),
-        _ => Command::Del(key),
-    })
+    let (key, value) = ([draw.key], [draw.digit]);
+    match draw.kind {
+        b'?' => Command::get(alloc, &key),
+        b'+' => Command::add(alloc, &key, &value),
+        b'=' => Command::put(alloc, &key, &value),
+        b'-' => Command::del(alloc, &key),
+        kind => {
+            let lo = Key::from_bytes(alloc, &key)?;
+            let hi = match u8::try_from(draw.end()) {
+                Ok(end) => Some(Key::from_bytes(alloc, &[end])?),
+                Err(_) => None,
+            };
+            Ok(if kind == b'!' {
+                Command::Wipe(lo, hi)
+            } else {
+                Command::Scan(lo, hi, u32::from(draw.digit.saturating_sub(b'0')))
+            })
+        }
+    }
 }
 
-// The letter of the reply that a map gives.
-fn letter_of_map(map: &mut BTreeMap<u8, u8, Global>, draw: Draw) -> Result<char, AllocError> {
-    let (kind, key, value, _width) = draw;
+// The letter of the reply that a map gives to a command on one key.
+fn letter_of_map(map: &mut BTreeMap<u16, u8, Global>, draw: Draw) -> Result<char, AllocError> {
+    let key = u16::from(draw.key);
     let before = map.get(&key).copied();
-    match kind {
+    match draw.kind {
         b'?' => {}
         b'+' if before.is_some() => {}
         b'+' | b'=' => {
-            map.insert(key, value)?;
+            map.insert(key, draw.digit)?;
         }
         _ => {
             map.remove(&key);
         }
     }
-    Ok(match (kind, before) {
+    Ok(match (draw.kind, before) {
         (b'?', Some(value)) => char::from(value),
         (b'+', Some(_)) => 'E',
         (b'+', None) => 'A',
@@ -115,54 +115,34 @@ fn letter_of_map(map: &mut BTreeMap<u8, u8, Global>, draw: Draw) -> Result<char,
     })
 }
 
-// Whether the key is below the bound, if there is one.
-fn is_below(key: u8, end: Option<u8>) -> bool {
-    match end {
-        Some(end) => key < end,
-        None => true,
-    }
+// Appends the pair of a map, as `write_row` has it.
+fn write_pair(text: &mut String, key: u16, value: u8) -> Result<(), AllocError> {
+    write_row(text, &key.to_be_bytes()[1..], &[value])
 }
 
-// Appends the first pairs of the map in the scan's range, as `write_reply` has them.
-fn write_rows_of_map(
-    text: &mut String,
-    map: &BTreeMap<u8, u8, Global>,
-    draw: Draw,
-) -> Result<(), AllocError> {
-    let (_kind, lo, digit, _width) = draw;
-    let end = end_of(draw);
-    text.push('[')?;
-    for (key, value) in map.range(lo..).take(usize::from(limit_of(digit))) {
-        if is_below(*key, end) {
-            write_row(text, &[*key], &[*value])?;
-        }
-    }
-    text.push(']')
-}
-
-// Removes the keys in the wipe's range from the map, and returns how many there were.
-fn wipe_map(map: &mut BTreeMap<u8, u8, Global>, draw: Draw) -> u32 {
-    let end = end_of(draw);
-    let mut count = 0u32;
-    for number in u16::from(draw.1)..256 {
-        let key = number as u8;
-        if is_below(key, end) && map.remove(&key).is_some() {
-            count = count.saturating_add(1);
-        }
-    }
-    count
-}
-
-// What the map replies to the command, as `write_reply` has it.
+// What the map replies to the command, as `write_replies` has it.
 pub(crate) fn write_reply_of_map(
     text: &mut String,
-    map: &mut BTreeMap<u8, u8, Global>,
+    map: &mut BTreeMap<u16, u8, Global>,
     draw: Draw,
 ) -> Result<(), AllocError> {
-    match draw.0 {
-        b'[' | b']' => write_rows_of_map(text, map, draw),
+    let (lo, end) = (u16::from(draw.key), draw.end());
+    match draw.kind {
+        b'[' | b']' => {
+            text.push('[')?;
+            let limit = usize::from(draw.digit.saturating_sub(b'0'));
+            for (key, value) in map.range(lo..).take(limit) {
+                if *key < end {
+                    write_pair(text, *key, *value)?;
+                }
+            }
+            text.push(']')
+        }
         b'!' => {
-            let count = wipe_map(map, draw);
+            let mut count = 0u32;
+            for key in lo..end {
+                count = count.saturating_add(u32::from(map.remove(&key).is_some()));
+            }
             write!(text, "W{count}")
         }
         _ => {
@@ -170,25 +150,6 @@ pub(crate) fn write_reply_of_map(
             text.push(letter)
         }
     }
-}
-
-// Draws a batch of this many commands, and appends the map's replies.
-pub(crate) fn draw_batch(
-    alloc: Global,
-    map: &mut BTreeMap<u8, u8, Global>,
-    state: &mut u64,
-    puts: u64,
-    count: u64,
-    letters: &mut String,
-) -> Result<Vec<Command<Global>>, AllocError> {
-    let mut batch = Vec::new(alloc);
-    for _place in 0..count {
-        let draw = draw(state, puts);
-        let command = drawn_command(alloc, draw)?;
-        batch.push(command)?;
-        write_reply_of_map(letters, map, draw)?;
-    }
-    Ok(batch)
 }
 
 // Batches by a seed on a store with these settings, worked by this crew: how many they are, how many commands each has fewer than, and how high
@@ -293,13 +254,18 @@ fn is_answered_alike(
     alloc: Global,
     run: &Drawn,
     store: &mut Store<MemDisk<Global>>,
-    map: &mut BTreeMap<u8, u8, Global>,
+    map: &mut BTreeMap<u16, u8, Global>,
     state: &mut u64,
     puts: u64,
 ) -> Result<bool, AllocError> {
     let mut letters = String::new(alloc);
-    let count = next_number(state).checked_rem(run.most).unwrap_or(0);
-    let batch = draw_batch(alloc, map, state, puts, count, &mut letters)?;
+    let mut batch = Vec::new(alloc);
+    for _place in 0..next_number(state).checked_rem(run.most).unwrap_or(0) {
+        let draw = next_draw(state, puts);
+        let command = drawn_command(alloc, draw)?;
+        batch.push(command)?;
+        write_reply_of_map(&mut letters, map, draw)?;
+    }
     are_letters(alloc, &letters, store.batch(rt, run.crew, &NoGate, &batch))
 }
 
@@ -317,23 +283,23 @@ pub(crate) fn are_letters(
 // The pairs of the map, as `write_rows` has those of a range.
 pub(crate) fn text_of_map(
     alloc: Global,
-    map: &BTreeMap<u8, u8, Global>,
+    map: &BTreeMap<u16, u8, Global>,
 ) -> Result<String, AllocError> {
     let mut text = String::new(alloc);
     for (key, value) in map.iter() {
-        write_row(&mut text, &[*key], &[*value])?;
+        write_pair(&mut text, *key, *value)?;
     }
     text.push(';')?;
     Ok(text)
 }
 
-// Whether the tree is proper and the store holds the pairs of the map. It is looked at after each of the first eighty batches, and then after
-// each sixteenth.
+// Whether the tree is proper and the store holds the pairs of the map, in all and at each key of one byte. It is looked at after each of the first
+// eighty batches, and then after each sixteenth.
 fn is_held_alike(
     rt: &(impl Threads + Sync),
     alloc: Global,
     store: &Store<MemDisk<Global>>,
-    map: &BTreeMap<u8, u8, Global>,
+    map: &BTreeMap<u16, u8, Global>,
     round: u64,
 ) -> Result<bool, Fault> {
     if round >= 80 && round % 16 < 15 {
@@ -341,31 +307,28 @@ fn is_held_alike(
     }
     let report = store.verify(rt)?;
     let mut text = String::new(alloc);
-    let rows = store.range(b"", None, 1_000)?;
-    write_rows(&mut text, rows)?;
+    write_rows(&mut text, store.prefix(b""))?;
     let due = text_of_map(alloc, map)?;
-    let is_read = are_got_alike(store, map) && text.as_str() == due.as_str();
-    Ok(report.pairs == map.len() as u128 && is_read)
+    Ok(
+        report.pairs == map.len() as u128
+            && text.as_str() == due.as_str()
+            && are_got_alike(store, map),
+    )
 }
 
 // Whether the store has at each key of one byte what the map has there.
-fn are_got_alike(store: &Store<MemDisk<Global>>, map: &BTreeMap<u8, u8, Global>) -> bool {
+fn are_got_alike(store: &Store<MemDisk<Global>>, map: &BTreeMap<u16, u8, Global>) -> bool {
     for key in 0..=255_u8 {
-        let due = map.get(&key).copied();
-        if !is_value(store.get(&[key]), due) {
+        let is_alike = match (store.get(&[key]), map.get(&u16::from(key))) {
+            (Some(found), Some(due)) => found == [*due].as_slice(),
+            (None, None) => true,
+            _ => false,
+        };
+        if !is_alike {
             return false;
         }
     }
     true
-}
-
-// Whether this is the value of one byte, or none.
-fn is_value(found: Option<&[u8]>, due: Option<u8>) -> bool {
-    match (found, due) {
-        (Some(found), Some(due)) => found == [due].as_slice(),
-        (None, None) => true,
-        _ => false,
-    }
 }
 
 // Whether the batches of a run are answered as the map answers them, and the store then holds what the map holds. It grows through some batches,

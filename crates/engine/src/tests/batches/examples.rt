@@ -1,5 +1,4 @@
-//! What no clause of the store says: that the worked examples of docs/EXAMPLES.md come out as they are told there, with memory refused
-//! too.
+//! What no clause of the store says: that the worked examples of docs/EXAMPLES.md come out, with memory refused too.
 use crate::tests::harness::crews::crews;
 use crate::tests::harness::outcomes::Outcomes;
 use crate::tests::harness::shown::{write_rows, write_tree};
@@ -437,8 +436,8 @@ fn the_rows_come_out(rt: HostRuntime) {
     }
 }
 
-// Also where a batch is refused for want of memory, in a round of one worker or of two, a second time it is answered as told. To be run
-// with each allocation refused in turn too (`bench/README.md`). Then at most one row can't be told.
+// Also where a batch is refused for want of memory, in a round of one worker or of two, a second time it is answered so. To be run
+// with each allocation refused in turn too (`bench/README.md`). Then at most one row has no outcome.
 #[test]
 fn a_refused_batch_can_be_tried_again(rt: HostRuntime) {
     for workers in [1, 2] {

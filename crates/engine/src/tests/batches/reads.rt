@@ -1,11 +1,12 @@
 //! Keys that are looked up one by one, and rows that begin with a prefix.
+use crate::step::Answer;
 use crate::store::Store;
 use crate::tests::harness::shown::write_rows;
 use crate::tests::harness::steps::play;
 use crate::tests::harness::stores::new_store;
 use crate::tests::harness::words::S;
 use flush_log::MemDisk;
-use keys::Fault;
+use keys::{Fault, Reply, RowList};
 use scan::Rows;
 use std::alloc::{AllocError, Global};
 use std::test::Fail;
@@ -105,5 +106,28 @@ fn rows_begin_with_a_prefix(rt: HostRuntime) -> Result<(), Fail> {
     let expected = " a=1 aa=2 ab=3;; f=8 fa=3; b=4 ba=5 bb=6 bba=7; bb=6 bba=7;; e=6 ea=2; fa=3;;;\
         \x20a=1 aa=2 ab=3 b=4 ba=5 bb=6 bba=7 e=6 ea=2 f=8 fa=3;;;;;;;;;";
     assert_eq!(rt; text.as_str(), expected);
+    Ok(())
+}
+
+// Answers are equal where their rows are: where a row begins counts, and not the bytes alone.
+#[test]
+fn answers_are_compared(rt: HostRuntime) -> Result<(), Fail> {
+    let alloc = rt.alloc();
+    let mut rows = RowList::empty(alloc);
+    rows.push(b"a", b"1")?;
+    rows.push(b"ab", b"2")?;
+    let mut others = RowList::empty(alloc);
+    others.push(b"a", b"1")?;
+    others.push(b"a", b"b2")?;
+    let scanned = vec![in alloc; Reply::Rows(rows)]?;
+    let other = vec![in alloc; Reply::Rows(others)]?;
+    let answer = Answer::Replies(scanned);
+    assert!(rt; answer == answer && answer != Answer::Replies(other));
+    assert!(rt; answer != Answer::Flushed(2));
+    let text = format!(in alloc; "{answer:?}")?;
+    assert_eq!(rt;
+        text.as_str(),
+        "Replies([Rows([b\"a\"=b\"1\", b\"ab\"=b\"2\"])])"
+    );
     Ok(())
 }

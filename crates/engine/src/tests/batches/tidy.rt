@@ -7,7 +7,7 @@ use crate::tests::harness::stores::new_store;
 use crate::tests::harness::words::S;
 use crew::{Crew, NoGate};
 use flush_log::MemDisk;
-use keys::{Command, Fault, Key, Settings, Value};
+use keys::{Command, Fault, Settings};
 use std::alloc::{AllocError, Global};
 use std::test::Fail;
 use std::thread::Threads;
@@ -19,19 +19,16 @@ const QUEUE: Settings = Settings {
     ..S
 };
 
-// The key with this number, in two bytes.
-fn key(alloc: Global, number: u16) -> Result<Key<Global>, AllocError> {
-    Key::from_bytes(alloc, &number.to_be_bytes())
-}
-
 // Puts fifty keys, and deletes the fifty before them, where there are some: in one batch, so that a leaf gets one run of deletes and stays.
 fn moved_on(alloc: Global, round: u16) -> Result<Vec<Command<Global>>, AllocError> {
     let mut batch = Vec::new(alloc);
     for number in 0..50_u16 {
         let place = round.saturating_mul(50).saturating_add(number);
-        batch.push(Command::Put(key(alloc, place)?, Value::empty(alloc)))?;
-        if place >= 50 {
-            batch.push(Command::Del(key(alloc, place.saturating_sub(50))?))?;
+        let put = Command::put(alloc, &place.to_be_bytes(), b"")?;
+        batch.push(put)?;
+        if let Some(gone) = place.checked_sub(50) {
+            let del = Command::del(alloc, &gone.to_be_bytes())?;
+            batch.push(del)?;
         }
     }
     Ok(batch)
@@ -80,27 +77,17 @@ fn emptied_leaves_are_tidied_away(rt: HostRuntime) -> Result<(), Fail> {
     Ok(())
 }
 
-// The most pages of a queue that is tidied every five batches.
-fn most_pages(
-    rt: &(impl Threads + Sync),
-    alloc: Global,
-    store: &mut Store<MemDisk<Global>>,
-) -> Result<u128, Fault> {
-    let mut most = 0;
-    for round in 0..8_u16 {
-        move_on(rt, alloc, store, round * 5, round * 5 + 5)?;
-        most = store.verify(rt)?.pages.max(most);
-        store.tidy(rt, ALONE, 64)?;
-    }
-    Ok(most)
-}
-
-// Fifteen emptied leaves, four others, and the root.
+// It is tidied every five batches, and has fifteen emptied leaves, four others, and the root at the most.
 #[test]
 fn a_queue_that_is_tidied_stays_small(rt: HostRuntime) -> Result<(), Fail> {
     let alloc = rt.alloc();
     let mut store = new_store(alloc, QUEUE)?;
-    let most = most_pages(&rt, alloc, &mut store)?;
+    let mut most = 0;
+    for round in 0..8_u16 {
+        move_on(&rt, alloc, &mut store, round * 5, round * 5 + 5)?;
+        most = store.verify(&rt)?.pages.max(most);
+        store.tidy(&rt, ALONE, 64)?;
+    }
     assert!(rt; most == 20, "{most}");
     assert!(rt; are_last(&store, 40)?);
     Ok(())

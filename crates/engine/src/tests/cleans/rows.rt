@@ -18,7 +18,7 @@ use crate::tests::harness::slots::{
 use crate::tests::harness::steps::{Tries, play, play_at_once, write_each};
 use crate::tests::harness::stores::{shown_again, store_on_used_disk};
 use crate::tests::harness::words::{
-    FIVE_PUTS, FOUR_LONG_PUTS, LONG_PUT, NINE_BYTES, SEVENTEEN_PUTS, batch_of,
+    FIVE_PUTS, FOUR_LONG_PUTS, LONG_PUT, NINE_BYTES, SEVENTEEN_PUTS, commands,
 };
 use crate::tests::logs::full::{FULL_LOG, fill};
 use crate::tests::logs::rows::{Row, comes_out};
@@ -417,7 +417,7 @@ static BACK_ROWS: [BackRow; 8] = [
             2 low= log=Upto0 index runs=0: =0 c=1\n\
             \x20a=1 b=2 c=3 d=4 e=5; 3 pages, height 2, 5 pairs",
     },
-    // A base of version 2 and a run behind it.
+    // A base of version 2 and a run after it.
     BackRow {
         name: "log 16, upgraded",
         steps: &[
@@ -625,7 +625,7 @@ fn a_full_log_has_room_after_a_clean(rt: HostRuntime) -> Result<(), Fail> {
 #[test]
 fn a_play_stops_where_there_is_nothing_to_clean(rt: HostRuntime) -> Result<(), Fail> {
     let alloc = rt.alloc();
-    let one = batch_of(alloc, "a=1")?;
+    let one = commands(alloc, "a=1")?;
     let mut store = store_on_used_disk(alloc)?;
     let answers = play_at_once(&rt, alloc, &mut store, &[Step::Batch(&one), Step::Clean])?;
     assert_eq!(rt; answers.as_str(), "N; 1: 11 NothingToClean");

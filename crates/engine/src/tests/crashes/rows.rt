@@ -82,9 +82,9 @@ fn look_at_stopped(
     for fill in FILLS {
         let may_be_open = matches!(fill, Fill::Written | Fill::Byte(1));
         let is_after = call > row.calls || (call.saturating_add(1) >= row.calls && may_be_open);
-        let told = if is_after { row.after } else { row.before };
+        let wanted = if is_after { row.after } else { row.before };
         let back = store_back(rt, alloc, disk, fill)?;
-        assert!(rt; back.as_str() == told, "{} {call}: {back}", row.name);
+        assert!(rt; back.as_str() == wanted, "{} {call}: {back}", row.name);
     }
     Ok(())
 }
@@ -142,13 +142,13 @@ fn answer_after_two_stops(
 
 #[test]
 fn a_closed_gate_stays_closed_through_two_stops(rt: HostRuntime) -> Result<(), Fail> {
-    let told = format!(in rt.alloc();
+    let wanted = format!(in rt.alloc();
         "N; 1: 9 Device{FIRST_STORE}N; 1: 9 Device{FIRST_STORE}N; flushed 2; "
     )?;
     for first in FILLS {
         for second in FILLS {
             let text = answer_after_two_stops(&rt, rt.alloc(), first, second)?;
-            assert!(rt; text.as_str() == told.as_str(), "{text}");
+            assert!(rt; text.as_str() == wanted.as_str(), "{text}");
         }
     }
     Ok(())

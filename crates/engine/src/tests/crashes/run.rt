@@ -2,7 +2,7 @@
 //! the last flush that was answered, or at the one that was stopped.
 use crate::store::Store;
 use crate::tests::batches::drawn::{
-    are_letters, draw, drawn_command, next_number, text_of_map, write_reply_of_map,
+    are_letters, drawn_command, next_draw, next_number, text_of_map, write_reply_of_map,
 };
 use crate::tests::harness::crews::ALONE;
 use crate::tests::harness::shown::write_rows;
@@ -29,7 +29,7 @@ const KEYS: u8 = 24;
 // What a store is to hold: the pairs in memory; those of its last flush or upgrade as text; and those of one that was stopped.
 #[derive(Drop)]
 struct Known {
-    map: BTreeMap<u8, u8, Global>,
+    map: BTreeMap<u16, u8, Global>,
     flushed: String,
     stopped: Option<String>,
 }
@@ -51,11 +51,11 @@ fn count(number: &mut u32) {
 }
 
 // Makes the map that of the rows.
-fn take_rows(map: &mut BTreeMap<u8, u8, Global>, rows: Rows<'_>) -> Result<(), AllocError> {
+fn take_rows(map: &mut BTreeMap<u16, u8, Global>, rows: Rows<'_>) -> Result<(), AllocError> {
     map.clear();
     for (key, value) in rows {
-        let value = value.first().copied().unwrap_or(0);
-        map.insert(key.first().copied().unwrap_or(0), value)?;
+        let key = u16::from(key.first().copied().unwrap_or(0));
+        map.insert(key, value.first().copied().unwrap_or(0))?;
     }
     Ok(())
 }
@@ -94,14 +94,14 @@ fn look_at_opened(
 // Draws a batch of a few commands, and appends the map's replies.
 fn draw_few(
     alloc: Global,
-    map: &mut BTreeMap<u8, u8, Global>,
+    map: &mut BTreeMap<u16, u8, Global>,
     state: &mut u64,
     letters: &mut String,
 ) -> Result<Vec<Command<Global>>, AllocError> {
     let mut batch = Vec::new(alloc);
     for _place in 0..next_number(state) % 8 {
-        let (kind, key, digit, width) = draw(state, 10);
-        let drawn = (kind, key % KEYS, digit, width);
+        let mut drawn = next_draw(state, 10);
+        drawn.key %= KEYS;
         let command = drawn_command(alloc, drawn)?;
         batch.push(command)?;
         write_reply_of_map(letters, map, drawn)?;

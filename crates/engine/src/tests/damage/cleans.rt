@@ -16,7 +16,7 @@ use std::thread::Threads;
 struct DamagedDisk {
     disk: FailingDisk,
     changes: &'static [(usize, u8)],
-    // How many syncs there were, and behind which of them it is damaged.
+    // How many syncs there were, and after which of them it is damaged.
     syncs: u64,
     damaged_after: u64,
 }
@@ -96,7 +96,7 @@ static ROWS: [Row; 8] = [
         changes: &[(783, 2), (784, 0), (767, 1)],
         fault: "15 BadFrame 0 254",
     },
-    // The last run of page 0 is told of page 2, an index page.
+    // The last run of page 0 is said to be of page 2, an index page.
     Row {
         changes: &[(796, 2)],
         fault: "16 BadStructure 1 2",

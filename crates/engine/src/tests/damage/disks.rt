@@ -1,4 +1,4 @@
-//! A disk that is damaged: it is answered as the examples of docs/EXAMPLES.md tell it, and stays as it is.
+//! A disk that is damaged: it is answered as in docs/EXAMPLES.md, and stays as it is.
 use crate::store::Store;
 use crate::tests::harness::crews::{ALONE, crews};
 use crate::tests::harness::outcomes::Outcomes;
@@ -21,7 +21,7 @@ enum Damage {
     Exchange,
 }
 
-// A damaged disk: the steps that made it, the damage, and what is answered: the fault, or the store as it is told.
+// A damaged disk: the steps that made it, the damage, and what is answered: the fault, or the store as it is shown.
 struct DamagedRow {
     name: &'static str,
     steps: &'static [&'static str],
@@ -37,7 +37,7 @@ const PAGE_FREED: [&str; 6] = [SEVENTEEN_PUTS, "flush", "-d -e -f", "d=1", "-d",
 
 const UPGRADED: [&str; 3] = [FIVE_PUTS, "flush", "upgrade"];
 
-static DAMAGED_ROWS: [DamagedRow; 56] = [
+static DAMAGED_ROWS: [DamagedRow; 57] = [
     DamagedRow {
         name: "log 20",
         steps: &PUT_AGAIN,
@@ -66,6 +66,12 @@ static DAMAGED_ROWS: [DamagedRow; 56] = [
         name: "log 21, a tail",
         steps: &ONE_RUN,
         damage: Damage::Set(&[(159, 51)]),
+        answer: "15 BadFrame 0 33",
+    },
+    DamagedRow {
+        name: "log 21, zeros before the tail",
+        steps: &ONE_RUN,
+        damage: Damage::Set(&[(545, 0), (549, 0), (559, 0), (561, 0), (562, 0)]),
         answer: "15 BadFrame 0 33",
     },
     DamagedRow {
@@ -196,7 +202,7 @@ static DAMAGED_ROWS: [DamagedRow; 56] = [
         answer: "13 NoSlot",
     },
     DamagedRow {
-        name: "a head behind the tail",
+        name: "a head after the tail",
         steps: &PUT_FIVE,
         damage: Damage::Set(&[(151, 1)]),
         answer: "13 NoSlot",
@@ -235,7 +241,7 @@ static DAMAGED_ROWS: [DamagedRow; 56] = [
         answer: "13 NoSlot",
     },
     DamagedRow {
-        name: "a tail behind the first header",
+        name: "a tail after the first header",
         steps: &PUT_FIVE,
         damage: Damage::Set(&[(159, 16)]),
         answer: "13 NoSlot",
@@ -247,7 +253,7 @@ static DAMAGED_ROWS: [DamagedRow; 56] = [
         answer: "15 BadFrame 0 16",
     },
     DamagedRow {
-        name: "a tail behind all segments",
+        name: "a tail after all segments",
         steps: &PUT_FIVE,
         damage: Damage::Set(&[(158, 4), (159, 1)]),
         answer: "13 NoSlot",
@@ -501,7 +507,7 @@ static UPGRADED_ROWS: [DamagedRow; 14] = [
 ];
 
 // What a disk of these bytes is answered with. It is recovered twice; if it had not the same bytes afterwards, or the answers
-// differed, that would be told behind.
+// differed, the text would end with that.
 fn answer(
     rt: &(impl Threads + Sync),
     crew: Crew,
@@ -519,23 +525,22 @@ fn answer(
     Ok(text)
 }
 
-fn exchange(bytes: &mut [u8]) {
-    for place in 512..768usize {
-        if place + 256 < bytes.len() {
-            bytes.swap(place, place + 256);
-        }
-    }
-}
-
+// Damages the bytes.
 fn spoil(bytes: &mut Vec<u8>, damage: &Damage) {
     match damage {
         Damage::Set(changes) => set(bytes, changes),
         Damage::Cut(len) => bytes.truncate(*len),
-        Damage::Exchange => exchange(bytes),
+        Damage::Exchange => {
+            for place in 512..768usize {
+                if place + 256 < bytes.len() {
+                    bytes.swap(place, place + 256);
+                }
+            }
+        }
     }
 }
 
-// Whether the disk of the row is answered as told.
+// Whether the disk of the row is answered so.
 fn is_answered(
     rt: &(impl Threads + Sync),
     crew: Crew,
@@ -554,7 +559,7 @@ fn a_damaged_disk_has_one_answer(rt: HostRuntime) {
         for row in &DAMAGED_ROWS {
             outcomes.note(is_answered(&rt, *crew, rt.alloc(), row), row.name);
         }
-        outcomes.check(&rt, *crew, 56);
+        outcomes.check(&rt, *crew, 57);
     }
 }
 
@@ -579,7 +584,7 @@ fn a_disk_that_is_cut_is_no_store(rt: HostRuntime) -> Result<(), Fail> {
     Ok(())
 }
 
-// The same with crews of one worker, two and three, and a grain of 1. If their answers differed, that would be told behind.
+// The same with crews of one worker, two and three, and a grain of 1. If their answers differed, the text would end with that.
 fn answer_of_crews(
     rt: &(impl Threads + Sync),
     alloc: Global,

@@ -15,7 +15,7 @@ use std::process::Abort;
 use std::test::Fail;
 use std::thread::Threads;
 
-// A step that writes: those by whose last one the disk got its store; those in memory alone, and behind them this one; what is
+// A step that writes: those by whose last one the disk got its store; those in memory alone, and after them this one; what is
 // answered where it fails; how many writes and syncs it makes; the pairs in memory; and the store of the disk before and after.
 pub(crate) struct FaultRow {
     pub(crate) name: &'static str,
@@ -185,15 +185,15 @@ fn look_where_a_call_fails(
 ) -> Result<(), Fault> {
     let opens = row.calls.saturating_sub(1);
     let is_after = call > opens || (call == opens && written > 0);
-    let told = if is_after { row.after } else { row.before };
+    let wanted = if is_after { row.after } else { row.before };
     for (failing, opened) in [
-        (Failing::Once(call), told),
+        (Failing::Once(call), wanted),
         (Failing::From(call), "9 Device"),
     ] {
         let store = store_of(rt, alloc, bytes, failing, written)?;
         let text = answer_of_failing(rt, alloc, row, store)?;
         let wanted = format!(in alloc;
-            "{} 8 Failed; 8 Failed; 8 Failed; 8 Failed; {}{opened}, {told}",
+            "{} 8 Failed; 8 Failed; 8 Failed; 8 Failed; {}{opened}, {wanted}",
             row.answers, row.pairs
         )?;
         assert!(rt;

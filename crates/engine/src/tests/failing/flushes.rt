@@ -7,11 +7,12 @@ use crate::tests::harness::crews::ALONE;
 use crate::tests::harness::failing_disk::{FailingDisk, failing_store};
 use crate::tests::harness::outcomes::Outcomes;
 use crate::tests::harness::shown::write_rows;
-use crate::tests::harness::slots::from_place;
 use crate::tests::harness::steps::{play, play_at_once};
-use crate::tests::harness::stores::{SHORTEST, shown_again, store_after, store_on_used_disk};
+use crate::tests::harness::stores::{
+    SHORTEST, opened, shown_again, store_after, store_on_used_disk,
+};
 use crate::tests::harness::words::{
-    FIVE_PUTS, FOUR_LONG_PUTS, PUT_AGAIN, S, SEVENTEEN_PUTS, batch_of,
+    FIVE_PUTS, FOUR_LONG_PUTS, PUT_AGAIN, S, SEVENTEEN_PUTS, commands,
 };
 use crew::NoGate;
 use flush_log::Disk;
@@ -119,7 +120,7 @@ struct FailingRow {
     steps: &'static [&'static str],
     calls_before: u64,
     calls: u64,
-    sequence: u8,
+    sequence: u64,
     pairs: &'static str,
 }
 
@@ -149,22 +150,6 @@ static FAILING_ROWS: [FailingRow; 3] = [
     },
 ];
 
-// The last byte of the sequence number of a slot, where its gate stands open.
-fn sequence_at(bytes: &[u8], place: usize) -> u8 {
-    match from_place(bytes, place) {
-        [1, ..] => from_place(bytes, place.saturating_add(15))
-            .first()
-            .copied()
-            .unwrap_or(0),
-        _ => 0,
-    }
-}
-
-// The last byte of the greatest sequence number in an open slot.
-fn sequence_on(bytes: &[u8]) -> u8 {
-    sequence_at(bytes, 128).max(sequence_at(bytes, 192))
-}
-
 // Steps of which each is refused once a store has failed, whatever else is wrong with it, and those after it are not begun.
 const REFUSED_STEPS: [&[&str]; 5] = [
     &[FIVE_PUTS, "flush"],
@@ -187,6 +172,7 @@ fn look_at_failed(
     }
     assert!(rt; play(rt, alloc, store, &[])?.is_empty());
     assert!(rt; matches!(store.batch(rt, ALONE, &NoGate, &[]), Err(Fault::Failed)));
+    assert!(rt; store.has_failed());
     assert!(rt; store.flush(rt, ALONE) == Err(Fault::Failed));
     assert!(rt; store.upgrade(rt, ALONE) == Err(Fault::Failed));
     let mut text = String::new(alloc);
@@ -194,11 +180,6 @@ fn look_at_failed(
     assert_eq!(rt; text.as_str(), row.pairs);
     store.verify(rt)?;
     Ok(())
-}
-
-// Whether the disk has failed once, in its call of this number, and holds a store of this number.
-fn is_left(disk: &FailingDisk, fails_at: u64, sequence: u8) -> bool {
-    disk.calls == fails_at && disk.failures == 1 && sequence_on(&disk.bytes) == sequence
 }
 
 // Before the gate is opened the disk holds the store of before, and from then on the one that was flushed.
@@ -215,8 +196,11 @@ fn look_where_a_call_fails(
     assert!(rt; store.flush(rt, ALONE) == Err(Fault::Device));
     look_at_failed(rt, alloc, row, &mut store)?;
     let is_open = failing == row.calls;
-    let sequence = row.sequence.saturating_sub(u8::from(!is_open));
-    assert!(rt; is_left(&store.close(), fails_at, sequence));
+    let sequence = row.sequence.saturating_sub(u64::from(!is_open));
+    let disk = store.close();
+    assert!(rt; disk.calls == fails_at && disk.failures == 1);
+    let store = opened(Store::recover(rt, alloc, disk, ALONE))?;
+    assert_eq!(rt; store.sequence(), sequence);
     Ok(())
 }
 
@@ -226,7 +210,7 @@ fn is_flushed(rt: &(impl Threads + Sync), alloc: Global, row: &FailingRow) -> Re
     let mut store = failing_store(alloc, all.saturating_add(1))?;
     play(rt, alloc, &mut store, row.steps)?;
     let sequence = store.flush(rt, ALONE)?;
-    Ok(sequence == u64::from(row.sequence) && store.disk().calls == all)
+    Ok(sequence == row.sequence && store.disk().calls == all)
 }
 
 #[test]
@@ -255,8 +239,8 @@ fn plays<D: Disk>(
 #[test]
 fn a_play_stops_where_a_step_is_refused(rt: HostRuntime) -> Result<(), Fail> {
     let alloc = rt.alloc();
-    let one = batch_of(alloc, "a=1")?;
-    let long = batch_of(alloc, "b=1 seventeen_bytes_!=2")?;
+    let one = commands(alloc, "a=1")?;
+    let long = commands(alloc, "b=1 seventeen_bytes_!=2")?;
     let steps = [
         Step::Batch(&one),
         Step::Flush,

@@ -1,4 +1,4 @@
-//! A store that is opened on a disk of which a call fails: that is told, the disk is handed back as it was, and the next opening succeeds.
+//! A store that is opened on a disk of which a call fails: the fault is answered, the disk is handed back as it was, and the next opening succeeds.
 use crate::store::Store;
 use crate::tests::harness::crews::ALONE;
 use crate::tests::harness::failing_disk::{FailingDisk, failing_store};
@@ -21,7 +21,7 @@ struct ReadRow {
     answer: &'static str,
 }
 
-// The settings block, the slots by one read or by two, and each segment. A read is told that fails behind a fault of the log, and not
+// The settings block, the slots by one read or by two, and each segment. A read that fails after a fault of the log is answered, and not
 // the fault; but a disk without settings or slots is read no further.
 static READ_ROWS: [ReadRow; 5] = [
     ReadRow {
@@ -56,7 +56,7 @@ static READ_ROWS: [ReadRow; 5] = [
     },
 ];
 
-// What a disk of these bytes is answered with whose read of this number fails, and behind it the calls and the failures of the disk.
+// What a disk of these bytes is answered with whose read of this number fails, and after it the calls and the failures of the disk.
 fn answer_of_failing(
     rt: &(impl Threads + Sync),
     alloc: Global,
@@ -73,7 +73,7 @@ fn answer_of_failing(
     Ok(text)
 }
 
-// Whether the read of this number fails, which is noted, or all is answered as told, after as many reads as were noted.
+// Whether the read of this number fails, which is noted, or all is answered so, after as many reads as were noted.
 fn is_answered(
     rt: &(impl Threads + Sync),
     alloc: Global,
@@ -88,8 +88,8 @@ fn is_answered(
         *reads = fails_at;
         return Ok(true);
     }
-    let told = format!(in alloc; "{answer}; {} calls, 0 failed", *reads)?;
-    Ok(text.as_str() == told.as_str())
+    let wanted = format!(in alloc; "{answer}; {} calls, 0 failed", *reads)?;
+    Ok(text.as_str() == wanted.as_str())
 }
 
 #[test]
@@ -137,8 +137,8 @@ const AFTER: &str = "N; 9 Device; 8 Failed; head 0, tail 55, number 2; root 0, h
 fn a_store_that_failed_goes_on_once_it_is_opened_again(rt: HostRuntime) -> Result<(), Fail> {
     for fails_at in 3..10u64 {
         let text = answer_after_failed_flush(&rt, rt.alloc(), fails_at)?;
-        let told = if fails_at <= 8 { BEFORE } else { AFTER };
-        assert!(rt; text.as_str() == told, "{fails_at}: {text}");
+        let wanted = if fails_at <= 8 { BEFORE } else { AFTER };
+        assert!(rt; text.as_str() == wanted, "{fails_at}: {text}");
     }
     Ok(())
 }
@@ -175,12 +175,12 @@ fn answer_of_damaged_reopen(
     Ok(text)
 }
 
-// The sync comes before the disk is read, so that its failure is told, and not what is read.
+// The sync comes before the disk is read, so that its failure is answered, and not what is read.
 #[test]
 fn an_opening_again_syncs_before_it_reads(rt: HostRuntime) -> Result<(), Fail> {
-    for (fails_at, told) in [(3, "9 Device"), (4, "12 NotAStore")] {
+    for (fails_at, wanted) in [(3, "9 Device"), (4, "12 NotAStore")] {
         let text = answer_of_damaged_reopen(&rt, rt.alloc(), fails_at)?;
-        assert!(rt; text.as_str() == told, "{text}");
+        assert!(rt; text.as_str() == wanted, "{text}");
     }
     Ok(())
 }
@@ -191,14 +191,14 @@ fn an_opening_again_that_fails_hands_the_disk_back(rt: HostRuntime) -> Result<()
     let mut last = 0u64;
     for fails_at in 3..10u64 {
         let text = answer_of_failing_reopen(&rt, rt.alloc(), fails_at)?;
-        let mut told = format!(in rt.alloc();
+        let mut wanted = format!(in rt.alloc();
             "9 Device; {fails_at} calls, 1 failed; {FIRST_STORE}"
         )?;
-        if text.as_str() == told.as_str() {
+        if text.as_str() == wanted.as_str() {
             last = fails_at;
         } else {
-            told = format!(in rt.alloc(); "{FIRST_STORE}; {last} calls, 0 failed")?;
-            assert!(rt; text.as_str() == told.as_str(), "{text}");
+            wanted = format!(in rt.alloc(); "{FIRST_STORE}; {last} calls, 0 failed")?;
+            assert!(rt; text.as_str() == wanted.as_str(), "{text}");
         }
     }
     assert!(rt; 6 <= last && last <= 7, "{last}");

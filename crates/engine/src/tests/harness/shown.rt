@@ -130,7 +130,7 @@ pub(crate) fn write_tree(
     Ok(())
 }
 
-// The reply's letter, and the rows of a scan behind the bracket, or how many keys a wipe took.
+// The reply's letter, and the rows of a scan after the bracket, or how many keys a wipe took.
 fn write_reply(text: &mut String, reply: &Reply<Global>) -> Result<(), AllocError> {
     text.push(letter(reply))?;
     if let Reply::Wiped(count) = reply {
@@ -184,7 +184,7 @@ pub(crate) fn look<D: Disk>(alloc: Global, store: &Store<D>) -> Result<String, F
     Ok(text)
 }
 
-// The store, as examples tell it: its log, its pages, its pairs, and what `verify` counts.
+// The store, as examples show it: its log, its pages, its pairs, and what `verify` counts.
 pub(crate) fn write_store<D: Disk>(
     rt: &(impl Threads + Sync),
     alloc: Global,
@@ -211,16 +211,16 @@ pub(crate) fn write_store<D: Disk>(
     Ok(())
 }
 
-// Whether the store is told like this.
+// Whether the store is shown like this.
 pub(crate) fn is_shown(
     rt: &(impl Threads + Sync),
     alloc: Global,
     store: &Store<MemDisk<Global>>,
-    told: &str,
+    wanted: &str,
 ) -> Result<bool, Fault> {
     let mut text = String::new(alloc);
     write_store(rt, alloc, &mut text, store)?;
-    Ok(text.as_str() == told)
+    Ok(text.as_str() == wanted)
 }
 
 // The sequence number, the head, the tail, the segments in use and in all, and the pairs; whether a flush is due, and whether the store

@@ -3,7 +3,7 @@ use crate::step::{Answer, Step};
 use crate::store::Store;
 use crate::tests::harness::crews::ALONE;
 use crate::tests::harness::shown::{write_numbers, write_replies};
-use crate::tests::harness::words::batch_of;
+use crate::tests::harness::words::commands;
 use crew::{Crew, NoGate};
 use flush_log::Disk;
 use keys::Fault;
@@ -86,7 +86,7 @@ fn write_step<D: Disk>(
             return Ok(None);
         }
         "flush" | "clean" | "upgrade" => Vec::new(alloc),
-        _ => batch_of(alloc, word)?,
+        _ => commands(alloc, word)?,
     };
     let step = match word {
         "flush" => Step::Flush,

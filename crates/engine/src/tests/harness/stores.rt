@@ -76,7 +76,7 @@ pub(crate) fn store_after(
     Ok(store)
 }
 
-// Appends what was opened: the store as it is told, or the fault. Returns the disk.
+// Appends what was opened: the store as it is shown, or the fault. Returns the disk.
 pub(crate) fn write_opened<D: Disk + Drop>(
     rt: &(impl Threads + Sync),
     alloc: Global,
@@ -105,7 +105,7 @@ pub(crate) fn bytes_after(
     Ok(store.disk().bytes().to_vec(alloc)?)
 }
 
-// The store as it is told once it is opened again.
+// The store as it is shown once it is opened again.
 pub(crate) fn shown_again(
     rt: &(impl Threads + Sync),
     alloc: Global,

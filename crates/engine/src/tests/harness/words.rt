@@ -1,5 +1,5 @@
 //! Words that are commands, and batches of the worked examples.
-use keys::{Command, Key, Settings, Value};
+use keys::{Command, Key, Settings};
 use std::alloc::{AllocError, Global};
 
 pub(crate) const S: Settings = Settings {
@@ -41,23 +41,19 @@ pub(crate) const LONG_AND_Z: [&str; 11] = [
 
 pub(crate) const NINE_BYTES: &str = "a=123456789 b=123456789 c=123456789";
 
-fn key(alloc: Global, text: &str) -> Result<Key<Global>, AllocError> {
-    Key::from_bytes(alloc, text.as_bytes())
-}
-
 // The upper bound that the word says: the star is none.
 fn bound(alloc: Global, word: &str) -> Result<Option<Key<Global>>, AllocError> {
     if word == "*" {
         return Ok(None);
     }
-    Ok(Some(key(alloc, word)?))
+    Ok(Some(Key::from_bytes(alloc, word.as_bytes())?))
 }
 
 // The scan whose bounds and limit these are.
 fn scan_of(alloc: Global, bounds: &str) -> Result<Command<Global>, AllocError> {
     let (lo, rest) = bounds.split_once(',').unwrap_or((bounds, ""));
     let (hi, limit) = rest.split_once(',').unwrap_or((rest, ""));
-    let lo = key(alloc, lo)?;
+    let lo = Key::from_bytes(alloc, lo.as_bytes())?;
     let hi = bound(alloc, hi)?;
     Ok(Command::Scan(lo, hi, limit.parse().unwrap_or(0)))
 }
@@ -65,7 +61,7 @@ fn scan_of(alloc: Global, bounds: &str) -> Result<Command<Global>, AllocError> {
 // The wipe whose bounds these are.
 fn wipe_of(alloc: Global, bounds: &str) -> Result<Command<Global>, AllocError> {
     let (lo, hi) = bounds.split_once(',').unwrap_or((bounds, ""));
-    let lo = key(alloc, lo)?;
+    let lo = Key::from_bytes(alloc, lo.as_bytes())?;
     let hi = bound(alloc, hi)?;
     Ok(Command::Wipe(lo, hi))
 }
@@ -78,34 +74,26 @@ fn command(alloc: Global, word: &str) -> Result<Command<Global>, AllocError> {
         return wipe_of(alloc, bounds);
     }
     if let Some((name, value)) = word.split_once('=') {
-        let added = name.strip_prefix('+');
-        let key = key(alloc, added.unwrap_or(name))?;
-        let value = Value::from_bytes(alloc, value.as_bytes())?;
-        return Ok(match added {
-            Some(_name) => Command::Add(key, value),
-            None => Command::Put(key, value),
-        });
+        return match name.strip_prefix('+') {
+            Some(name) => Command::add(alloc, name.as_bytes(), value.as_bytes()),
+            None => Command::put(alloc, name.as_bytes(), value.as_bytes()),
+        };
     }
     match word.strip_prefix('-') {
-        Some(name) => Ok(Command::Del(key(alloc, name)?)),
-        None => Ok(Command::Get(key(alloc, word)?)),
+        Some(name) => Command::del(alloc, name.as_bytes()),
+        None => Command::get(alloc, word.as_bytes()),
     }
 }
 
+// The commands of a batch, of which there are none in an empty word.
 pub(crate) fn commands(alloc: Global, batch: &str) -> Result<Vec<Command<Global>>, AllocError> {
     let mut commands = Vec::new(alloc);
+    if batch.is_empty() {
+        return Ok(commands);
+    }
     for word in batch.split(' ') {
         let command = command(alloc, word)?;
         commands.push(command)?;
     }
     Ok(commands)
-}
-
-// The commands of a word that is a batch.
-pub(crate) fn batch_of(alloc: Global, word: &str) -> Result<Vec<Command<Global>>, AllocError> {
-    if word.is_empty() {
-        Ok(Vec::new(alloc))
-    } else {
-        commands(alloc, word)
-    }
 }

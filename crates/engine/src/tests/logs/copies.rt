@@ -8,7 +8,7 @@ use crate::tests::harness::words::{S, SEVENTEEN_PUTS};
 use crate::tests::openings::rows::comes_back;
 use crew::{Crew, NoGate};
 use flush_log::{Disk, Failing, FaultDisk, MemDisk};
-use keys::{Command, Fault, Field, Key, Settings, Value};
+use keys::{Command, Fault, Field, Settings};
 use std::alloc::{AllocError, Global};
 use std::test::Fail;
 use std::thread::Threads;
@@ -79,8 +79,8 @@ fn many_puts(alloc: Global, from: u8) -> Result<Vec<Command<Global>>, AllocError
     let mut puts = Vec::new(alloc);
     for high in 0..20_u8 {
         for low in 0..255_u8 {
-            let key = Key::from_bytes(alloc, &[from.saturating_add(high), low])?;
-            puts.push(Command::Put(key, Value::from_bytes(alloc, &[low])?))?;
+            let put = Command::put(alloc, &[from.saturating_add(high), low], &[low])?;
+            puts.push(put)?;
         }
     }
     Ok(puts)
@@ -105,18 +105,6 @@ fn a_copy_takes_several_batches(rt: HostRuntime) -> Result<(), Fail> {
     Ok(())
 }
 
-// Puts a key, and deletes the one five before it, where there is one.
-fn moved_on(alloc: Global, number: u8) -> Result<Vec<Command<Global>>, AllocError> {
-    let mut batch = Vec::new(alloc);
-    let put = Key::from_bytes(alloc, &[number])?;
-    batch.push(Command::Put(put, Value::empty(alloc)))?;
-    if number >= 5 {
-        let gone = Key::from_bytes(alloc, &[number - 5])?;
-        batch.push(Command::Del(gone))?;
-    }
-    Ok(batch)
-}
-
 // Of a queue's 200 pairs five are left, and each leaf that deletes have emptied stays; a leaf has four pairs at most. The copy has two
 // leaves and the root.
 #[test]
@@ -124,7 +112,11 @@ fn a_copy_leaves_emptied_pages_out(rt: HostRuntime) -> Result<(), Fail> {
     let alloc = rt.alloc();
     let mut store = new_store(alloc, S)?;
     for number in 0..200_u8 {
-        let batch = moved_on(alloc, number)?;
+        let put = Command::put(alloc, &[number], b"")?;
+        let batch = match number.checked_sub(5) {
+            Some(gone) => vec![in alloc; put, Command::del(alloc, &[gone])?]?,
+            None => vec![in alloc; put]?,
+        };
         store.batch(&rt, ALONE, &NoGate, &batch)?;
     }
     assert!(rt; store.verify(&rt)?.pages > 50);

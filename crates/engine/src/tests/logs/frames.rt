@@ -91,24 +91,19 @@ fn said(alloc: Global, frame: &Frame) -> Result<(Vec<u8>, u64), AllocError> {
     }
 }
 
-// Whether the frame says this, under this page id.
-fn says(alloc: Global, frame: &Frame, told: &[u8], pid: u64) -> Result<bool, AllocError> {
-    let said = said(alloc, frame)?;
-    Ok(said.0.as_slice() == told && said.1 == pid)
-}
-
 // Whether the bytes are read, in a log of this format, as a frame that says this, and has all of them.
 fn is_read(
     alloc: Global,
     format: &Format,
     bytes: &[u8],
-    told: &[u8],
+    wanted: &[u8],
     pid: u64,
 ) -> Result<bool, AllocError> {
     let Some(found) = read_frame(alloc, bytes, format)? else {
         return Ok(false);
     };
-    Ok(found.1 == bytes.len() && says(alloc, &found.0, told, pid)?)
+    let said = said(alloc, &found.0)?;
+    Ok(found.1 == bytes.len() && said.0.as_slice() == wanted && said.1 == pid)
 }
 
 // A log of version 2 has the frames of version 1 too.

@@ -24,7 +24,7 @@ use keys::Fault;
 use std::alloc::Global;
 use std::thread::Threads;
 
-// An example: its steps, what they answer, and then the two slots and what the log has behind the frame of the first leaf, up to its tail.
+// An example: its steps, what they answer, and then the two slots and what the log has after the frame of the first leaf, up to its tail.
 // A step is a word: `flush` is a flush, `clean` a clean, `upgrade` an upgrade, and each other one a batch, the empty one without commands.
 pub(crate) struct Row {
     pub(crate) name: &'static str,
@@ -84,7 +84,7 @@ static ROWS: [Row; 22] = [
         slots: [FIVE_PUTS_SLOT, FIRST_SLOT],
         log: &[LEAF_0, LEAF_1, ROOT],
     },
-    // The frame of page 5 would end behind the segment.
+    // The frame of page 5 would end after the segment.
     Row {
         name: "log 5",
         steps: &[SEVENTEEN_PUTS, "flush"],
@@ -424,7 +424,7 @@ static ROWS: [Row; 22] = [
         ],
         log: &[AB_ABSENT_C_PUT_4, D_PUT],
     },
-    // The steps behind one that is refused are not begun.
+    // The steps after one that is refused are not begun.
     Row {
         name: "a refused step",
         steps: &["a=1", "flush", "b=1 seventeen_bytes_!=2", "c=3", "flush"],
@@ -441,8 +441,8 @@ static ROWS: [Row; 22] = [
     },
 ];
 
-// Whether the row's steps, on a new store, are answered as told and leave the disk that is told. A disk in memory fails only where
-// memory is refused, and then nothing can be told.
+// Whether the row's steps, on a new store, are answered so and leave this disk. A disk in memory fails only where
+// memory is refused, and then there is no outcome.
 pub(crate) fn comes_out(
     rt: &(impl Threads + Sync),
     crew: Crew,
@@ -474,8 +474,8 @@ fn the_rows_come_out(rt: HostRuntime) {
     }
 }
 
-// Also where a step is refused for want of memory, a second time it is answered as told. To be run with each allocation refused in turn
-// too (`bench/README.md`). Then at most one row can't be told.
+// Also where a step is refused for want of memory, a second time it is answered so. To be run with each allocation refused in turn
+// too (`bench/README.md`). Then at most one row has no outcome.
 #[test]
 fn a_refused_step_can_be_tried_again(rt: HostRuntime) {
     outcomes_of(&rt, ALONE, rt.alloc(), Tries::Twice).check_refused(&rt, ALONE, 22);

@@ -3,7 +3,7 @@ use crate::tests::harness::crews::ALONE;
 use crate::tests::harness::stores::new_store;
 use crate::tests::harness::words::S;
 use crew::NoGate;
-use keys::{Command, Fault, Field, Key, Settings, Value};
+use keys::{Command, Fault, Field, Settings};
 use std::alloc::{AllocError, Global};
 use std::test::Fail;
 
@@ -36,9 +36,8 @@ fn settings_are_for_pairs(rt: HostRuntime) -> Result<(), Fail> {
 fn puts(alloc: Global) -> Result<Vec<Command<Global>>, AllocError> {
     let mut batch = Vec::new(alloc);
     for number in 0..200_u8 {
-        let key = Key::from_bytes(alloc, &[number])?;
-        let value = Value::from_bytes(alloc, &[number; 8])?;
-        batch.push(Command::Put(key, value))?;
+        let put = Command::put(alloc, &[number], &[number; 8])?;
+        batch.push(put)?;
     }
     Ok(batch)
 }

@@ -1,15 +1,11 @@
-//! What the crates below give and nothing above them asks for yet, once each, and the texts of faults.
-use delta_chain::{Base, Chain, PushError, Run};
+//! What the crates below give and no other test shows, once each, and the texts of faults.
+use delta_chain::{Base, BaseBuilder, Chain, EntryBounds, PushError, Run};
 use keys::{Fault, Field, Finding, Key, Pid, fingerprint_of};
 use mapping::{Logged, Table};
+use page_search::{Probes, above, floor, lower};
 use std::alloc::{AllocError, Global};
 use std::process::Abort;
 use std::test::Fail;
-
-// Whether the fault prints as this text.
-fn prints(alloc: Global, fault: &Fault, text: &str) -> Result<bool, AllocError> {
-    Ok(fault.to_string(alloc)?.as_str() == text)
-}
 
 #[test]
 fn faults_print_number_name_and_what_they_carry(rt: HostRuntime) -> Result<(), Fail> {
@@ -51,34 +47,28 @@ fn faults_print_number_name_and_what_they_carry(rt: HostRuntime) -> Result<(), F
         (Fault::AlreadyUpgraded, "19 AlreadyUpgraded"),
     ];
     for fault in &shown {
-        assert!(rt; prints(rt.alloc(), &fault.0, fault.1)?, "{}", fault.1);
+        let text = fault.0.to_string(rt.alloc())?;
+        assert_eq!(rt; text.as_str(), fault.1);
     }
     Ok(())
 }
 
-// The first entry of a page whose run says b, as a key of one byte and a pid.
-fn entry_of_a_run(alloc: Global) -> Result<Option<(u8, u64)>, PushError> {
+// Of a page whose one run says b.
+#[test]
+fn a_page_gives_its_entries(rt: HostRuntime) -> Result<(), Fail> {
+    let alloc = rt.alloc();
     let b = Key::from_bytes(alloc, b"b")?;
     let mut run = Run::with_capacity(alloc, 1)?;
     run.push(b, Some(Pid(2)))?;
     let mut chain = Chain::of_base(Base::empty(alloc));
-    if chain.prepend(run).is_err() {
-        return Err(PushError::NoMemory);
-    }
+    put_in_front(&mut chain, run)?;
     let entries = chain.entries(alloc)?;
-    match entries.as_slice() {
-        [(key, pid)] => Ok(key.as_bytes().first().map(|byte| (*byte, pid.0))),
-        _ => Ok(None),
-    }
-}
-
-#[test]
-fn a_page_gives_its_entries(rt: HostRuntime) -> Result<(), Fail> {
-    assert!(rt; entry_of_a_run(rt.alloc())? == Some((b'b', 2)));
+    assert!(rt; entries.len() == 1);
+    assert!(rt; entries[0].0.as_bytes() == b"b".as_slice() && entries[0].1 == Pid(2));
     Ok(())
 }
 
-// Whether the run has so many changes, of which a and b stand in these places.
+// Whether the run has this many changes, and a and b stand in these places.
 fn are_places(
     run: &Run<Pid, Global>,
     len: usize,
@@ -88,21 +78,21 @@ fn are_places(
     run.len() == len && run.place(b"a") == of_a && run.place(b"b") == of_b
 }
 
-// Whether a run has what was set, without a change, with one, which takes no list, and with two, set in the wrong order.
-fn changes_stay(alloc: Global) -> Result<bool, AllocError> {
-    let a = Key::from_bytes(alloc, b"a")?;
-    let b = Key::from_bytes(alloc, b"b")?;
-    let mut run = Run::empty(alloc);
-    let mut is_right = are_places(&run, 0, None, None);
-    run.set(b, Some(Pid(2)))?;
-    is_right &= are_places(&run, 1, None, Some(0));
-    run.set(a, None)?;
-    Ok(is_right && are_places(&run, 2, Some(0), Some(1)))
-}
-
+// Without a change, with one, which takes no list, and with two, set in the wrong order; and no more, where its last key is put after the others
+// again.
 #[test]
 fn runs_of_none_one_and_two_changes_have_what_was_set(rt: HostRuntime) -> Result<(), Fail> {
-    assert!(rt; changes_stay(rt.alloc())?);
+    let alloc = rt.alloc();
+    let a = Key::from_bytes(alloc, b"a")?;
+    let b = Key::from_bytes(alloc, b"b")?;
+    let again = Key::from_bytes(alloc, b"b")?;
+    let mut run = Run::empty(alloc);
+    assert!(rt; are_places(&run, 0, None, None));
+    run.set(b, Some(Pid(2)))?;
+    assert!(rt; are_places(&run, 1, None, Some(0)));
+    run.set(a, None)?;
+    assert!(rt; matches!(run.push(again, None), Err(PushError::OutOfOrder)));
+    assert!(rt; are_places(&run, 2, Some(0), Some(1)));
     Ok(())
 }
 
@@ -113,7 +103,18 @@ const OTHER: &[u8] = b"ag";
 
 const APART: &[u8] = b"z";
 
-// A page of so many runs, which name the two keys in turn, each with the number of its run, the oldest first.
+// Puts the run in front of the page. Where memory is refused the page stays as it was and the run comes back, so it is put there again.
+fn put_in_front(chain: &mut Chain<Pid, Global>, run: Run<Pid, Global>) -> Result<(), AllocError> {
+    let Err((_refused, run)) = chain.prepend(run) else {
+        return Ok(());
+    };
+    match chain.prepend(run) {
+        Ok(()) => Ok(()),
+        Err((refused, _run)) => Err(refused),
+    }
+}
+
+// A page of this many runs, which name the two keys in turn, each with the number of its run, the oldest first.
 fn page_of_runs(alloc: Global, count: u64) -> Result<Chain<Pid, Global>, PushError> {
     let mut chain = Chain::of_base(Base::empty(alloc));
     for number in 0..count {
@@ -121,9 +122,7 @@ fn page_of_runs(alloc: Global, count: u64) -> Result<Chain<Pid, Global>, PushErr
         let key = Key::from_bytes(alloc, bytes)?;
         let mut run = Run::with_capacity(alloc, 1)?;
         run.push(key, Some(Pid(number)))?;
-        if chain.prepend(run).is_err() {
-            return Err(PushError::NoMemory);
-        }
+        put_in_front(&mut chain, run)?;
     }
     Ok(chain)
 }
@@ -141,16 +140,18 @@ fn looked_up(chain: &Chain<Pid, Global>, key: &[u8]) -> Option<u64> {
     None
 }
 
-// Whether each of the two keys has the number of its newest run, and no run is looked at for the third. With 255 runs and more, a byte
-// has no number for the newest.
+// Whether the runs are all there, each of the two keys has the number of its newest one, and no run is looked at for the third. With 255
+// runs and more, a byte has no number for the newest.
 fn are_looked_up(alloc: Global, count: u64) -> Result<bool, PushError> {
     let chain = page_of_runs(alloc, count)?;
     let one = (0..count).rev().find(|number| number % 2 == 0);
     let other = (0..count).rev().find(|number| number % 2 == 1);
     let is_apart = chain.lent_for(APART).newest().is_none();
-    Ok(looked_up(&chain, ONE) == one && looked_up(&chain, OTHER) == other && is_apart)
+    let are_found = looked_up(&chain, ONE) == one && looked_up(&chain, OTHER) == other;
+    Ok(are_found && is_apart && chain.depth() == count)
 }
 
+// To be run with each allocation refused in turn too (`bench/README.md`).
 #[test]
 fn a_key_is_looked_for_in_the_runs_that_may_name_it(rt: HostRuntime) -> Result<(), Fail> {
     assert_eq!(rt; fingerprint_of(ONE), fingerprint_of(OTHER));
@@ -158,6 +159,73 @@ fn a_key_is_looked_for_in_the_runs_that_may_name_it(rt: HostRuntime) -> Result<(
     for count in [0, 1, 2, 3, 253, 254, 255, 256, 257, 300] {
         let are_found = are_looked_up(rt.alloc(), count)?;
         assert!(rt; are_found, "{count} runs");
+    }
+    Ok(())
+}
+
+// Its one entry was counted, and then the run that has it is taken off.
+#[test]
+fn a_page_without_its_run_may_be_empty(rt: HostRuntime) -> Result<(), Fail> {
+    let mut chain = page_of_runs(rt.alloc(), 1)?;
+    let count = chain.entries(rt.alloc())?.len();
+    chain.bound(EntryBounds {
+        fewest: count,
+        most: count,
+    });
+    let _run = chain.pop();
+    assert_eq!(rt; chain.fewest_entries(), 0);
+    Ok(())
+}
+
+// A page whose base has b, d and f with the pids 1, 2 and 3, under a run that puts c with 4 and deletes d.
+fn page_to_search(alloc: Global) -> Result<Chain<Pid, Global>, PushError> {
+    let mut base = BaseBuilder::with_capacity(alloc, 3, 3)?;
+    base.push(b"b", Pid(1))?;
+    base.push(b"d", Pid(2))?;
+    base.push(b"f", Pid(3))?;
+    let mut run = Run::with_capacity(alloc, 2)?;
+    let c = Key::from_bytes(alloc, b"c")?;
+    let d = Key::from_bytes(alloc, b"d")?;
+    run.push(c, Some(Pid(4)))?;
+    run.push(d, None)?;
+    let mut chain = Chain::of_base(base.finish());
+    put_in_front(&mut chain, run)?;
+    Ok(chain)
+}
+
+// A key, the pid of the page's last entry up to it, that of the first one above it, and how many keys of the base are below it.
+type Searched = (&'static [u8], Option<u64>, Option<u64>, usize);
+
+static SEARCHES: [Searched; 7] = [
+    (b"a", None, Some(1), 0),
+    (b"b", Some(1), Some(4), 0),
+    (b"c", Some(4), Some(3), 1),
+    (b"d", Some(4), Some(3), 1),
+    (b"e", Some(4), Some(3), 2),
+    (b"f", Some(3), None, 2),
+    (b"g", Some(3), None, 3),
+];
+
+fn pid_of(found: Option<(&[u8], &Pid)>) -> Option<u64> {
+    let (_, pid) = found?;
+    Some(pid.0)
+}
+
+// Whether the searches find this. The base has three keys, so two comparisons are enough there.
+fn is_found(chain: &Chain<Pid, Global>, wanted: &Searched) -> bool {
+    let mut probes = Probes::new();
+    let below = lower(chain.base(), wanted.0, &mut probes);
+    let is_by_halves = probes.count() <= 2;
+    let up_to = pid_of(floor(chain, wanted.0, &mut probes));
+    let next = pid_of(above(chain, wanted.0, &mut probes));
+    is_by_halves && up_to == wanted.1 && next == wanted.2 && below == wanted.3
+}
+
+#[test]
+fn entries_next_to_a_key_are_found_by_halves(rt: HostRuntime) -> Result<(), Fail> {
+    let chain = page_to_search(rt.alloc())?;
+    for wanted in &SEARCHES {
+        assert!(rt; is_found(&chain, wanted), "{}", wanted.0[0]);
     }
     Ok(())
 }
@@ -191,14 +259,6 @@ fn give_up(rt: &impl Abort, table: &mut Table<u64, Global>, pid: u64) -> u64 {
     page
 }
 
-fn has_page(table: &Table<u64, Global>, pid: u64, page: u64) -> bool {
-    table.get(pid).copied() == Some(page)
-}
-
-fn has_no_place(table: &Table<u64, Global>, pid: u64) -> bool {
-    !table.is_used(pid) && table.get(pid).is_none() && table.logged(pid) == Logged::No
-}
-
 #[test]
 fn near_and_far_pids_have_their_own_places(rt: HostRuntime) -> Result<(), Fail> {
     let mut table = Table::new(rt.alloc());
@@ -207,17 +267,18 @@ fn near_and_far_pids_have_their_own_places(rt: HostRuntime) -> Result<(), Fail> 
         settle(&rt, &mut table, pid, pid / 2)?;
     }
     for pid in pids {
-        assert!(rt; has_page(&table, pid, pid / 2));
+        assert!(rt; table.get(pid).copied() == Some(pid / 2));
     }
     for pid in [1, 4, 6, (1 << 40) - 1, (1 << 40) + 1, u64::MAX - 1] {
-        assert!(rt; has_no_place(&table, pid));
+        assert!(rt; !table.is_used(pid) && table.get(pid).is_none());
+        assert!(rt; table.logged(pid) == Logged::No);
     }
     assert_eq!(rt; give_up(&rt, &mut table, 1 << 40), 1 << 39);
-    assert!(rt; has_page(&table, 5, 2));
+    assert!(rt; table.get(5).copied() == Some(2));
     Ok(())
 }
 
-// Whether these are the pids that are drawn next, so many.
+// Whether these are the pids that are drawn next.
 fn are_drawn(table: &mut Table<u64, Global>, pids: &[u64]) -> Result<bool, AllocError> {
     let drawn = table.fresh(pids.len())?;
     Ok(drawn.as_slice() == pids)
@@ -240,26 +301,14 @@ fn the_least_free_pids_are_drawn(rt: HostRuntime) -> Result<(), Fail> {
     Ok(())
 }
 
-// Whether the table gives just these two pids.
-fn pids_are(table: &Table<u64, Global>, pids: [u64; 2]) -> bool {
-    let mut all = table.pids();
-    all.next() == Some(pids[0]) && all.next() == Some(pids[1]) && all.next().is_none()
-}
-
-// Whether the page of this pid alone is at home.
-fn is_alone_at_home(table: &Table<u64, Global>, pid: u64) -> bool {
-    let mut home = table.home_pids();
-    home.next() == Some(pid) && home.next().is_none()
-}
-
 #[test]
 fn a_table_lists_its_pids(rt: HostRuntime) -> Result<(), Fail> {
     let mut table = Table::new(rt.alloc());
     settle(&rt, &mut table, 9, 1)?;
     settle(&rt, &mut table, 5, 2)?;
-    assert!(rt; pids_are(&table, [5, 9]));
+    assert!(rt; table.pids().eq([5, 9]));
     assert_eq!(rt; take_out(&rt, &mut table, 9), 1);
-    assert!(rt; is_alone_at_home(&table, 5));
+    assert!(rt; table.home_pids().eq([5]));
     Ok(())
 }
 

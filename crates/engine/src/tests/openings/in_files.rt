@@ -35,11 +35,11 @@ where
     R::File: LockFile,
 {
     let alloc = rt.alloc();
-    let told = match open_or_create(rt, crew, path, settings) {
+    let wanted = match open_or_create(rt, crew, path, settings) {
         Ok(mut store) => play_tried(rt, crew, alloc, &mut store, words, Tries::Once)?,
         Err(fault) => format!(in alloc; "{fault}")?,
     };
-    assert_eq!(rt; told.as_str(), right);
+    assert_eq!(rt; wanted.as_str(), right);
     Ok(())
 }
 
@@ -98,8 +98,8 @@ where
     let Ok(mut store) = Store::open(rt, rt.alloc(), disk, ALONE) else {
         return Err(Fail::new("no store"));
     };
-    let told = play(rt, rt.alloc(), &mut store, &["a=2", "flush"])?;
-    assert_eq!(rt; told.as_str(), "R; 1: 9 Device");
+    let wanted = play(rt, rt.alloc(), &mut store, &["a=2", "flush"])?;
+    assert_eq!(rt; wanted.as_str(), "R; 1: 9 Device");
     let reason = store
         .disk()
         .last_error()

@@ -1,15 +1,16 @@
 //! Batches that several work at once, as a gate shows that holds pieces; and long runs by a seed, whose answers and bytes are the same for
 //! every crew, in whatever order the pieces are drawn.
 use crate::store::Store;
-use crate::tests::batches::drawn::{draw, drawn_command, next_number};
+use crate::tests::batches::drawn::{drawn_command, next_draw, next_number};
 use crate::tests::harness::crews::ALONE;
 use crate::tests::harness::shown::write_replies;
+use crate::tests::harness::steps::play;
 use crate::tests::harness::stores::{new_store, opened};
 use crate::tests::harness::words::{FIVE_PUTS, S, SEVENTEEN_PUTS, commands};
 use crate::tests::rounds::held_pieces::{Hold, Holding};
 use crew::{Crew, Gate, NoGate};
 use flush_log::MemDisk;
-use keys::{Command, Fault, Settings};
+use keys::{Fault, Settings};
 use std::alloc::{AllocError, Global};
 use std::test::Fail;
 use std::thread;
@@ -139,28 +140,16 @@ static HELD_ROWS: [HeldRow; 8] = [
     },
 ];
 
-// What the batch of the row is answered, with this gate.
-fn held_replies(
-    rt: &(impl Threads + Sync),
-    alloc: Global,
-    row: &HeldRow,
-    gate: &Holding,
-) -> Result<String, Fault> {
-    let mut store = new_store(alloc, EIGHT_SEGMENTS)?;
-    let before = commands(alloc, row.before)?;
-    store.batch(rt, ALONE, &NoGate, &before)?;
-    let batch = commands(alloc, row.batch)?;
-    let replies = store.batch(rt, row.crew, gate, &batch)?;
-    let mut text = String::new(alloc);
-    write_replies(&mut text, &replies)?;
-    Ok(text)
-}
-
-// Whether the batch of the row is answered as told, and its pieces were entered as told.
+// Whether the batch of the row is answered so, and its pieces were entered so.
 fn is_answered(rt: &(impl Threads + Sync), alloc: Global, row: &HeldRow) -> Result<bool, Fault> {
     let gate = Holding::new(row.hold, row.crew.grain);
-    let replies = held_replies(rt, alloc, row, &gate)?;
-    Ok(replies.as_str() == row.replies && gate.is_right())
+    let mut store = new_store(alloc, EIGHT_SEGMENTS)?;
+    play(rt, alloc, &mut store, &[row.before])?;
+    let batch = commands(alloc, row.batch)?;
+    let replies = store.batch(rt, row.crew, &gate, &batch)?;
+    let mut text = String::new(alloc);
+    write_replies(&mut text, &replies)?;
+    Ok(text.as_str() == row.replies && gate.is_right())
 }
 
 // A body that works all pieces in the caller's thread, hands them out beforehand, or enters none, one twice or another one is seen here; and
@@ -193,16 +182,7 @@ impl Gate for Swaying {
     }
 }
 
-fn drawn_batch(alloc: Global, state: &mut u64) -> Result<Vec<Command<Global>>, Fault> {
-    let mut batch = Vec::new(alloc);
-    for _place in 0..next_number(state) % 48 {
-        let command = drawn_command(alloc, draw(state, 12))?;
-        batch.push(command)?;
-    }
-    Ok(batch)
-}
-
-// A drawn batch, and what it is answered, behind the others.
+// A drawn batch, and what it is answered, after the others.
 fn answer_drawn(
     rt: &(impl Threads + Sync),
     alloc: Global,
@@ -212,7 +192,11 @@ fn answer_drawn(
     state: &mut u64,
     text: &mut String,
 ) -> Result<(), Fault> {
-    let batch = drawn_batch(alloc, state)?;
+    let mut batch = Vec::new(alloc);
+    for _place in 0..next_number(state) % 48 {
+        let command = drawn_command(alloc, next_draw(state, 12))?;
+        batch.push(command)?;
+    }
     let replies = store.batch(rt, crew, gate, &batch)?;
     write_replies(text, &replies)?;
     Ok(())
@@ -267,19 +251,6 @@ fn run_by(
     Ok((text, store.disk().bytes().to_vec(alloc)?))
 }
 
-// Whether the crew answers the same, and leaves the same bytes.
-fn is_same(
-    rt: &(impl Threads + Sync),
-    alloc: Global,
-    crew: Crew,
-    seed: u64,
-    answers: &str,
-    bytes: &[u8],
-) -> Result<bool, Fault> {
-    let found = run_by(rt, alloc, crew, seed)?;
-    Ok(found.0.as_str() == answers && found.1.as_slice() == bytes)
-}
-
 // Whether both slots say that the log is of version 2, and the first one that it was cleaned.
 fn is_upgraded_and_cleaned(bytes: &[u8]) -> bool {
     bytes.get(175) == Some(&2) && bytes.get(239) == Some(&2) && bytes.get(151) > Some(&0)
@@ -297,7 +268,9 @@ fn every_crew_answers_and_writes_the_same(rt: HostRuntime) -> Result<(), Fail> {
         for workers in [1, 2, 3, 7, 64] {
             for grain in [1, 2, 64] {
                 let crew = Crew { workers, grain };
-                let is_same = is_same(&rt, rt.alloc(), crew, seed, answers.as_str(), &bytes)?;
+                let found = run_by(&rt, rt.alloc(), crew, seed)?;
+                let is_same = found.0.as_str() == answers.as_str()
+                    && found.1.as_slice() == bytes.as_slice();
                 assert!(rt; is_same, "seed {seed}, {crew:?}");
             }
         }

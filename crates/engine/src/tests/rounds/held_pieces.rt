@@ -76,7 +76,7 @@ impl Holding {
         self.late.fetch_add(1, Ordering::SeqCst);
     }
 
-    // Whether each piece was entered as often as told, none was held in vain, and no job was worked before its piece was entered.
+    // Whether each piece was entered as often as it is to be, none was held in vain, and no job was worked before its piece was entered.
     pub(crate) fn is_right(&self) -> bool {
         for piece in 0..5usize {
             if self.times(piece) != self.hold.entered[piece] {
@@ -210,7 +210,7 @@ fn numbers(alloc: Global, end: u64) -> Result<Vec<u64>, AllocError> {
     Ok(numbers)
 }
 
-// Whether the round of the row gives what was made of its jobs in their order, and its pieces were entered as told.
+// Whether the round of the row gives what was made of its jobs in their order, and its pieces were entered so.
 fn is_worked(
     rt: &(impl Threads + Sync),
     alloc: Global,
