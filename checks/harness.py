@@ -19,10 +19,11 @@ MEMORY = Path("/dev/shm")
 
 @dataclass(frozen=True)
 class Programs:
-    """The programs that are looked at: the store's own, and those of the crates' tests."""
+    """The programs that are looked at: the store's own, those of the crates' tests, and the folder of the examples' own."""
 
     store: Path
     tests: dict[str, Path] = field(default_factory=dict)
+    examples: Path = Path("examples/out")
 
 
 @dataclass(frozen=True)
