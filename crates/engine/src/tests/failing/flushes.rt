@@ -159,6 +159,30 @@ const REFUSED_STEPS: [&[&str]; 5] = [
     &["flush", "a"],
 ];
 
+// Whether the store refuses these steps as one that has failed.
+fn is_refused(
+    rt: &(impl Threads + Sync),
+    alloc: Global,
+    store: &mut Store<FailingDisk>,
+    steps: &[&str],
+) -> Result<bool, AllocError> {
+    Ok(play(rt, alloc, store, steps)?.as_str() == "0: 8 Failed")
+}
+
+// Whether it refuses a batch, a flush and an upgrade, and does no steps.
+fn has_failed(
+    rt: &(impl Threads + Sync),
+    alloc: Global,
+    store: &mut Store<FailingDisk>,
+) -> Result<bool, AllocError> {
+    let is_batch_refused = matches!(store.batch(rt, ALONE, &NoGate, &[]), Err(Fault::Failed));
+    let is_flush_refused = store.flush(rt, ALONE) == Err(Fault::Failed);
+    let is_upgrade_refused = store.upgrade(rt, ALONE) == Err(Fault::Failed);
+    let answer = play(rt, alloc, store, &[])?;
+    let is_known = store.has_failed() && answer.is_empty();
+    Ok(is_batch_refused && is_flush_refused && is_upgrade_refused && is_known)
+}
+
 // Looks at a store after a call in its flush has failed: it answers nothing but look-ups of ranges and `verify`, and calls the disk no more.
 fn look_at_failed(
     rt: &(impl Abort + Threads + Sync),
@@ -167,14 +191,9 @@ fn look_at_failed(
     store: &mut Store<FailingDisk>,
 ) -> Result<(), Fault> {
     for steps in REFUSED_STEPS {
-        let answer = play(rt, alloc, store, steps)?;
-        assert_eq!(rt; answer.as_str(), "0: 8 Failed");
+        assert!(rt; is_refused(rt, alloc, store, steps)?);
     }
-    assert!(rt; play(rt, alloc, store, &[])?.is_empty());
-    assert!(rt; matches!(store.batch(rt, ALONE, &NoGate, &[]), Err(Fault::Failed)));
-    assert!(rt; store.has_failed());
-    assert!(rt; store.flush(rt, ALONE) == Err(Fault::Failed));
-    assert!(rt; store.upgrade(rt, ALONE) == Err(Fault::Failed));
+    assert!(rt; has_failed(rt, alloc, store)?);
     let mut text = String::new(alloc);
     write_rows(&mut text, store.prefix(b""))?;
     assert_eq!(rt; text.as_str(), row.pairs);
