@@ -5,6 +5,8 @@
 #[cfg(test)]
 mod at_limits;
 #[cfg(test)]
+mod back_rows;
+#[cfg(test)]
 mod bases;
 #[cfg(test)]
 mod board_rows;
@@ -91,5 +93,5 @@ pub use crew::{Crew, Gate, NoGate};
 pub use flush_log::{
     CrashDisk, Disk, DiskFault, Failing, FaultDisk, FileDisk, Fill, LockFile, MemDisk,
 };
-pub use scan::Rows;
+pub use scan::{Rows, RowsBack};
 pub use verify::Report;

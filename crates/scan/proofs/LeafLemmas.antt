@@ -30,7 +30,7 @@ itself k = rw (order_itself k) refl
 pub above_not_below : (k j : List ℕ) → order k j ≡ Less → is_below j k ≡ false
 above_not_below k j l = rw (total.antisymm j k, l) refl
 
-passed_by : (b : Bool) (g k e : List ℕ) → is_below g e ≡ b → is_below k g ≡ true → is_below k e ≡ false → b ≡ false
+pub passed_by : (b : Bool) (g k e : List ℕ) → is_below g e ≡ b → is_below k g ≡ true → is_below k e ≡ false → b ≡ false
 passed_by true g k e b p n = absurd (let t : is_below k e ≡ true = rw (total.trans k g e (less_by (order k g) p) (less_by (order g e) b)) refl in cc)
 passed_by false g k e b p n = refl
 
