@@ -17,10 +17,17 @@ const SHALLOW: [&str; 3] = [
     "fa=3 -g",
 ];
 
-// One leaf, with a run by each of these where it may have sixteen: a=6 ab=2 d=7 e=9 are left.
-const DEEP: [&str; 12] = [
+// One leaf, which has a run by each of these: a=6 ab=2 d=7 e=9 are left.
+const RUNS: [&str; 12] = [
     "a=1 c=2", "b=3", "-a", "c=4", "d=5 ab=2", "a=6", "-b", "-d e=8", "d=7", "b=8", "-c e=9", "-b",
 ];
+
+const DEEP: Settings = Settings {
+    fan: 8,
+    chain: 16,
+    seg_size: 512,
+    ..S
+};
 
 fn store_of(
     rt: &(impl Threads + Sync),
@@ -107,7 +114,7 @@ fn are_reversed(alloc: Global, store: &Store<MemDisk<Global>>, lo: &str) -> Resu
 #[test]
 fn they_are_the_rows_in_key_order_reversed(rt: HostRuntime) -> Result<(), Fail> {
     let shallow = store_of(&rt, rt.alloc(), S, &SHALLOW)?;
-    let deep = store_of(&rt, rt.alloc(), Settings { chain: 16, ..S }, &DEEP)?;
+    let deep = store_of(&rt, rt.alloc(), DEEP, &RUNS)?;
     let empty = new_store(rt.alloc(), S)?;
     for lo in &BOUNDS {
         for store in [&shallow, &deep, &empty] {

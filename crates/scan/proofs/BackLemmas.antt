@@ -191,6 +191,41 @@ module _ {V : Type 0} where
   pub no_place : (es : List (List ℕ × V)) (count : ℕ) → min count (length es) ≡ 0 → take count es ≡ []
   no_place es count e = sym (take_min count es) ∙ ap (λ (n : ℕ). take n es) e
 
+  pub none_taken : (es : List (List ℕ × V)) → take 0 es ≡ []
+  none_taken [] = refl
+  none_taken (e ∷ es) = refl
+
+  one_more_value : (es : List (List ℕ × V)) (at : ℕ) (v : V) → slice_get (values_of es) at ≡ Some v → values_of (take at es) ++ v ∷ [] ≡ values_of (take (suc at) es)
+  one_more_value [] at v h = absurd (cc)
+  one_more_value (e ∷ es) zero v h = let s : v ≡ e.1 = cc in ap (λ (b : V). b ∷ []) s
+  one_more_value (e ∷ es) (suc at) v h = ap (λ (x : List V). e.1 ∷ x) (one_more_value es at v h)
+
+  -- the last value of so many first pairs
+  pub last_value : (es : List (List ℕ × V)) (count at : ℕ) (v : V) → slice_get (values_of es) at ≡ Some v → at + 1 ≡ min count (length es) → values_of (take count es) ≡ values_of (take at es) ++ v ∷ []
+  last_value es count at v h e =
+      let next : suc at ≡ min count (length es) = omega (arith, e) in
+      sym (one_more_value es at v h ∙ ap (λ (n : ℕ). values_of (take n es)) next ∙ ap (λ (x : List (List ℕ × V)). values_of x) (take_min count es))
+
+-- ---- children
+
+of_nothing : (n : ℕ) → ◌≡◌ {A = List (List ℕ × ℕ)} (take n []) []
+of_nothing zero = refl
+of_nothing (suc n) = refl
+
+children_by : (b : Bool) (hi : Option (List ℕ)) (n : ℕ) (e : List ℕ × ℕ) (es : List (List ℕ × ℕ)) → (b ≡ false → (n ≡ 0) × (before hi es ≡ [])) → take n es ≡ before hi es → take (max (cond b 1 0 + n) 1) (e ∷ es) ≡ e ∷ before hi es
+children_by true hi n e es z ih = let more : max (1 + n) 1 ≡ suc n = omega arith in ap (λ (i : ℕ). take i (e ∷ es)) more ∙ ap (λ (x : List (List ℕ × ℕ)). e ∷ x) ih
+children_by false hi n e es z ih =
+    let none : n ≡ 0 = (z refl).0 in
+    ap (λ (i : ℕ). take (max (0 + i) 1) (e ∷ es)) none ∙ ap (λ (x : List (List ℕ × ℕ)). e ∷ x) (none_taken es ∙ sym (z refl).1)
+
+-- the children that may have keys before an end are so many, and one at least
+pub children_taken : (hi : Option (List ℕ)) (es : List (List ℕ × ℕ)) (n : ℕ) → IsRising es → n ≡ count_before hi (keys_of es) → take (max n 1) es ≡ children_before hi es
+unfolding IsStrictlySortedBy
+children_taken hi [] n r h = of_nothing (max n 1)
+children_taken hi (e ∷ es) n r h =
+    ap (λ (i : ℕ). take (max i 1) (e ∷ es)) (h ∙ sum_by-cons (λ k. cond (is_before hi k) 1 0) e.0 (keys_of es))
+    ∙ children_by (is_before hi e.0) hi (count_before hi (keys_of es)) e es (λ m. let a = none_before hi e.0 es m r.0 in (none_counted hi es a, passes_none (λ f. is_before hi f.0) es a)) (take-count_before hi es r.1)
+
 -- all keys are before no end
 pub all_before : (ks : List (List ℕ)) → length ks ≡ count_before None ks
 all_before [] = refl

@@ -22,7 +22,7 @@ use Rattle.index_page.proofs.RangeLemmas.{less_through}
 use Rattle.scan.specs.Back.{before, count_before, changes_before, EndsWith, IsLastSaid, HasBehind, ArePairsLast}
 use Rattle.scan.specs.Leaf.{from, behind}
 use Rattle.scan.specs.Merge.{IsMerge}
-use Rattle.scan.proofs.BackLemmas.{each, passes_all, above_through, last_above, none_above_greater, none_from_greater, before_last, none_above_last, value_at_last, from_greatest, from_last, parted, place_before, last_place, no_place}
+use Rattle.scan.proofs.BackLemmas.{each, passes_all, above_through, last_above, none_above_greater, none_from_greater, before_last, none_above_last, value_at_last, from_greatest, from_last, parted, place_before, last_place, no_place, none_taken}
 use Rattle.scan.proofs.LeafLemmas.{itself, above_not_below, from-none}
 use Rattle.scan.proofs.MergeLemmas.{value_at-asserted}
 use Rattle.scan.proofs.MergeSteps.{front_item, all_behind, merge_again}
@@ -30,6 +30,16 @@ use Rattle.scan.proofs.PassingLemmas.{passing-with_run, passing-said_by, said_by
 
 abbrev Changes : Type 0 → Type 0
 Changes V = List (List ℕ × Option V)
+
+-- ---- keys
+
+below_by : (o : Ordering) (k j : List ℕ) → order j k ≡ o → is_eq o ≡ false → is_below k j ≡ false → is_below j k ≡ true
+below_by Less k j h n a = rw h refl
+below_by Equal k j h n a = absurd (cc)
+below_by Greater k j h n a = absurd (let t : is_below k j ≡ true = rw (flipped_greater j k h) refl in cc)
+
+below_through : (i j k : List ℕ) → order i j ≡ Less → is_below j k ≡ true → is_below i k ≡ true
+below_through i j k l b = ap is_lt (total.trans i j k l (less_by (order j k) b))
 
 module _ {V : Type 0} where
   -- ---- a list that is passed
@@ -42,11 +52,6 @@ module _ {V : Type 0} where
 
   pub value_at_end : (e : List ℕ × V) (es : List (List ℕ × V)) → EndsWith e es → IsRising es → value_at e.0 es ≡ Some e.1
   value_at_end e es n r = ap (λ (x : List (List ℕ × V)). value_at e.0 x) n.parts ∙ value_at_last n.rest e.0 e.1 (ended e es n r)
-
-  below_by : (o : Ordering) (k j : List ℕ) → order j k ≡ o → is_eq o ≡ false → is_below k j ≡ false → is_below j k ≡ true
-  below_by Less k j h n a = rw h refl
-  below_by Equal k j h n a = absurd (cc)
-  below_by Greater k j h n a = absurd (let t : is_below k j ≡ true = rw (flipped_greater j k h) refl in cc)
 
   -- with its last key as k
   pub passed_back : (k j : List ℕ) (v : V) (rest old : List (List ℕ × V)) (o : Ordering) → rest ++ (j, v) ∷ [] ≡ old → IsRising old → o ≡ order j k → true ≡ is_eq o → rest ≡ before (Some k) old
@@ -68,9 +73,6 @@ module _ {V : Type 0} where
   -- a pair that is there isn't above k, where none is
   pub not_above : (k j : List ℕ) (v : V) (es : List (List ℕ × V)) → behind k es ≡ [] → value_at j es ≡ Some v → is_below k j ≡ false
   not_above k j v es n h = not_above_by (is_below k j) k j v es refl n h
-
-  below_through : (i j k : List ℕ) → order i j ≡ Less → is_below j k ≡ true → is_below i k ≡ true
-  below_through i j k l b = ap is_lt (total.trans i j k l (less_by (order j k) b))
 
   -- and else
   pub kept_back : (k j : List ℕ) (v : V) (rest old : List (List ℕ × V)) (o : Ordering) → rest ++ (j, v) ∷ [] ≡ old → IsRising old → behind k old ≡ [] → o ≡ order j k → false ≡ is_eq o → old ≡ before (Some k) old
@@ -125,6 +127,7 @@ module _ {V : Type 0} where
       ∙ ap (λ (x : List (List ℕ × V)). with_run rest cs ++ with_run x (from k cs)) last
       ∙ ap (λ (x : Changes V). with_run rest cs ++ with_run ((k, v) ∷ []) x) f
 
+module _ {V : Type 0} where
   -- ---- the last of what runs say
 
   said_at : (q : List ℕ) (l : Changes V) (ls : List (Changes V)) → IsRising l → AllByRecursion IsRising ls → value_at q (said_by (l ∷ ls)) ≡ said_or (option_map Some (value_at q l)) (value_at q (said_by ls))
@@ -154,10 +157,10 @@ module _ {V : Type 0} where
   abbrev pub AreEmpty : List (Changes V) → Type 0
   AreEmpty runs = AllByRecursion (λ run. run ≡ []) runs
 
-  module _ {X : Type 0} (f : X → List ℕ × Option V) (runs : List (Changes V)) (at : ℕ) (l : Changes V) (p : 0 < at) (w : at ≤ length runs) (is : l ≡ slice_index_or runs (at - 1) l) where
-    pub found_same : (x : Option X) → l ≡ [] → MatchOption x (AreEmpty (drop at runs)) (λ c. IsLastSaid (f c) (drop at runs)) → MatchOption x (AreEmpty (drop (at - 1) runs)) (λ c. IsLastSaid (f c) (drop (at - 1) runs))
-    found_same None e h = subst AreEmpty (sym (front_item runs at l p w is)) (e, h)
-    found_same (Some c) e i =
+  module _ (runs : List (Changes V)) (at : ℕ) (l : Changes V) (p : 0 < at) (w : at ≤ length runs) (is : l ≡ slice_index_or runs (at - 1) l) where
+    pub found_same : {X : Type 0} (f : X → List ℕ × Option V) (x : Option X) → l ≡ [] → MatchOption x (AreEmpty (drop at runs)) (λ c. IsLastSaid (f c) (drop at runs)) → MatchOption x (AreEmpty (drop (at - 1) runs)) (λ c. IsLastSaid (f c) (drop (at - 1) runs))
+    found_same f None e h = subst AreEmpty (sym (front_item runs at l p w is)) (e, h)
+    found_same f (Some c) e i =
         subst (λ (ls : List (Changes V)). IsLastSaid (f c) ls) (sym (front_item runs at l p w is))
         (record {
           said = ap (λ (x : Changes V). value_at (f c).0 (said_by (x ∷ drop at runs))) e ∙ i.said;
@@ -242,6 +245,14 @@ module _ {V : Type 0} where
 
   pub nothing_taken_back : (es : List (List ℕ × V)) (left : ℕ) (cs : Changes V) → min left (length es) ≡ 0 → ArePairsLast cs (take left es) → with_run (take left es) cs ≡ []
   nothing_taken_back es left cs e n = let none = no_place es left e in ap (λ (x : List (List ℕ × V)). with_run x cs) none ∙ ap (λ (x : Changes V). with_run [] x) (n.none none)
+
+  -- where nothing is left, all of it is below a key, and nothing above
+  pub nothing_there : (es : List (List ℕ × V)) (left : ℕ) (k : List ℕ) → min left (length es) ≡ 0 → (behind k (take left es) ≡ []) × (take 0 es ≡ before (Some k) (take left es))
+  nothing_there es left k e =
+      let none = no_place es left e in (
+        ap (λ (x : List (List ℕ × V)). behind k x) none,
+        none_taken es ∙ sym (ap (λ (x : List (List ℕ × V)). before (Some k) x) none),
+      )
 
   pub item_at : (es : List (List ℕ × V)) (at : ℕ) (j : List ℕ) → slice_get (keys_of es) at ≡ Some j → (v : V) × (slice_get (values_of es) at ≡ Some v)
   item_at [] at j h = absurd (cc)

@@ -34,6 +34,20 @@ module _ {X : Type 0} where
   filter-both p q [] = refl
   filter-both p q (x ∷ xs) = both_by (p x) q x (filter p xs) ∙ ap (λ (ys : List X). cond (p x && q x) (x ∷ ys) ys) (filter-both p q xs)
 
+-- ---- keys up to one
+
+before_lower : (hi : Option (List ℕ)) (k e : List ℕ) → is_before hi k ≡ true → is_below k e ≡ false → is_before hi e ≡ true
+before_lower None k e b n = refl
+before_lower (Some end) k e b n = above_through (order e k) e k end refl n b
+
+alike_by : (b : Bool) (hi : Option (List ℕ)) (k e : List ℕ) → is_below k e ≡ b → is_before hi k ≡ true → (is_before hi e && b) ≡ false → is_before hi e ≡ not b
+alike_by true hi k e h o n = sym (and_true (is_before hi e)) ∙ n
+  where
+    and_true : (c : Bool) → (c && true) ≡ c
+    and_true true = refl
+    and_true false = refl
+alike_by false hi k e h o n = before_lower hi k e o h
+
 module _ {V : Type 0} where
   -- ---- what a leaf's lists name
 
@@ -59,18 +73,6 @@ module _ {V : Type 0} where
 
   abbrev Upto : List ℕ → List (List ℕ × V) → List (List ℕ × V)
   Upto k es = filter (λ e. not (is_below k e.0)) es
-
-  before_lower : (hi : Option (List ℕ)) (k e : List ℕ) → is_before hi k ≡ true → is_below k e ≡ false → is_before hi e ≡ true
-  before_lower None k e b n = refl
-  before_lower (Some end) k e b n = above_through (order e k) e k end refl n b
-
-  alike_by : (b : Bool) (hi : Option (List ℕ)) (k e : List ℕ) → is_below k e ≡ b → is_before hi k ≡ true → (is_before hi e && b) ≡ false → is_before hi e ≡ not b
-  alike_by true hi k e h o n = sym (and_true (is_before hi e)) ∙ n
-    where
-      and_true : (c : Bool) → (c && true) ≡ c
-      and_true true = refl
-      and_true false = refl
-  alike_by false hi k e h o n = before_lower hi k e o h
 
   upto-before : (k : List ℕ) (hi : Option (List ℕ)) (es : List (List ℕ × V)) → is_before hi k ≡ true → behind k (before hi es) ≡ [] → before hi es ≡ Upto k es
   upto-before k hi es o n =
@@ -122,23 +124,23 @@ module _ {V : Type 0} where
       ∙ upto-floor k (entries_of p) (rising-entries_of p a)
       ∙ sym (upto-before k hi (entries_of p) n.own (none_past k hi p a n))
 
-  -- ---- the greatest key that lists name
-
   pub rising-before : (hi : Option (List ℕ)) (es : List (List ℕ × V)) → IsRising es → IsRising (before hi es)
   rising-before hi es r = rising-filtered (λ e. is_before hi e.0) es r
 
-module _ {V : Type 0} where
   own_by : (hi : Option (List ℕ)) (e : List ℕ × V) (es : List (List ℕ × V)) → EndsWith e (before hi es) → is_before hi e.0 ≡ true
   own_by hi e es n = (all_apart (λ f. is_before hi f.0 ≡ true) n.rest (e ∷ []) (subst (λ (x : List (List ℕ × V)). AllByRecursion (λ f. is_before hi f.0 ≡ true) x) n.parts (before_pass hi es))).1.0
 
-  abbrev Run : Type 0
-  Run = List (List ℕ × Option V)
+-- ---- the greatest key that lists name
 
+abbrev Run : Type 0 → Type 0
+Run V = List (List ℕ × Option V)
+
+module _ {V : Type 0} where
   module _ (hi : Option (List ℕ)) where
     -- a base alone
     pub base_names_none : (p : Layers V) (base : List (List ℕ × V)) (n : ℕ) → p.runs ≡ [] → base ≡ p.base → IsRising base → n ≡ count_before hi (keys_of base) → n ≡ 0 → NamesNone hi p
     base_names_none p base n e b r c z = record {
-      runs = subst (λ (x : List Run). AllByRecursion (λ run. before hi run ≡ []) x) (sym e) tt;
+      runs = subst (λ (x : List (Run V)). AllByRecursion (λ run. before hi run ≡ []) x) (sym e) tt;
       base = ap (λ (x : List (List ℕ × V)). before hi x) (sym b) ∙ sym (place_before hi base n r c) ∙ ap (λ (i : ℕ). take i base) z;
     }
 
@@ -149,40 +151,40 @@ module _ {V : Type 0} where
         let ends : EndsWith (k, i.0) (before hi base) = record { rest = take at base; parts = sym (one_more base at k i.0 h i.1 ∙ ap (λ (m : ℕ). take m base) (sym next) ∙ place_before hi base n r c) } in
         record {
           own = own_by hi (k, i.0) base ends;
-          runs = subst (λ (x : List Run). AllByRecursion (λ run. behind k (before hi run) ≡ []) x) (sym e) tt;
+          runs = subst (λ (x : List (Run V)). AllByRecursion (λ run. behind k (before hi run) ≡ []) x) (sym e) tt;
           base = ap (λ (x : List (List ℕ × V)). behind k (before hi x)) (sym b) ∙ none_above_end (k, i.0) (before hi base) ends (rising-before hi base r);
         }
 
-    abbrev With : Run → Layers V → Layers V
+    abbrev With : Run V → Layers V → Layers V
     With run below = record { runs = run ∷ below.runs; base = below.base }
 
     -- a run that names none before the end
-    pub run_names_none : (p below : Layers V) (run : Run) (X : Type 0) (f : X → List ℕ) (o : Option X) → p ≡ With run below → before hi run ≡ [] → MatchOption o (NamesNone hi below) (λ x. AreNamedUpTo (f x) hi below) → MatchOption o (NamesNone hi p) (λ x. AreNamedUpTo (f x) hi p)
+    pub run_names_none : (p below : Layers V) (run : Run V) (X : Type 0) (f : X → List ℕ) (o : Option X) → p ≡ With run below → before hi run ≡ [] → MatchOption o (NamesNone hi below) (λ x. AreNamedUpTo (f x) hi below) → MatchOption o (NamesNone hi p) (λ x. AreNamedUpTo (f x) hi p)
     run_names_none p below run X f None e z n = subst (λ (q : Layers V). NamesNone hi q) (sym e) (record { runs = (z, n.runs); base = n.base })
     run_names_none p below run X f (Some x) e z n =
-        subst (λ (q : Layers V). AreNamedUpTo (f x) hi q) (sym e) (record { own = n.own; runs = (ap (λ (r : Run). behind (f x) r) z, n.runs); base = n.base })
+        subst (λ (q : Layers V). AreNamedUpTo (f x) hi q) (sym e) (record { own = n.own; runs = (ap (λ (r : Run V). behind (f x) r) z, n.runs); base = n.base })
 
     -- one that does, beside the others
-    pub run_names_only : (p below : Layers V) (run : Run) (c : List ℕ × Option V) → p ≡ With run below → IsRising run → EndsWith c (before hi run) → NamesNone hi below → AreNamedUpTo c.0 hi p
+    pub run_names_only : (p below : Layers V) (run : Run V) (c : List ℕ × Option V) → p ≡ With run below → IsRising run → EndsWith c (before hi run) → NamesNone hi below → AreNamedUpTo c.0 hi p
     run_names_only p below run c e r ends n =
         subst (λ (q : Layers V). AreNamedUpTo c.0 hi q) (sym e)
         (record {
           own = own_by hi c run ends;
-          runs = (none_above_end c (before hi run) ends (rising-before hi run r), each (λ (l : Run) (z : before hi l ≡ []). ap (λ (x : Run). behind c.0 x) z) below.runs n.runs);
+          runs = (none_above_end c (before hi run) ends (rising-before hi run r), each (λ (l : Run V) (z : before hi l ≡ []). ap (λ (x : Run V). behind c.0 x) z) below.runs n.runs);
           base = ap (λ (x : List (List ℕ × V)). behind c.0 x) n.base;
         })
 
-    pub run_names_greater : (p below : Layers V) (run : Run) (c : List ℕ × Option V) (k : List ℕ) (o : Ordering) → p ≡ With run below → IsRising run → EndsWith c (before hi run) → AreNamedUpTo k hi below → o ≡ order c.0 k → false ≡ is_lt o → AreNamedUpTo c.0 hi p
+    pub run_names_greater : (p below : Layers V) (run : Run V) (c : List ℕ × Option V) (k : List ℕ) (o : Ordering) → p ≡ With run below → IsRising run → EndsWith c (before hi run) → AreNamedUpTo k hi below → o ≡ order c.0 k → false ≡ is_lt o → AreNamedUpTo c.0 hi p
     run_names_greater p below run c k o e r ends n q b =
         let not_below : is_below c.0 k ≡ false = ap is_lt (sym q) ∙ sym b in
         subst (λ (x : Layers V). AreNamedUpTo c.0 hi x) (sym e)
         (record {
           own = own_by hi c run ends;
-          runs = (none_above_end c (before hi run) ends (rising-before hi run r), each (λ (l : Run) (z : behind k (before hi l) ≡ []). none_above_greater k c.0 (before hi l) not_below z) below.runs n.runs);
+          runs = (none_above_end c (before hi run) ends (rising-before hi run r), each (λ (l : Run V) (z : behind k (before hi l) ≡ []). none_above_greater k c.0 (before hi l) not_below z) below.runs n.runs);
           base = none_above_greater k c.0 (before hi below.base) not_below n.base;
         })
 
-    pub run_names_lower : (p below : Layers V) (run : Run) (c : List ℕ × Option V) (k : List ℕ) (o : Ordering) → p ≡ With run below → IsRising run → EndsWith c (before hi run) → AreNamedUpTo k hi below → o ≡ order c.0 k → true ≡ is_lt o → AreNamedUpTo k hi p
+    pub run_names_lower : (p below : Layers V) (run : Run V) (c : List ℕ × Option V) (k : List ℕ) (o : Ordering) → p ≡ With run below → IsRising run → EndsWith c (before hi run) → AreNamedUpTo k hi below → o ≡ order c.0 k → true ≡ is_lt o → AreNamedUpTo k hi p
     run_names_lower p below run c k o e r ends n q b =
         let less : order c.0 k ≡ Less = sym q ∙ less_by o (sym b) in
         subst (λ (x : Layers V). AreNamedUpTo k hi x) (sym e)

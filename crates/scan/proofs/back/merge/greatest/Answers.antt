@@ -6,7 +6,7 @@ use Rattle.scan.proofs.back.merge.greatest.Goals as goal
 pub loop-at-preserved-in_default : goal.loop-at-preserved-in_default
 loop-at-preserved-in_default c = record {
   within = omega (arith, c.loop-at.invariant.within);
-  found = found_same (λ c. (c.0, option_copied c.1)) c.args.runs.now c.loop-at.at c.index-runs-at.result c.loop-at-test.true c.loop-at.invariant.within c.index-runs-at.is c.loop-at.greatest c.in_default.ensures c.loop-at.invariant.found;
+  found = found_same c.args.runs.now c.loop-at.at c.index-runs-at.result c.loop-at-test.true c.loop-at.invariant.within c.index-runs-at.is (λ c. (c.0, option_copied c.1)) c.loop-at.greatest c.in_default.ensures c.loop-at.invariant.found;
 }
 
 pub loop-at-preserved-in-None : goal.loop-at-preserved-in-None
