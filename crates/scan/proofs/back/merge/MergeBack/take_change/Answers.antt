@@ -14,10 +14,12 @@ invariant_of-self c =
 pub returns-in_err-left-in-Some : goal.returns-in_err-left-in-Some
 returns-in_err-left-in-Some c =
     let change : List ℕ × Option (List ℕ) = (c.in-Some.change.0, option_copied c.in-Some.change.1) in
-    rw (c.from_residual.ensures, ← c.self.view_is)
-    (refl, pairs_are_last change.0 _ _ (rising-take c.self.inside.left c.self.inside.base.now c.self.invariant.base)
-    (none_above_end change _ (record { rest = said_by c.self.inside.runs.items; parts = ap (λ x. changes_before (option_map (λ c. (c.0, option_copied c.1)) x) (said_by c.self.inside.runs.items)) c.in-Some.is }) c.self.invariant.changes)
-    c.in_err-left-in-Some.ensures)
+    rw (c.from_residual.ensures, ← c.self.view_is) (
+      refl,
+      pairs_are_last change.0 _ _ (rising-take c.self.inside.left c.self.inside.base.now c.self.invariant.base)
+          (none_above_end change _ (record { rest = said_by c.self.inside.runs.items; parts = ap (λ x. changes_before (option_map (λ c. (c.0, option_copied c.1)) x) (said_by c.self.inside.runs.items)) c.in-Some.is }) c.self.invariant.changes)
+          c.in_err-left-in-Some.ensures,
+    )
 
 pub returns : goal.returns
 returns c =
