@@ -1,7 +1,7 @@
 -- Lemmas on lists in key order of which the last pair comes first.
-use Rattle.std.specs.Prelude.{◌≡◌, ℕ, zero, suc, ◌+◌, ◌<◌, ◌≤◌, Bool, true, false, not, cond, min, max, List, [], ◌∷◌, ◌++◌, length, take, slice_get, Option, Some, None}
+use Rattle.std.specs.Prelude.{◌≡◌, ℕ, zero, suc, ◌+◌, Bool, true, false, not, cond, min, max, List, [], ◌∷◌, ◌++◌, length, take, slice_get, Option, Some, None}
 use Rattle.std.proofs.Common.{refl, sym, ap, ◌∙◌, subst, arith, append-nil, Ordering, Less, Equal, Greater}
-use Rattle.std.specs.Ordering.{is_lt, is_eq}
+use Rattle.std.specs.Ordering.{is_lt}
 use Rattle.std.specs.List.{AllByRecursion, filter}
 use Rattle.std.specs.List.Sorted.{IsStrictlySortedBy}
 use Rattle.std.specs.Map.{keys_of, values_of}
@@ -14,7 +14,7 @@ use Rattle.keys.specs.Range.{is_below, is_before}
 use Rattle.keys.proofs.Basics.{less_by}
 use Rattle.keys.proofs.MapLemmas.{total, IsBelowAll, same_key, order_itself, flipped_less, flipped_greater}
 use Rattle.index_page.proofs.ListLemmas.{all_keys_apart}
-use Rattle.scan.specs.Back.{before, count_before, children_before, EndsWith}
+use Rattle.scan.specs.Back.{before, count_before, children_before}
 use Rattle.scan.specs.Leaf.{from, behind}
 use Rattle.scan.proofs.LeafLemmas.{itself, above_not_below, passed_by, from-there}
 

@@ -13,7 +13,6 @@ use Rattle.keys.specs.OrderedMap.{value_at}
 use Rattle.keys.specs.Range.{is_below, is_before}
 use Rattle.keys.proofs.Basics.{less_by}
 use Rattle.keys.proofs.MapLemmas.{total, order_itself, same_key, flipped_greater}
-use Rattle.keys.proofs.RangeLemmas.{rising-filtered}
 use Rattle.delta_chain.specs.Layers.{Layers, said_or, with_run, entries_of, IsInOrder}
 use Rattle.delta_chain.specs.Merging.{pair_if, asserted, said_by}
 use Rattle.delta_chain.proofs.LayerLemmas.{value_at-with_run, rising-with_run}
@@ -21,11 +20,10 @@ use Rattle.delta_chain.proofs.Overlays.{rising-asserted}
 use Rattle.index_page.proofs.RangeLemmas.{less_through}
 use Rattle.scan.specs.Back.{before, count_before, changes_before, EndsWith, IsLastSaid, HasBehind, ArePairsLast}
 use Rattle.scan.specs.Leaf.{from, behind}
-use Rattle.scan.specs.Merge.{IsMerge}
-use Rattle.scan.proofs.BackLemmas.{each, passes_all, above_through, last_above, none_above_greater, none_from_greater, before_last, none_above_last, value_at_last, from_greatest, from_last, parted, place_before, last_place, no_place, none_taken}
-use Rattle.scan.proofs.LeafLemmas.{itself, above_not_below, from-none}
+use Rattle.scan.proofs.BackLemmas.{each, passes_all, last_above, none_above_greater, none_from_greater, before_last, none_above_last, value_at_last, from_greatest, from_last, parted, place_before, last_place, no_place, none_taken}
+use Rattle.scan.proofs.LeafLemmas.{above_not_below, from-none}
 use Rattle.scan.proofs.MergeLemmas.{value_at-asserted}
-use Rattle.scan.proofs.MergeSteps.{front_item, all_behind, merge_again}
+use Rattle.scan.proofs.MergeSteps.{front_item, all_behind}
 use Rattle.scan.proofs.PassingLemmas.{passing-with_run, passing-said_by, said_by-rises, rising-passing, value_at-passing, rising-base_of, passing-entries, rising-passing_all}
 
 abbrev Changes : Type 0 → Type 0

@@ -1,21 +1,19 @@
 -- Lemmas on the rows that a walk from the greatest key down gives.
-use Rattle.std.specs.Prelude.{◌≡◌, ℕ, zero, suc, ◌-◌, ◌<◌, pred, Bool, true, false, not, cond, ◌&&◌, List, [], ◌∷◌, ◌++◌, take, length, reverse, slice_get, Option, Some, None}
-use Rattle.std.proofs.Common.{refl, sym, ap, ◌∙◌, subst, arith, append_assoc, append-nil, Less}
+use Rattle.std.specs.Prelude.{◌≡◌, ℕ, zero, suc, ◌-◌, ◌<◌, Bool, true, false, not, cond, ◌&&◌, List, [], ◌∷◌, ◌++◌, take, length, reverse, slice_get, Option, Some, None}
+use Rattle.std.proofs.Common.{refl, sym, ap, ◌∙◌, subst, arith, append-nil}
 use Rattle.std.specs.List.{AllByRecursion, filter, take_while}
 use Rattle.std.specs.List.Sorted.{IsStrictlySortedBy}
-use Rattle.std.specs.Map.{keys_of}
-use Rattle.std.specs.Option.{option_copied}
 use Rattle.std.proofs.lemmas.List.{reverse-append}
 use Rattle.std.proofs.lemmas.Grind.{flat_map-append}
 use Rattle.std.proofs.lemmas.List.Sums.{take_while-cons}
-use Rattle.keys.specs.Order.{order, IsRising}
+use Rattle.keys.specs.Order.{IsRising}
 use Rattle.keys.specs.Range.{is_below, is_before, is_within, in_range}
 use Rattle.keys.proofs.RangeLemmas.{rising-filtered}
 use Rattle.delta_chain.specs.Layers.{Layers, entries_of}
 use Rattle.delta_chain.specs.Late.{Late, seen}
 use Rattle.delta_chain.proofs.LateLemmas.{entries-seen}
 use Rattle.index_page.specs.Page.{Page, entries}
-use Rattle.index_page.proofs.ListLemmas.{all-append, all-filter}
+use Rattle.index_page.proofs.ListLemmas.{all-append}
 use Rattle.mapping.specs.Levels.{levels_of, contents}
 use Rattle.mapping.specs.Proper.{AreLevels, HoldsLevels}
 use Rattle.mapping.specs.TreeInMemory.{TreeInMemory, tree_of}
@@ -26,7 +24,6 @@ use Rattle.scan.proofs.BackLemmas.{each, before_none, none_passes, passes_none, 
 use Rattle.scan.proofs.BackTree.{contents-before}
 use Rattle.scan.proofs.MergeLemmas.{none_below_empty, from-starts}
 use Rattle.scan.proofs.RowLemmas.{at_top, goes_on_some, row_given, end_reached, none_left, same_end}
-use Rattle.scan.proofs.TreeLemmas.{contents-rise}
 
 abbrev Pairs : Type 0
 Pairs = List (List ℕ × List ℕ)

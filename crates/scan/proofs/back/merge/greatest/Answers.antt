@@ -1,4 +1,4 @@
-use Rattle.std.proofs.Common.{arith, ◌-◌, ◌≡◌, [], drop}
+use Rattle.std.proofs.Common.{arith}
 use Rattle.std.specs.Option.{option_copied}
 use Rattle.scan.proofs.BackMerge.{found_same, found_only, found_newer, found_older}
 use Rattle.scan.proofs.back.merge.greatest.Goals as goal

@@ -1,4 +1,4 @@
-use Rattle.std.proofs.Common.{◌≡◌, ◌++◌, length}
+use Rattle.std.proofs.Common.{◌≡◌, length}
 use Rattle.scan.specs.Merge.{merged}
 use Rattle.scan.proofs.back.merge.last_pair.Given as goal
 

@@ -1,4 +1,4 @@
-use Rattle.std.proofs.Common.{◌≡◌, ◌+◌, ℕ, List, Option, arith, subst}
+use Rattle.std.proofs.Common.{◌≡◌, ◌+◌, Option, arith, subst}
 use Rattle.std.specs.Option.{option_copied}
 use Rattle.keys.specs.Bytes.{Bytes}
 use Rattle.scan.specs.Back.{EndsWith}

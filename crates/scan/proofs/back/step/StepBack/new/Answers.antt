@@ -1,4 +1,4 @@
-use Rattle.std.proofs.Common.{ap, ◌∙◌, take, ℕ}
+use Rattle.std.proofs.Common.{ap, ◌∙◌, take}
 use Rattle.std.specs.Map.{values_of}
 use Rattle.scan.proofs.BackLemmas.{children_taken}
 use Rattle.scan.proofs.back.step.StepBack.new.Goals as goal
