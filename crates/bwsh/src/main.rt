@@ -1,19 +1,19 @@
 //! `bwsh`: reads a batch file from standard input, runs it on a store, and prints what it answers.
 #![tactic(auto)]
 
-pub mod batch;
-pub mod batch_file;
-pub mod laws;
-pub mod line;
-pub mod number;
-pub mod options;
-pub mod program;
-pub mod session;
-pub mod show;
+mod batch;
+mod batch_file;
+mod laws;
+mod line;
+mod number;
+mod options;
+mod program;
+mod session;
+mod show;
 #[cfg(test)]
 mod tests;
-pub mod token;
-pub mod words;
+mod token;
+mod words;
 
 use crate::program::run_program;
 use std::process::ExitCode;
