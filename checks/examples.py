@@ -129,7 +129,7 @@ MODELS: dict[str, Callable[[], Events | People | Cache]] = {"events": Events, "p
 
 
 def played(name: str, restarts: list[int], commands: int):
-    """The model after so many commands; before those of these numbers a new session began."""
+    """The model after this many commands; before those of these numbers a new session began."""
     model = MODELS[name]()
     for number in range(commands):
         if number in restarts:
@@ -139,7 +139,7 @@ def played(name: str, restarts: list[int], commands: int):
 
 
 def run_killed(program: Path, path: Path, lines: Lines, stop: int | None) -> tuple[int, Lines]:
-    """Runs a session on these lines, and kills it once it has printed so many bytes. Its status, and the whole lines that it printed."""
+    """Runs a session on these lines, and kills it once it has printed this many bytes. Its status, and the whole lines that it printed."""
     source, out = path.with_suffix(".lines"), path.with_suffix(".out")
     source.write_bytes(text_of(lines))
     with open(source, "rb") as stdin, open(out, "wb+") as stdout:
@@ -168,7 +168,7 @@ class Store:
     restarts: list[int] = field(default_factory=list)
 
     def kill(self, count: int, share: float | None) -> tuple[str | None, bool]:
-        """Runs so many commands more, kills the session once it has printed this share of the answers, and looks at what comes back. What is
+        """Runs this many commands more, kills the session once it has printed this share of the answers, and looks at what comes back. What is
         wrong, and whether it ended before."""
         model = played(self.name, self.restarts, self.done)
         opened = model.opened()
@@ -183,10 +183,10 @@ class Store:
             return f"printed {difference(printed, due)}", status == 0
         return self.look(commands, max(len(printed) - len(opened), 0)), status == 0
 
-    def look(self, commands: list[Command], told: int) -> str | None:
-        """What is wrong with what comes back, after so many of these commands were answered: it is what the last that lasts left, or one further."""
+    def look(self, commands: list[Command], answered: int) -> str | None:
+        """What is wrong with what comes back, after this many of these commands were answered: it is what the last that lasts left, or one further."""
         ends = [0, *(at for at, command in enumerate(commands, 1) if command.lasts)]
-        last, further = (self.done + max(end for end in ends if end <= most) for most in (told, told + 1))
+        last, further = (self.done + max(end for end in ends if end <= most) for most in (answered, answered + 1))
         wrong = self.differs(last)
         if wrong is None:
             self.done = last
@@ -194,10 +194,10 @@ class Store:
         if further > last and self.differs(further) is None:
             self.done = further
             return None
-        return f"after {told} answers {wrong}"
+        return f"after {answered} answers {wrong}"
 
     def differs(self, done: int) -> str | None:
-        """How what comes back differs from what so many commands leave, if it does."""
+        """How what comes back differs from what this many commands leave, if it does."""
         model = played(self.name, self.restarts, done)
         look, opened = model.look(), model.opened()
         ran = run([self.program, self.path], text_of(look.lines), Limits(STACK))

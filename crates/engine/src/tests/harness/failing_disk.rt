@@ -9,7 +9,7 @@ use flush_log::{Disk, DiskFault};
 use keys::Fault;
 use std::alloc::{AllocError, Global};
 
-// A disk that keeps a list of its calls, of which the one with this number, counted from 1, fails and does nothing. Once it has had so many
+// A disk that keeps a list of its calls, of which the one with this number, counted from 1, fails and does nothing. Once it has had as many
 // as `damaged_after` says, its reads give zeros, and count no more.
 #[derive(Drop)]
 pub(crate) struct FailingDisk {
@@ -37,7 +37,7 @@ impl FailingDisk {
         })
     }
 
-    // The disk that is damaged after so many calls.
+    // The disk that is damaged after this many calls.
     pub(crate) fn damaged_after(self, calls: u64) -> FailingDisk {
         let mut disk = self;
         disk.damaged_after = calls;
