@@ -7,9 +7,9 @@ use std::alloc::{AllocError, Global};
 use std::process::Abort;
 use std::test::Fail;
 
-#[test]
-fn faults_print_number_name_and_what_they_carry(rt: HostRuntime) -> Result<(), Fail> {
-    let shown = [
+// Each fault, and how it prints.
+fn shown_faults() -> [(Fault, &'static str); 23] {
+    [
         (Fault::BadSettings(Field::Fan), "1 BadSettings fan"),
         (Fault::BadSettings(Field::Chain), "1 BadSettings chain"),
         (Fault::BadSettings(Field::MaxKey), "1 BadSettings max_key"),
@@ -45,8 +45,12 @@ fn faults_print_number_name_and_what_they_carry(rt: HostRuntime) -> Result<(), F
         (Fault::Spent, "17 Spent"),
         (Fault::DiskTooSmall, "18 DiskTooSmall"),
         (Fault::AlreadyUpgraded, "19 AlreadyUpgraded"),
-    ];
-    for fault in &shown {
+    ]
+}
+
+#[test]
+fn faults_print_number_name_and_what_they_carry(rt: HostRuntime) -> Result<(), Fail> {
+    for fault in &shown_faults() {
         let text = fault.0.to_string(rt.alloc())?;
         assert_eq!(rt; text.as_str(), fault.1);
     }
