@@ -30,7 +30,7 @@ itself k = rw (order_itself k) refl
 pub above_not_below : (k j : List ℕ) → order k j ≡ Less → is_below j k ≡ false
 above_not_below k j l = rw (total.antisymm j k, l) refl
 
-passed_by : (b : Bool) (g k e : List ℕ) → is_below g e ≡ b → is_below k g ≡ true → is_below k e ≡ false → b ≡ false
+pub passed_by : (b : Bool) (g k e : List ℕ) → is_below g e ≡ b → is_below k g ≡ true → is_below k e ≡ false → b ≡ false
 passed_by true g k e b p n = absurd (let t : is_below k e ≡ true = rw (total.trans k g e (less_by (order k g) p) (less_by (order g e) b)) refl in cc)
 passed_by false g k e b p n = refl
 
@@ -83,7 +83,7 @@ module _ {V : Type 0} where
   none_by false e o h = (refl, h)
 
   -- where the key isn't there, the pairs from it on are those behind it
-  from-none : (k : List ℕ) (es : List (List ℕ × V)) → value_at k es ≡ None → from k es ≡ behind k es
+  pub from-none : (k : List ℕ) (es : List (List ℕ × V)) → value_at k es ≡ None → from k es ≡ behind k es
   from-none k [] h = refl
   from-none k (e ∷ es) h =
       let n = none_by (is_eq (order k e.0)) e (value_at k es) h in
@@ -103,7 +103,7 @@ module _ {V : Type 0} where
       rw (l, above_not_below e.0 k l) (ih h)
 
   -- where it is there, they are its pair and those behind it
-  from-there : (k : List ℕ) (v : V) (es : List (List ℕ × V)) → IsRising es → value_at k es ≡ Some v → from k es ≡ (k, v) ∷ behind k es
+  pub from-there : (k : List ℕ) (v : V) (es : List (List ℕ × V)) → IsRising es → value_at k es ≡ Some v → from k es ≡ (k, v) ∷ behind k es
   unfolding IsStrictlySortedBy
   from-there k v [] r h = absurd (cc)
   from-there k v (e ∷ es) r h = there_by (is_eq (order k e.0)) k v e es refl r h (λ p. from-there k v es r.1 p)

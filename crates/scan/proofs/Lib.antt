@@ -1,3 +1,8 @@
+mod BackLemmas
+mod BackMerge
+mod BackRows
+mod BackSearch
+mod BackTree
 mod ChildPlaces
 mod Counting
 mod CutLemmas

@@ -132,7 +132,7 @@ module _ {V : Type 0} where
       let others : behind k (said_by runs) ≡ rest = ap (λ (x : List (List ℕ × Option V)). behind k x) h ∙ behind-skips k (k, o) rest (itself k) ∙ behind-all k rest r.0 in
       h ∙ ap (λ (x : List (List ℕ × Option V)). (k, o) ∷ x) (sym others ∙ behind-said_by k runs a)
 
-  value_at-asserted : (q : List ℕ) (run : List (List ℕ × Option V)) → value_at q (asserted run) ≡ option_map Some (value_at q run)
+  pub value_at-asserted : (q : List ℕ) (run : List (List ℕ × Option V)) → value_at q (asserted run) ≡ option_map Some (value_at q run)
   value_at-asserted q [] = refl
   value_at-asserted q (c ∷ cs) = asserted_by (is_eq (order q c.0)) c.1 (value_at q (asserted cs)) (value_at q cs) (value_at-asserted q cs)
     where

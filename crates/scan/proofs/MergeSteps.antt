@@ -67,12 +67,12 @@ module _ {V : Type 0} where
 
   -- ---- all runs
 
-  front_item : (runs : List (Changes V)) (at : ℕ) (l : Changes V) → 0 < at → at ≤ length runs → l ≡ slice_index_or runs (at - 1) l → drop (at - 1) runs ≡ l ∷ drop at runs
+  pub front_item : (runs : List (Changes V)) (at : ℕ) (l : Changes V) → 0 < at → at ≤ length runs → l ≡ slice_index_or runs (at - 1) l → drop (at - 1) runs ≡ l ∷ drop at runs
   front_item runs at l p w h =
       let next : at - 1 + 1 ≡ at = omega arith in
       drop_more runs (at - 1) l (omega arith) ∙ ap (λ (x : Changes V). x ∷ drop (at - 1 + 1) runs) (sym h) ∙ ap (λ (n : ℕ). l ∷ drop n runs) next
 
-  all_behind : (P : Changes V → Type 0) (n : ℕ) (runs : List (Changes V)) → AllByRecursion P runs → AllByRecursion P (drop n runs)
+  pub all_behind : (P : Changes V → Type 0) (n : ℕ) (runs : List (Changes V)) → AllByRecursion P runs → AllByRecursion P (drop n runs)
   all_behind P zero runs a = a
   all_behind P (suc n) [] a = tt
   all_behind P (suc n) (l ∷ ls) a = all_behind P n ls a.1
@@ -149,10 +149,10 @@ module _ {V : Type 0} where
   -- ---- the next of all changes
 
   -- a slice of the runs that is written back
-  pub written_back : (k : List ℕ) (runs slice new : List (Changes V)) → slice ≡ runs → new ≡ map (behind k) slice → refill (length runs) runs new ≡ map (behind k) runs
-  written_back k runs slice new v h =
-      let same : new ≡ map (behind k) runs = h ∙ ap (λ (x : List (Changes V)). map (behind k) x) v in
-      let count : length new ≡ length runs = ap length same ∙ length-map runs (behind k) in
+  pub written_back : (f : Changes V → Changes V) (runs slice new : List (Changes V)) → slice ≡ runs → new ≡ map f slice → refill (length runs) runs new ≡ map f runs
+  written_back f runs slice new v h =
+      let same : new ≡ map f runs = h ∙ ap (λ (x : List (Changes V)). map f x) v in
+      let count : length new ≡ length runs = ap length same ∙ length-map runs f in
       take_at new (drop (length new) runs) (length runs) count ∙ same
 
   pub none_said : (said : Changes V) → None ≡ slice_get said 0 → said ≡ []

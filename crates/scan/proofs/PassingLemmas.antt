@@ -16,7 +16,7 @@ use Rattle.delta_chain.proofs.Overlays.{rising-asserted, rising-said_by, entries
 use Rattle.scan.specs.Leaf.{from, behind}
 
 -- the pairs whose keys pass
-abbrev passing : {X : Type 0} → (List ℕ → Bool) → List (List ℕ × X) → List (List ℕ × X)
+abbrev pub passing : {X : Type 0} → (List ℕ → Bool) → List (List ℕ × X) → List (List ℕ × X)
 passing test es = filter (λ e. test e.0) es
 
 module _ {X : Type 0} (test : List ℕ → Bool) where
@@ -33,7 +33,7 @@ module _ {X : Type 0} (test : List ℕ → Bool) where
   nothing_by false = refl
 
   -- they have at a key that passes what all of them have, and nothing at another
-  value_at-passing : (es : List (List ℕ × X)) (k : List ℕ) → value_at k (passing test es) ≡ cond (test k) (value_at k es) None
+  pub value_at-passing : (es : List (List ℕ × X)) (k : List ℕ) → value_at k (passing test es) ≡ cond (test k) (value_at k es) None
   value_at-passing [] k = nothing_by (test k)
   value_at-passing (e ∷ es) k =
       passing_by (test e.0) (is_eq (order k e.0)) (test k) k e es (passing test es) refl (λ h. ap test (passes_same k e.0 h)) (value_at-passing es k)
@@ -44,7 +44,7 @@ module _ {V : Type 0} (test : List ℕ → Bool) where
   said_passing false o p = refl
 
   -- pairs with a run applied
-  passing-with_run : (m : List (List ℕ × V)) (run : List (List ℕ × Option V)) → IsRising m → IsRising run → passing test (with_run m run) ≡ with_run (passing test m) (passing test run)
+  pub passing-with_run : (m : List (List ℕ × V)) (run : List (List ℕ × Option V)) → IsRising m → IsRising run → passing test (with_run m run) ≡ with_run (passing test m) (passing test run)
   passing-with_run m run r s =
       let m_rises = rising-filtered (λ e. test e.0) m r in
       let run_rises = rising-filtered (λ e. test e.0) run s in
@@ -79,7 +79,7 @@ module _ {V : Type 0} where
   said_by-rises runs a = rising-said_by runs [] (all_rise runs [] a tt)
 
   -- what runs say together
-  passing-said_by : (test : List ℕ → Bool) (runs : List (List (List ℕ × Option V))) → AllByRecursion IsRising runs → passing test (said_by runs) ≡ said_by (map (passing test) runs)
+  pub passing-said_by : (test : List ℕ → Bool) (runs : List (List (List ℕ × Option V))) → AllByRecursion IsRising runs → passing test (said_by runs) ≡ said_by (map (passing test) runs)
   passing-said_by test [] a = refl
   passing-said_by test (run ∷ runs) a =
       passing-with_run test (said_by runs) (asserted run) (said_by-rises runs a.1) (rising-asserted run a.0)
@@ -98,17 +98,23 @@ module _ {V : Type 0} where
   pub rising-behind_all : (k : List ℕ) (runs : List (List (List ℕ × Option V))) → AllByRecursion IsRising runs → AllByRecursion IsRising (map (behind k) runs)
   rising-behind_all k runs a = rising-passing (λ j. is_below k j) runs a
 
+  pub rising-passing_all : (test : List ℕ → Bool) (p : Layers V) → IsInOrder p → AllByRecursion IsRising (map (passing test) p.runs)
+  rising-passing_all test p a = rising-passing test p.runs (each_rises p.runs p.base a).0
+
   pub rising-from_all : (k : List ℕ) (p : Layers V) → IsInOrder p → AllByRecursion IsRising (map (from k) p.runs)
-  rising-from_all k p a = rising-passing (λ j. not (is_below j k)) p.runs (each_rises p.runs p.base a).0
+  rising-from_all k p a = rising-passing_all (λ j. not (is_below j k)) p a
 
   pub rising-base_of : (p : Layers V) → IsInOrder p → IsRising p.base
   rising-base_of p a = (each_rises p.runs p.base a).1
 
-  -- a page's entries from a key on, from its lists from that key on
-  pub from-entries : (k : List ℕ) (p : Layers V) → IsInOrder p → with_run (from k p.base) (said_by (map (from k) p.runs)) ≡ from k (entries_of p)
-  from-entries k p a =
+  -- a page's entries that pass, from those that pass of its lists
+  pub passing-entries : (test : List ℕ → Bool) (p : Layers V) → IsInOrder p → with_run (passing test p.base) (said_by (map (passing test) p.runs)) ≡ passing test (entries_of p)
+  passing-entries test p a =
       let each = each_rises p.runs p.base a in
-      let test : List ℕ → Bool = λ j. not (is_below j k) in
-      ap (λ (x : List (List ℕ × Option V)). with_run (from k p.base) x) (sym (passing-said_by test p.runs each.0))
+      ap (λ (x : List (List ℕ × Option V)). with_run (passing test p.base) x) (sym (passing-said_by test p.runs each.0))
       ∙ sym (passing-with_run test p.base (said_by p.runs) each.1 (said_by-rises p.runs each.0))
-      ∙ ap (λ (x : List (List ℕ × V)). from k x) (entries-said_by p.runs p.base a)
+      ∙ ap (λ (x : List (List ℕ × V)). passing test x) (entries-said_by p.runs p.base a)
+
+  -- those from a key on
+  pub from-entries : (k : List ℕ) (p : Layers V) → IsInOrder p → with_run (from k p.base) (said_by (map (from k) p.runs)) ≡ from k (entries_of p)
+  from-entries k p a = passing-entries (λ j. not (is_below j k)) p a

@@ -89,16 +89,28 @@ module _ (ps : List (ℕ × PageOfKind)) where
         leaves = ap (λ (es : List (List ℕ × ℕ)). leaves_from_first (λ (f : List ℕ × ℕ). leaves_from ps n key f.1) (leaves_under ps n) es) c.kept;
       }
 
-  pub at_index : (n pid : ℕ) (key : List ℕ) (page : PageOfKind) → IsKnown ps n pid → Some page ≡ page_at ps pid → IsIndex page → IsStep n key pid (values_of (children_within key None (child_entries page)))
-  at_index zero pid key page k h i = absurd (wrong page (as_leaf (page_at ps pid)) i (h ∙ k))
+  -- a page that is known and no leaf: a level above the leaves, with the entries of the page there
+  pub record IsIndexAt (n pid : ℕ) (page : PageOfKind) : Type 0 where
+    pub level : ℕ
+    pub height : suc level ≡ n
+    pub known : IsKnown ps (suc level) pid
+    pub entries : child_entries page ≡ entries_at ps pid
+
+  pub index_page_at : (n pid : ℕ) (page : PageOfKind) → IsKnown ps n pid → Some page ≡ page_at ps pid → IsIndex page → IsIndexAt n pid page
+  index_page_at zero pid page k h i = absurd (wrong page (as_leaf (page_at ps pid)) i (h ∙ k))
     where
       wrong : (page : PageOfKind) (p : Page (List ℕ)) → IsIndex page → Some page ≡ Some (Leaf p) → ⊥
       wrong (Leaf q) p i e = i
       wrong (Index q) p i e = cc
-  at_index (suc n) pid key page k h i = at_index_by n pid key page k (same page (as_index (page_at ps pid)) (h ∙ k.0))
+  index_page_at (suc n) pid page k h i = record { level = n; height = refl; known = k; entries = same page (as_index (page_at ps pid)) (h ∙ k.0) }
     where
       same : (page : PageOfKind) (p : Page ℕ) → Some page ≡ Some (Index p) → child_entries page ≡ child_entries (Index p)
       same page p e = let eq : page ≡ Index p = cc in ap (λ (x : PageOfKind). child_entries x) eq
+
+  pub at_index : (n pid : ℕ) (key : List ℕ) (page : PageOfKind) → IsKnown ps n pid → Some page ≡ page_at ps pid → IsIndex page → IsStep n key pid (values_of (children_within key None (child_entries page)))
+  at_index n pid key page k h i =
+      let x = index_page_at n pid page k h i in
+      subst (λ (m : ℕ). IsStep m key pid (values_of (children_within key None (child_entries page)))) x.height (at_index_by x.level pid key page x.known x.entries)
 
   -- ---- a way down for the empty key comes to all leaves
 

@@ -186,7 +186,7 @@ same_end_by false hi k v e es b r h ih =
     let here : is_below e.0 k ≡ false = ap (λ (j : List ℕ). is_below e.0 j) (sym key) ∙ itself e.0 in
     (here ∙ sym b, subst (λ (j : List ℕ). AllByRecursion (λ (f : List ℕ × List ℕ). is_below f.0 j ≡ is_below f.0 hi) es) key (neither_below hi e.0 es b r.0))
 
-same_end : (hi k v : List ℕ) (es : Pairs) → IsRising es → Some (k, v) ≡ slice_get (from hi es) 0 → AllByRecursion (λ (e : List ℕ × List ℕ). is_below e.0 k ≡ is_below e.0 hi) es
+pub same_end : (hi k v : List ℕ) (es : Pairs) → IsRising es → Some (k, v) ≡ slice_get (from hi es) 0 → AllByRecursion (λ (e : List ℕ × List ℕ). is_below e.0 k ≡ is_below e.0 hi) es
 unfolding IsStrictlySortedBy
 same_end hi k v [] r h = tt
 same_end hi k v (e ∷ es) r h = same_end_by (is_below e.0 hi) hi k v e es refl r h (λ g. same_end hi k v es r.1 g)
@@ -206,7 +206,7 @@ stops_at_none prefix (e ∷ es) h = absurd (cc)
 -- ---- the start
 
 module _ (t : TreeInMemory) (held : HoldsLevels (tree_of t).pages (levels_of (tree_of t))) (levels : AreLevels (levels_of (tree_of t))) where
-  at_top : pred t.height - 0 ≡ pred t.height
+  pub at_top : pred t.height - 0 ≡ pred t.height
   at_top = omega arith
 
   pub root_is_there : IsAt t 0 t.root

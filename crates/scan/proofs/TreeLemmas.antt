@@ -157,7 +157,7 @@ module _ (ps : List (ℕ × PageOfKind)) where
       let here = index_subtree n u next h.0 d.0 (rising-tile (next_low up end) u t.0) own in
       subst (λ (ats : List Place). AllByRecursion (IsSubtree (suc n)) ats) (sym (children-cons (name u) (names up) end)) (here, index_subtrees n up end h.1 d.1 t.1 b.1)
 
-  abbrev root_place : ℕ → Place
+  abbrev pub root_place : ℕ → Place
   root_place pid = record { pid = pid; low = []; end = None }
 
   one_root : {V : Type 0} (n k : ℕ) (level : List (Placed V)) → length level ≡ 1 → next_low level None ≡ Some [] → k ≡ n → AllByRecursion (IsSubtree n) (children (names level) None) → IsSubtree k (root_place (first_pid level))
@@ -211,7 +211,7 @@ module _ (ps : List (ℕ × PageOfKind)) where
     pub parts : found ≡ first ∷ rest
     pub kept : from key (pairs (leaf_pages ps all)) ≡ from key (page.entries (leaf_under ps first)) ++ pairs (leaf_pages ps rest)
 
-  pairs-append : (xs ys : List ℕ) → pairs (leaf_pages ps (xs ++ ys)) ≡ pairs (leaf_pages ps xs) ++ pairs (leaf_pages ps ys)
+  pub pairs-append : (xs ys : List ℕ) → pairs (leaf_pages ps (xs ++ ys)) ≡ pairs (leaf_pages ps xs) ++ pairs (leaf_pages ps ys)
   pairs-append xs ys = ap (λ (x : List (Page (List ℕ))). pairs x) (leaf_pages-append ps xs ys) ∙ flat_map-append page.entries (leaf_pages ps xs) (leaf_pages ps ys)
 
   -- where the leaves of the first part lie below the key, and those of the last from it on
@@ -307,7 +307,7 @@ module _ (t : Tree) (held : HoldsLevels t.pages (levels_of t)) (levels : AreLeve
   above_height : pred t.height ≡ length (levels_of t).above
   above_height = let e = height-below t.pages (pred t.height) (t.root ∷ []) [] in omega (arith, e)
 
-  whole_tree : IsSubtree t.pages (pred t.height) (root_place t.pages t.root)
+  pub whole_tree : IsSubtree t.pages (pred t.height) (root_place t.pages t.root)
   whole_tree =
       let leaf = leaf_subtrees t.pages (levels_of t).level None held.leaves levels.tiled in
       let root = root_subtree t.pages zero (pred t.height) (levels_of t).level (levels_of t).above levels.stacked held.above levels.first (omega (arith, above_height)) leaf in
@@ -316,7 +316,7 @@ module _ (t : Tree) (held : HoldsLevels t.pages (levels_of t)) (levels : AreLeve
   pub root_is_known : IsKnown t.pages (pred t.height) t.root
   root_is_known = is_known t.pages (pred t.height) (root_place t.pages t.root) whole_tree
 
-  contents-leaves : contents t ≡ pairs (leaf_pages t.pages (leaves_under t.pages (pred t.height) (t.root ∷ [])))
+  pub contents-leaves : contents t ≡ pairs (leaf_pages t.pages (leaves_under t.pages (pred t.height) (t.root ∷ [])))
   contents-leaves =
       ap (λ (ls : List (Placed (List ℕ))). joined ls) (leaves-below t.pages (pred t.height) (t.root ∷ []) []) ∙ joined-leaves t.pages (leaves_under t.pages (pred t.height) (t.root ∷ []))
 

@@ -33,7 +33,7 @@ module _ (t : TreeInMemory) where
       by (suc n) h e = omega arith
 
   -- children at this level are pushed, of which the first is where the walk goes on
-  pushed : (path new : SmallVec (List ℕ)) (m : ℕ) (key : List ℕ) (child : ℕ) (rest : List ℕ) → length path.items + suc m ≡ Top → IsWalk t path → new.items ≡ path.items ++ rest ∷ [] → new.capacity ≡ path.capacity
+  pub pushed : (path new : SmallVec (List ℕ)) (m : ℕ) (key : List ℕ) (child : ℕ) (rest : List ℕ) → length path.items + suc m ≡ Top → IsWalk t path → new.items ≡ path.items ++ rest ∷ [] → new.capacity ≡ path.capacity
       → IsKnown Pages m child → AllByRecursion (IsKnown Pages m) rest → IsPushed t new key child (leaf_pages Pages (leaves_from Pages m key child ++ (leaves_under Pages m rest ++ leaves_left Pages Top path.items)))
   pushed path new m key child rest h w i c k a =
       let long : length new.items ≡ length path.items + 1 = ap (λ (x : List (List ℕ)). length x) i ∙ length-append path.items (rest ∷ []) in

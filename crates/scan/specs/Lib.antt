@@ -1,4 +1,7 @@
 pub mod Ahead
+pub mod Back
+pub mod BackRun
+pub mod BackWays
 pub mod Ends
 pub mod Leaf
 pub mod Left

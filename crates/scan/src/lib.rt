@@ -1,8 +1,9 @@
-//! Rows of a range of keys, lent out of a tree's pages in key order. A scan goes along the leaves, from one to the next, and
-//! takes no memory. And for a batch, the keys at which its scans may end.
+//! Rows of a range of keys, lent out of a tree's pages in key order, or from the greatest key down. A scan goes along the leaves, from
+//! one to the next, and takes no memory. And for a batch, the keys at which its scans may end.
 #![tactic(auto)]
 
 mod ahead;
+mod back;
 mod base_pairs;
 mod changes;
 mod ends;
@@ -17,6 +18,7 @@ mod step;
 mod taken;
 mod tally;
 
+pub use crate::back::RowsBack;
 pub use crate::ends::scan_ends;
 pub use crate::leaf::LeafPairs;
 pub use crate::point::value_in;

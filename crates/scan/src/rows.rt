@@ -211,7 +211,7 @@ fn beginning<'a>(key: &'a [u8], prefix: &[u8]) -> Option<&'a [u8]>
 }
 
 // The first pair from the key on.
-fn first_from<'a>(
+pub(crate) fn first_from<'a>(
     alloc: Global,
     tree: &'a Tree<Global>,
     key: &[u8],

@@ -11,6 +11,7 @@ ghost use Rattle.mapping.specs.Levels.{contents, levels_of};
 ghost use Rattle.mapping.specs.Proper.{AreLevels, HoldsLevels};
 ghost use Rattle.mapping.specs.Tree.{page_at};
 ghost use Rattle.mapping.specs.TreeInMemory.{AreAllHome, tree_of};
+ghost use Rattle.scan.specs.Back.{rows_back};
 ghost use Rattle.scan.specs.Prefix.{with_prefix};
 ghost use Rattle.engine.specs.LeafFor.{IsLeafFor};
 
@@ -19,7 +20,7 @@ use delta_chain::Chain;
 use flush_log::Disk;
 use keys::{Fault, Pid, Value};
 use mapping::Tree;
-use scan::{Rows, value_in};
+use scan::{Rows, RowsBack, value_in};
 use std::alloc::Global;
 
 impl<D: Disk> Store<D> {
@@ -40,6 +41,15 @@ impl<D: Disk> Store<D> {
         ensures rows { IfOk result (λ left. left ≡ rows lo.now (option_copied hi.entry) limit (contents self.now.store.tree)) }
     {
         Ok(Rows::new(self.alloc, &self.tree, lo, hi, limit))
+    }
+
+    /// The last `limit` pairs whose keys are `lo` or above, and below `hi` where it is given, from the greatest key down. They are
+    /// lent as those of `range` are, and the bounds are only looked at in this call. It costs one way down, and one more where `lo`
+    /// isn't empty. A store that has failed answers too.
+    pub fn range_back(&self, lo: &[u8], hi: Option<&[u8]>, limit: u32) -> RowsBack<'_>
+        ensures { result ≡ rows_back lo.now (option_copied hi.entry) limit (contents self.now.store.tree) }
+    {
+        RowsBack::new(self.alloc, &self.tree, lo, hi, limit)
     }
 
     /// The pairs whose keys begin with these bytes, in key order: all pairs, where there are no bytes. They are lent as those of

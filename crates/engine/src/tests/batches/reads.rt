@@ -12,7 +12,7 @@ use std::alloc::{AllocError, Global};
 use std::test::Fail;
 
 // Nineteen puts, which make leaves of two to four pairs, in runs and in bases, and then the deletes that empty the leaves of c and d.
-const BATCHES: [&str; 3] = [
+pub(crate) const BATCHES: [&str; 3] = [
     "a=1 aa=2 ab=3 b=4 ba=5 bb=6 bba=7 c=8 ca=9 cb=1 cc=2 d=3 da=4 db=5 e=6 ea=7 f=8 fa=9 g=1",
     "-c -ca -cb -cc -d -da -db ea=2",
     "fa=3 -g",

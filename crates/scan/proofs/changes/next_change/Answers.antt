@@ -1,6 +1,7 @@
 use Rattle.std.proofs.Common.{slice_get, ap, ◌∙◌}
 use Rattle.std.specs.Option.{option_copied}
 use Rattle.delta_chain.specs.Merging.{said_by}
+use Rattle.scan.specs.Leaf.{behind}
 use Rattle.scan.proofs.MergeSteps.{none_said, none_behind, next_said, later_rise, written_back}
 use Rattle.scan.proofs.changes.next_change.Goals as goal
 
@@ -11,8 +12,8 @@ pub pass_all-requires-clause-starts : goal.pass_all-requires-clause-starts
 pass_all-requires-clause-starts c = rw c.as_mut_slice.ensures.value (none_behind c.in_ok-at.key (option_copied c.in_ok-at.said) c.args.runs.now.items c.requires (c.in_ok-at.ensures.change ∙ ap (λ x. slice_get (said_by x) 0) c.as_slice.ensures))
 
 pub returns-clause-rising : goal.returns-clause-rising
-returns-clause-rising c = later_rise c.in_ok-at.key c.args.runs.now.items _ c.requires (written_back c.in_ok-at.key c.args.runs.now.items _ _ c.as_mut_slice.ensures.value c.pass_all.ensures)
+returns-clause-rising c = later_rise c.in_ok-at.key c.args.runs.now.items _ c.requires (written_back (behind c.in_ok-at.key) c.args.runs.now.items _ _ c.as_mut_slice.ensures.value c.pass_all.ensures)
 
 pub returns-clause-changes : goal.returns-clause-changes
 returns-clause-changes c =
-    next_said c.in_ok-at.key _ c.args.runs.now.items _ c.requires (c.in_ok-at.ensures.change ∙ ap (λ x. slice_get (said_by x) 0) c.as_slice.ensures) (written_back c.in_ok-at.key c.args.runs.now.items _ _ c.as_mut_slice.ensures.value c.pass_all.ensures)
+    next_said c.in_ok-at.key _ c.args.runs.now.items _ c.requires (c.in_ok-at.ensures.change ∙ ap (λ x. slice_get (said_by x) 0) c.as_slice.ensures) (written_back (behind c.in_ok-at.key) c.args.runs.now.items _ _ c.as_mut_slice.ensures.value c.pass_all.ensures)

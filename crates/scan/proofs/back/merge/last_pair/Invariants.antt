@@ -1,0 +1,10 @@
+use Rattle.std.proofs.Common.{◌≡◌, length}
+use Rattle.scan.specs.Merge.{merged}
+use Rattle.scan.proofs.back.merge.last_pair.Given as goal
+
+-- what is left is what was left
+abbrev pub invariant-loop-key : goal.invariant-loop-key
+invariant-loop-key l = merged l.merge ≡ merged l.initial.merge
+
+abbrev pub decreases-loop-key : goal.decreases-loop-key
+decreases-loop-key l = length l.merge.changes

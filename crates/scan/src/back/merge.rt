@@ -1,0 +1,200 @@
+//! Iterates over a leaf with few runs from its end: merges them with the base.
+ghost use Rattle.std.specs.Prelude.{◌≡◌, ◌<◌, ◌≤◌, ◌∷◌, ◌++◌, [], take, map, length, Some, MatchOption};
+ghost use Rattle.std.specs.List.{AllByRecursion};
+ghost use Rattle.std.specs.Option.{option_copied};
+ghost use Rattle.keys.specs.Order.{IsRising};
+ghost use Rattle.delta_chain.specs.Layers.{entries_of, depth_of};
+ghost use Rattle.delta_chain.specs.Merging.{pair_if, said_by};
+ghost use Rattle.scan.specs.Back.{before, ArePairsLast, HasBehind, IsLastSaid};
+ghost use Rattle.scan.specs.Leaf.{behind};
+ghost use Rattle.scan.specs.Merge.{merged};
+
+use crate::ahead::Change;
+use crate::back::count_before;
+use crate::back::run::RunBack;
+use delta_chain::{Base, Chain};
+use keys::{KeyRef, Value};
+use smallvec::SmallVec;
+use std::alloc::Global;
+use std::cmp::Ordering;
+use std::marker::Model;
+use std::mem;
+
+// The runs of a leaf, newest first, each up to a place. They need no memory.
+type RunsBack<'a> = SmallVec<RunBack<'a>, 16>;
+
+/// A walk over a leaf from its end, by a place in the base and in each run, as `Merge` is one from the front. Contracts see
+/// it as the changes and the base's pairs that are left, in key order.
+#[derive(Drop)]
+pub(crate) struct MergeBack<'a> {
+    base: &'a Base<Value<Global>, Global>,
+    // How many pairs of the base are left.
+    left: usize,
+    // The last of all changes, and the runs before it.
+    change: Option<Change<'a>>,
+    runs: RunsBack<'a>,
+}
+
+impl<'a> Model for MergeBack<'a> {
+    ghost use Rattle.std.specs.Prelude.{take};
+    ghost use Rattle.std.specs.Option.{option_copied, option_map};
+    ghost use Rattle.delta_chain.specs.Merging.{said_by};
+    ghost use Rattle.scan.specs.Back.{changes_before};
+    ghost use Rattle.scan.specs.Merge.{Merged, IsMerge};
+
+    ghost Value = { Merged };
+
+    ghost view = { λ m. record { changes = changes_before (option_map (λ c. (c.0, option_copied c.1)) m.change) (said_by m.runs.items); pairs = take m.left m.base.now } };
+
+    ghost invariant = { λ m. IsMerge (changes_before (option_map (λ c. (c.0, option_copied c.1)) m.change) (said_by m.runs.items)) m.runs.items m.base.now };
+}
+
+impl<'a> MergeBack<'a> {
+    // The leaf before the end.
+    pub(crate) fn new(
+        alloc: Global,
+        chain: &'a Chain<Value<Global>, Global>,
+        hi: Option<&[u8]>,
+    ) -> Self
+        requires { depth_of chain.now ≤ 16 }
+        ensures { merged result ≡ before (option_copied hi.entry) (entries_of chain.now) }
+    {
+        let _in_order = chain.depth();
+        let mut merge = MergeBack {
+            base: chain.base(),
+            left: 0,
+            change: None,
+            runs: SmallVec::new(alloc),
+        };
+        merge.restart(chain, hi);
+        merge
+    }
+
+    // Walks this leaf before the end, in place of the one that was walked. Each list is searched once.
+    pub(crate) fn restart(&mut self, chain: &'a Chain<Value<Global>, Global>, hi: Option<&[u8]>)
+        requires { depth_of chain.now ≤ 16 }
+        ensures { merged self.new ≡ before (option_copied hi.entry) (entries_of chain.now) }
+    {
+        let _in_order = chain.depth();
+        self.base = chain.base();
+        self.left = count_before(self.base, hi);
+        fill(&mut self.runs, chain, hi);
+        self.change = last_change(&mut self.runs);
+    }
+
+    // The last change, unless a pair of the base stands behind it. A pair that has its key is passed.
+    pub(crate) fn take_change(&mut self) -> Option<Change<'a>>
+        ensures { MatchOption result ((self.new ≡ self.old) × ArePairsLast self.old.changes self.old.pairs)
+            (λ c. (merged self.old ≡ merged self.new ++ pair_if c.0 (option_copied c.1)) × (length self.new.changes < length self.old.changes)) }
+    {
+        let left = match &self.change {
+            Some(change) => short_of(self.base, self.left, &change.0)?,
+            None => return None,
+        };
+        self.left = left;
+        mem::replace(&mut self.change, last_change(&mut self.runs))
+    }
+
+    // The base's last pair, behind which there is no change.
+    pub(crate) fn take_pair(&mut self) -> Option<(&'a [u8], &'a Value<Global>)>
+        requires { ArePairsLast self.old.changes self.old.pairs }
+        ensures { MatchOption result ((merged self.old ≡ []) × (merged self.new ≡ [])) (λ p. merged self.old ≡ merged self.new ++ (p.0.now, p.1.now) ∷ []) }
+    {
+        let base = self.base;
+        let at = self.left.min(base.len()).checked_sub(1)?;
+        self.left = at;
+        Some((base.key(at), base.cell(at)))
+    }
+}
+
+// The last pair that is there after the changes.
+pub(crate) fn last_pair<'a>(merge: &mut MergeBack<'a>) -> Option<(&'a [u8], &'a Value<Global>)>
+    ensures { MatchOption result ((merged merge.old ≡ []) × (merged merge.new ≡ [])) (λ p. merged merge.old ≡ merged merge.new ++ (p.0.now, p.1.now) ∷ []) }
+{
+    loop {
+        let Some((key, said)) = merge.take_change() else {
+            return merge.take_pair();
+        };
+        if let Some(value) = said {
+            return Some((key.as_bytes(), value));
+        }
+    }
+}
+
+// How many of the base's first pairs are below the key; none where the last of these stands behind the key.
+fn short_of(base: &Base<Value<Global>, Global>, count: usize, key: &KeyRef<'_>) -> Option<usize>
+    ensures { MatchOption result (HasBehind key.now (take count base.now))
+        (λ left. (behind key.now (take count base.now) ≡ []) × (take left base.now ≡ before (Some key.now) (take count base.now))) }
+{
+    let count = count.min(base.len());
+    if count == 0 {
+        return Some(0);
+    }
+    match KeyRef::new(base.key(count - 1)).compare(key) {
+        Ordering::Less => Some(count),
+        Ordering::Equal => Some(count - 1),
+        Ordering::Greater => None,
+    }
+}
+
+// Makes these the leaf's runs before the end.
+fn fill<'a>(runs: &mut RunsBack<'a>, chain: &'a Chain<Value<Global>, Global>, hi: Option<&[u8]>)
+    requires { depth_of chain.now ≤ 16 }
+    ensures { runs.new.items ≡ map (before (option_copied hi.entry)) chain.now.runs }
+{
+    // The capacity is looked up for what it says: there is room for 16 in any case.
+    let _room = runs.capacity();
+    runs.clear();
+    let mut rest = chain.lent();
+    while let Some((run, below)) = rest.newest() {
+        runs.push_reserved(RunBack::new(run, hi));
+        rest = below;
+    }
+}
+
+// The last of all changes, if there is one. Each run that has its key goes past it.
+fn last_change<'a>(runs: &mut RunsBack<'a>) -> Option<Change<'a>>
+    requires { AllByRecursion IsRising runs.old.items }
+    ensures rising { AllByRecursion IsRising runs.new.items }
+    ensures changes { MatchOption result (said_by runs.old.items ≡ [])
+        (λ c. said_by runs.old.items ≡ said_by runs.new.items ++ (c.0, option_copied c.1) ∷ []) }
+{
+    let (key, said) = greatest(runs.as_slice())?;
+    pass_all(runs.as_mut_slice(), &key);
+    Some((key, said))
+}
+
+// The change with the greatest key; where runs share that key, it is the newest one's.
+fn greatest<'a>(runs: &[RunBack<'a>]) -> Option<Change<'a>>
+    requires { AllByRecursion IsRising runs.now }
+    ensures { MatchOption result (AllByRecursion (λ run. run ≡ []) runs.now) (λ c. IsLastSaid (c.0, option_copied c.1) runs.now) }
+{
+    let mut greatest: Option<Change<'a>> = None;
+    let mut at = runs.len();
+    while at > 0 {
+        at -= 1;
+        let Some(change) = runs[at].last() else {
+            continue;
+        };
+        match &greatest {
+            None => greatest = Some(change),
+            Some(older) => {
+                if !change.0.compare(&older.0).is_lt() {
+                    greatest = Some(change);
+                }
+            }
+        }
+    }
+    greatest
+}
+
+// Each run goes past this key, above which none has a key.
+fn pass_all<'a>(runs: &mut [RunBack<'a>], key: &KeyRef<'_>)
+    requires none_above { AllByRecursion (λ run. behind key.now run ≡ []) runs.old }
+    requires rising { AllByRecursion IsRising runs.old }
+    ensures { runs.new ≡ map (before (Some key.now)) runs.old }
+{
+    for run in runs.iter_mut() {
+        run.pass(key);
+    }
+}
