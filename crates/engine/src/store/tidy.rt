@@ -15,8 +15,7 @@ use crate::refusal::admit_crew;
 use crate::store::Store;
 use crew::{Crew, NoGate};
 use flush_log::Disk;
-use index_page::Page;
-use keys::{Command, Fault, Key, Pid, Value};
+use keys::{Command, Fault, Key, Pid, Settings, Value};
 use mapping::Tree;
 use mapping::laws::the_contents_of_a_proper_tree_rise;
 use std::alloc::{AllocError, Global};
@@ -25,52 +24,118 @@ use std::thread::Threads;
 // How many leaves a batch may have commands for: it has 65,535 commands at most, and a leaf gets up to two.
 const MOST_LEAVES: usize = 32_767;
 
-// The low key of a page that is a leaf with few pairs.
-fn thin_low<'a>(tree: &'a Tree<Global>, pid: u64, fan: u32) -> Option<&'a [u8]> {
+// A leaf with few pairs, and its parent, by their page ids.
+struct ThinLeaf {
+    pid: u64,
+    parent: u64,
+}
+
+// Which of these leaves a batch of tidying has commands for.
+#[derive(Clone, Copy, PartialEq, Eq)]
+enum Stage {
+    // Those that have fewer than `chain` runs: each gets one more.
+    Fill,
+    // Of those that are replaced by their next run one of each parent, or all, where the parent is replaced by its next run too.
+    JoinOne,
+    // All of those.
+    JoinAll,
+}
+
+// The low key of a page that is a leaf with few pairs, and how many runs it has.
+fn thin_leaf<'a>(tree: &'a Tree<Global>, pid: u64, fan: u32) -> Option<(&'a [u8], u64)> {
     let page = tree.page(Pid(pid))?;
     let leaf = page.as_leaf()?;
     if leaf.whole().fewest_entries() < (fan / 4) as usize {
-        Some(page.low())
+        Some((page.low(), leaf.depth()))
     } else {
         None
     }
 }
 
-// Adds the page ids of those children of a page that are leaves with few pairs, while there are fewer than `most`: none of an only child,
-// which has no leaf to join.
+// How many runs an index page has.
+fn index_depth(tree: &Tree<Global>, pid: u64) -> Option<u64> {
+    let page = tree.page(Pid(pid))?;
+    Some(page.as_index()?.depth())
+}
+
+// Adds those children of a page that are leaves with few pairs, while there are fewer than `most`. The first child stays: leaves join the
+// one before them.
 fn push_thin_children(
     tree: &Tree<Global>,
-    parent: &Page<Global>,
+    parent: u64,
     fan: u32,
     most: usize,
-    thin: &mut Vec<u64>,
+    thin: &mut Vec<ThinLeaf>,
 ) -> Result<(), AllocError> {
-    let Some(children) = parent.child_list() else {
+    let Some(page) = tree.page(Pid(parent)) else {
         return Ok(());
     };
-    for at in 0..children.len() {
+    let Some(children) = page.child_list() else {
+        return Ok(());
+    };
+    for at in 1..children.len() {
         let pid = children.cell(at).0;
-        if children.len() > 1 && thin.len() < most && thin_low(tree, pid, fan).is_some() {
-            thin.push(pid)?;
+        if thin.len() < most && thin_leaf(tree, pid, fan).is_some() {
+            thin.push(ThinLeaf { pid, parent })?;
         }
     }
     Ok(())
 }
 
-// The page ids of the first leaves with few pairs, `most` at most.
-fn thin_pids(
+// The first leaves with few pairs, `most` at most, parent by parent.
+fn thin_leaves(
     alloc: Global,
     tree: &Tree<Global>,
     fan: u32,
     most: usize,
-) -> Result<Vec<u64>, AllocError> {
+) -> Result<Vec<ThinLeaf>, AllocError> {
     let mut thin = Vec::new(alloc);
     for pid in tree.pids() {
-        if let Some(page) = tree.page(Pid(pid)) {
-            push_thin_children(tree, page, fan, most, &mut thin)?;
-        }
+        push_thin_children(tree, pid, fan, most, &mut thin)?;
     }
     Ok(thin)
+}
+
+// The page ids of those of the leaves that the stage has commands for.
+fn due_leaves(
+    alloc: Global,
+    tree: &Tree<Global>,
+    settings: &Settings,
+    thin: &[ThinLeaf],
+    stage: Stage,
+) -> Result<Vec<u64>, AllocError> {
+    let chain = u64::from(settings.chain);
+    let mut due = Vec::new(alloc);
+    let mut joined = None;
+    for leaf in thin {
+        let Some((_low, depth)) = thin_leaf(tree, leaf.pid, settings.fan) else {
+            continue;
+        };
+        let is_due = match stage {
+            Stage::Fill => depth < chain,
+            Stage::JoinOne => {
+                let is_first = joined != Some(leaf.parent);
+                depth >= chain && (is_first || index_depth(tree, leaf.parent) >= Some(chain))
+            }
+            Stage::JoinAll => depth >= chain,
+        };
+        if is_due {
+            due.push(leaf.pid)?;
+            joined = Some(leaf.parent);
+        }
+    }
+    Ok(due)
+}
+
+// What the batch of this number is for: `chain` batches fill, and as many and one more join.
+fn stage_of(number: u32, chain: u32) -> Stage {
+    if number < chain {
+        Stage::Fill
+    } else if number < chain.saturating_mul(2) {
+        Stage::JoinOne
+    } else {
+        Stage::JoinAll
+    }
 }
 
 // How many pages a tree has.
@@ -122,19 +187,20 @@ impl<D: Disk> Store<D> {
         the_contents_of_a_proper_tree_rise();
         let mut commands = Vec::new(self.alloc);
         for pid in pids {
-            if let Some(low) = thin_low(&self.tree, *pid, self.settings.fan) {
+            if let Some((low, _depth)) = thin_leaf(&self.tree, *pid, self.settings.fan) {
                 push_neutral(self.alloc, low, self.get(low), &mut commands)?;
             }
         }
         Ok(commands)
     }
 
-    // Executes one batch that changes nothing of what the store holds, where there is a command for it.
+    // Executes one batch that changes nothing of what the store holds, for those of the leaves that the stage names, where there are some.
     fn tidy_once(
         &mut self,
         rt: &(impl Threads + Sync),
         crew: Crew,
-        pids: &[u64],
+        thin: &[ThinLeaf],
+        stage: Stage,
     ) -> Result<(), Fault>
         requires fine { self.old.has_failed ≡ false }
         requires crew { IsTrue (is_crew crew) }
@@ -143,7 +209,8 @@ impl<D: Disk> Store<D> {
             × (self.new.has_failed ≡ self.old.has_failed) }
         ensures refused { IfErr result (IsTidyFault self.old.settings) }
     {
-        let commands = self.neutral_batch(pids)?;
+        let due = due_leaves(self.alloc, &self.tree, &self.settings, thin, stage)?;
+        let commands = self.neutral_batch(&due)?;
         if commands.is_empty() {
             return Ok(());
         }
@@ -151,14 +218,16 @@ impl<D: Disk> Store<D> {
         Ok(())
     }
 
-    /// Merges leaves that deletes and wipes have left with fewer than a quarter of `fan` pairs into their neighbours, at most `most` of
-    /// them, and returns how many pages went. Such a leaf is replaced only once it has more than `chain` runs, and no command comes
+    /// Merges leaves that deletes and wipes have left with fewer than a quarter of `fan` pairs into the leaves before them, at most `most`
+    /// of them, and returns how many pages went. Such a leaf is replaced only once it has more than `chain` runs, and no command comes
     /// to it again where keys only move on, as those of a queue. So it gets commands here that change nothing of what the store holds,
-    /// in at most `chain` + 1 batches, which all of these leaves share, until it is replaced and joins the leaf beside it. The disk gets
-    /// nothing of it before the next flush.
+    /// in batches which all of these leaves share: in `chain` of them each gets runs, until the next one replaces it; then one leaf of
+    /// each parent joins the one before it with each batch, so that the parent gets runs too, and is replaced and joins its neighbour
+    /// where few children are left; and in the last, the batch `2 chain + 1` at most, all that are left. The disk gets nothing of it
+    /// before the next flush.
     ///
-    /// It looks at each page of the store once, counts them before and after, and takes memory for these leaves' page ids and the batches. It is due where
-    /// `verify` counts many more pages than the pairs account for (`docs/EMBEDDING.md`).
+    /// It looks at each page of the store once, counts them before and after, and takes memory for these leaves' page ids and the batches.
+    /// It is due where `verify` counts many more pages than the pairs account for (`docs/EMBEDDING.md`).
     ///
     /// A store that has failed is `Fault::Failed`, and then a crew out of range `Fault::BadCrew`. Else there are `Fault::NoMemory` and
     /// `Fault::Spent`, as of a batch. After an `Err` the store holds what it held, in fewer pages where some batches were done.
@@ -187,14 +256,11 @@ impl<D: Disk> Store<D> {
         }
         admit_crew(crew)?;
         let before = count_pages(&self.tree);
-        let pids = thin_pids(
-            self.alloc,
-            &self.tree,
-            self.settings.fan,
-            most.min(MOST_LEAVES),
-        )?;
-        for _round in 0..self.settings.chain.saturating_add(1) {
-            self.tidy_once(rt, crew, &pids)?;
+        let chain = self.settings.chain;
+        let most = most.min(MOST_LEAVES);
+        let thin = thin_leaves(self.alloc, &self.tree, self.settings.fan, most)?;
+        for round in 0..chain.saturating_mul(2).saturating_add(1) {
+            self.tidy_once(rt, crew, &thin, stage_of(round, chain))?;
         }
         Ok(before.saturating_sub(count_pages(&self.tree)))
     }
