@@ -25,6 +25,7 @@ use std::thread::Threads;
 const MOST_LEAVES: usize = 32_767;
 
 // A leaf with few pairs, and its parent, by their page ids.
+#[derive(Clone, Copy)]
 struct ThinLeaf {
     pid: u64,
     parent: u64,
