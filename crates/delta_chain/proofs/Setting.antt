@@ -140,7 +140,7 @@ module _ {T : Type 0} where
       let p = h (comparisons_rise es k r) in
       (l, value_at-missing es at k p.0 p.1, λ v. with_pair-missing es at k v l p.0 p.1)
 
-  -- a key above the last one is above all, and goes behind them
+  -- a key above the last one is above all, and goes after them
   all_below : (es : List (List ℕ × T)) (k : List ℕ) → IsRising es → goes_last k es ≡ true → BelowBefore es (length es) k
   all_below [] k r h m d z l = absurd (omega arith)
   all_below (e ∷ es) k r h zero d z l = goes_last_first e es k r h

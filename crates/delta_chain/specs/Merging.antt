@@ -11,7 +11,7 @@ abbrev pub pair_if : {V : Type 0} → Bytes → Option V → Pairs V
 pair_if k None = []
 pair_if k (Some v) = (k, v) ∷ []
 
--- how the first key stands to k; where there is none, as one above every key
+-- how the first key compares to k; where there is none, as one above every key
 abbrev pub first_order : {V : Type 0} → Pairs V → Bytes → Ordering
 first_order [] k = Greater
 first_order (e ∷ es) k = order e.0 k

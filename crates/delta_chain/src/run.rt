@@ -135,8 +135,8 @@ impl<V: Drop, A: Allocator + Copy> Run<V, A> {
         }
     }
 
-    /// Adds a change behind the others. An `Err` drops the change and leaves the run as it was: `OutOfOrder`
-    /// exactly where the key is not above the last one, and else `NoMemory`.
+    /// Appends a change. An `Err` drops the change and leaves the run as it was: `OutOfOrder` exactly where the key is not
+    /// above the last one, and else `NoMemory`.
     pub fn push(&mut self, key: Key<A>, change: Option<V>) -> Result<(), PushError>
         ensures ok { OnOk result (self.new ≡ self.old ++ (key, change) ∷ []) }
         ensures order { IsErrOf result PushError.OutOfOrder ↔ (goes_last key self.old ≡ false) }
@@ -149,9 +149,8 @@ impl<V: Drop, A: Allocator + Copy> Run<V, A> {
         Ok(())
     }
 
-    /// Adds a change behind the others, under a key that is above the last one. Where memory is
-    /// refused the change is dropped and the run stays as it was. `push` is for a key of which that
-    /// isn't known.
+    /// Appends a change, under a key that is above the last one. Where memory is refused the change is dropped and the run
+    /// stays as it was. For a key that may not be above it there is `push`.
     pub fn push_next(&mut self, key: Key<A>, change: Option<V>) -> Result<(), AllocError>
         requires { goes_last key self.old ≡ true }
         ensures ok { OnOk result (self.new ≡ self.old ++ (key, change) ∷ []) }

@@ -156,7 +156,7 @@ module _ {V : Type 0} where
   rest_by true e es q h r = lookup-none (λ j. is_eq (order q j)) es (none_past_head alike q e es (IsDistinct-from_sorted order (keys_of (e ∷ es)) r) h)
   rest_by false e es q h r = sym (lookup_tail (λ j. is_eq (order q j)) e es h)
 
-  -- behind the first pair the map has what it has, but nothing at the first key
+  -- after the first pair the map has what it has, but nothing at the first key
   pub value_at_rest : (e : List ℕ × V) (es : List (List ℕ × V)) (q : List ℕ) → IsRising (e ∷ es) → value_at q es ≡ cond (is_eq (order q e.0)) None (value_at q (e ∷ es))
   value_at_rest e es q r = rest_by (is_eq (order q e.0)) e es q refl r
 

@@ -17,7 +17,7 @@ is_on UpTo k j = not (is_lt (order k j))
 is_on Below k j = is_lt (order j k)
 is_on Above k j = is_lt (order k j)
 
--- how two keys on this side of a third stand to each other, the nearer one being the greater
+-- how two keys on this side of a third compare, the nearer one being the greater
 abbrev pub nearness : Side → Bytes → Bytes → Ordering
 nearness UpTo i j = order i j
 nearness Below i j = order i j

@@ -44,7 +44,7 @@ pub fn find<'a, V, A: Allocator + Copy>(
     find_lent(chain.lent(), key, probes)
 }
 
-/// The same of what is lent of a page, from one of its runs down.
+/// `find` in a borrowed part of a page: from one of its runs down.
 pub fn find_lent<'a, V, A: Allocator + Copy>(
     chain: ChainRef<'a, V, A>,
     key: &[u8],

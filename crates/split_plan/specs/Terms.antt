@@ -1,4 +1,4 @@
--- What a parent is told of the changes of its children.
+-- The run that a parent gets for the changes of its children.
 use Rattle.std.specs.Prelude.{ℕ, List, [], ◌∷◌, map, flat_map, Option, Some, None}
 use Rattle.std.specs.declared.cmp.Ordering.{Ordering}
 use Rattle.std.specs.declared.cmp.Ordering.TheVariants.{Less, Greater}
@@ -29,7 +29,7 @@ term_at (Some pid) freed = Some (Some pid)
 term_at None (Some pid) = Some None
 term_at None None = None
 
--- how the first name of one list stands to that of another; an empty list is as one that begins above every key
+-- how the first name of one list compares to that of another; an empty list is as one that begins above every key
 abbrev pub front_order : Names → Names → Ordering
 front_order [] ms = Greater
 front_order (n ∷ ns) [] = Less
