@@ -1,4 +1,4 @@
-//! The two kinds of page, by what their entries have: by which functions their frames are written.
+//! How the frames of the two kinds of page are written.
 use delta_chain::{Base, Run};
 use frame_codec::{
     Spelling, write_delta_index, write_delta_leaf, write_full_index, write_full_leaf,
