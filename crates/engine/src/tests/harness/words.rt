@@ -85,7 +85,7 @@ fn command(alloc: Global, word: &str) -> Result<Command<Global>, AllocError> {
     }
 }
 
-// The commands of a batch, of which there are none in an empty word.
+// The commands of a batch; an empty word has none.
 pub(crate) fn commands(alloc: Global, batch: &str) -> Result<Vec<Command<Global>>, AllocError> {
     let mut commands = Vec::new(alloc);
     if batch.is_empty() {

@@ -215,7 +215,7 @@ fn bytes_that_are_no_frame_are_refused(rt: HostRuntime) -> Result<(), Fail> {
         b"\x06\0\0\0\x18\0\0\0\0\0\0\0\x01\0\x01c\0\x02\x01\0\0\x013\x02\x01d\0\x014",
         b"\x06\0\0\0\x19\0\0\0\0\0\0\0\x01\0\x01c\0\x02\x01\0\0\x013\0\x02cd\0\x014",
         b"\x06\0\0\0\x17\0\0\0\0\0\0\0\x01\0\x01c\0\x02\x01\0\0\x013\x01\0\0\x014",
-        // A second key that is before the first one, and one of 17 bytes, of which it shares 16.
+        // A second key that is before the first one, and one of 17 bytes that shares 16 of them.
         b"\x06\0\0\0\x18\0\0\0\0\0\0\0\x01\0\x01c\0\x02\x01\0\0\x013\0\x01b\0\x014",
         b"\x06\0\0\0\x27\0\0\0\0\0\0\0\x01\0\x10abcdefghijklmnop\0\x02\x10\0\0\x013\x10\x01q\0\x014",
         // A frame that is cut off.

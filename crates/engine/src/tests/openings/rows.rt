@@ -14,7 +14,7 @@ use keys::Fault;
 use std::alloc::Global;
 use std::thread::Threads;
 
-// An example: its steps, of which the last is a flush or a clean, what an empty flush afterwards answers, and the store as it is shown.
+// An example: its steps, the last one a flush or a clean, what an empty flush afterwards answers, and the store as it is shown.
 pub(crate) struct BackRow {
     pub(crate) name: &'static str,
     pub(crate) steps: &'static [&'static str],
