@@ -38,7 +38,7 @@ all_seen xs = map seen_now xs
 abbrev pub groups_seen : {A : Type 0} → List (Vec Seen A) → List (List SeenPage)
 groups_seen gs = map (λ g. all_seen g.items) gs
 
--- what a parent's entry says of it
+-- its name: what a parent's entry holds of it
 abbrev pub seen_name : SeenPage → Bytes × ℕ
 seen_name x = (low_of x.page, x.pid)
 

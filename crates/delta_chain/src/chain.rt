@@ -351,8 +351,8 @@ fn make_room<V: Drop, A: Allocator + Copy>(runs: &mut Vec<Run<V, A>, A>) -> Resu
     Ok(())
 }
 
-// Lets the cell and the one that the newest of these runs that names the key has, if it has one, stand in each other's place, and
-// says whether one names the key. The runs are given the oldest first.
+// Lets the cell and the one that the newest of these runs that names the key has, if it has one, stand in each other's place, and returns
+// whether one names the key. The runs are given the oldest first.
 fn swap_in_runs<V: Drop, A: Allocator + Copy>(
     runs: &mut [Run<V, A>],
     key: &KeyRef<'_>,

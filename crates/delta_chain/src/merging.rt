@@ -45,9 +45,9 @@ fn lent_run<V, A: Allocator + Copy>(
     Ok(Pairs::of_list(lent))
 }
 
-/// What these runs say together, lent: the keys that they name, each with what the newest run that names it says. The runs are given the
-/// oldest first. Each half of them is merged by itself first: a page that was read from a disk may have as many runs as the disk has room
-/// for, and n of them cost n * log n. So the calls go no deeper than the logarithm of their number.
+/// The changes of these runs joined, lent: each key that they name, with the change of the newest run that names it. The runs are given
+/// the oldest first. Each half of them is merged by itself first: a page that was read from a disk may have as many runs as the disk has
+/// room for, and n of them cost n * log n. So the calls go no deeper than the logarithm of their number.
 pub(crate) fn merged<'a, V, A: Allocator + Copy>(
     alloc: A,
     runs: &'a [Run<V, A>],

@@ -85,7 +85,7 @@ impl<A: Allocator + Copy> FaultDisk<A> {
     }
 }
 
-// Counts a write or a sync, and says whether it is one that fails.
+// Counts a write or a sync, and returns whether it is one that fails.
 fn is_to_fail(failing: Failing, calls: &mut u64) -> bool
     ensures counted { calls.new ≡ min (calls.old + 1) (2 ^ 64 - 1) }
     ensures wanted { result ≡ is_wanted failing calls.new }

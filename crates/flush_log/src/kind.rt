@@ -14,7 +14,7 @@ pub(crate) trait Kind<A: Allocator>: Drop {
     ghost use Rattle.frame_codec.specs.Frame.{Content, bytes_of};
     ghost use Rattle.frame_codec.specs.Sized.{IsSized, HasWords};
 
-    // What a frame says of such a page: a base under a low key, with its keys spelled in one way or the other, and a run.
+    // The content of a frame of such a page: a base under a low key, with its keys spelled in one way or the other, and a run.
     ghost full: { spellings.Spelling → Bytes → Pairs Self → Content };
 
     ghost delta: { Changes Self → Content };

@@ -29,7 +29,7 @@ pub struct LogEnds {
     pub tail: u64,
 }
 
-/// What a slot says of the store. Contracts see it as the definitions' slot.
+/// The fields of a slot. Contracts see it as the definitions' slot.
 #[derive(Clone, Copy, Debug, PartialEq, Eq)]
 pub struct Slot {
     /// The log.

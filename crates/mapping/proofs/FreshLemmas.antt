@@ -16,7 +16,7 @@ use Rattle.mapping.proofs.Listing.{rising-listing}
 
 -- ---- numbers
 
--- `count` of the least free numbers are drawn, and no free number is left below this one
+-- m of the least free numbers are drawn, `count` at most, and no free number is left below this one
 pub record AreDrawn (used pids : List ℕ) (m count next : ℕ) : Type 0 where
   pub drawn : pids ≡ fresh_pids used m
   pub few : m ≤ count

@@ -31,7 +31,7 @@ use Rattle.recovery.specs.declared.gather.Wanted.TheVariants.{Every, Head}
 abbrev pub telling : ℕ → List Found → List Found
 telling pid found = from_last (λ f. is_start f.frame.content) (filter (λ f. nat_eq f.frame.pid pid) found)
 
--- what these say
+-- their contents
 abbrev pub contents_in : List Found → List Content
 contents_in fs = map (λ f. f.frame.content) fs
 

@@ -69,7 +69,7 @@ fn read_parts<D: Disk>(
 }
 
 /// Reads the store that the disk holds. It writes nothing. The crew scans the segments and builds the pages; the answer is the same
-/// for every crew. Logs of both versions are read, each by the version that its slot says: what only the second one may have is no
+/// for every crew. Logs of both versions are read, each by the version in its slot: what only the second one may have is no
 /// frame in a log of the first.
 ///
 /// A disk that has no settings block, or is shorter than that calls for, is `Fault::NotAStore`; one without an open slot, or with one

@@ -103,7 +103,7 @@ module _ (key : List ℕ) where
       record { before = []; first = e; rest = es; parts = refl; kept = kept-all (e ∷ es) (l, behind); behind = behind; here = inl refl }
   cut_first false e es b r = cut_from e es r b
 
-  -- rising entries, if there are any, are cut so
+  -- rising entries, one at least, are cut so
   pub cut : (es : Names) → IsRising es → 0 < length es → IsCut key es
   cut [] r n = absurd (omega arith)
   cut (e ∷ es) r n = cut_first (is_below key e.0) e es refl r

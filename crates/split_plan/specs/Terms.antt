@@ -23,7 +23,7 @@ freed_of cs = flat_map freed_by cs
 abbrev pub terms : {V : Type 0} → List (Change V) → Changes ℕ
 terms cs = with_run (absent (names (freed_of cs))) (present (names (fresh_of cs)))
 
--- what the terms say of a key, where new pieces and freed members have these pids at it
+-- the term of a key, where new pieces and freed members have these pids at it
 abbrev pub term_at : Option ℕ → Option ℕ → Option (Option ℕ)
 term_at (Some pid) freed = Some (Some pid)
 term_at None (Some pid) = Some None

@@ -96,7 +96,7 @@ static ROWS: [Row; 8] = [
         changes: &[(783, 2), (784, 0), (767, 1)],
         fault: "15 BadFrame 0 254",
     },
-    // The last run of page 0 is said to be of page 2, an index page.
+    // The last run of page 0 is given to page 2, an index page.
     Row {
         changes: &[(796, 2)],
         fault: "16 BadStructure 1 2",

@@ -1,5 +1,4 @@
-//! Frames as bytes: the frames of the worked examples are read as what they say and written again as they stand, and bytes
-//! that are no frame are refused.
+//! Frames as bytes: the frames of the worked examples are decoded and encoded again, and bytes that are no frame are refused.
 ghost use Rattle.std.specs.Prelude.{◌≡◌, None};
 ghost use Rattle.keys.specs.Limits.{first_bad_field};
 
@@ -71,7 +70,7 @@ fn with_low(alloc: Global, low: &[u8], entries: &[u8]) -> Result<Vec<u8>, AllocE
     Ok(text)
 }
 
-// What a frame says, as its low key, a colon and its entries; and its page id.
+// A frame as text: its low key, a colon and its entries; and its page id.
 fn said(alloc: Global, frame: &Frame) -> Result<(Vec<u8>, u64), AllocError> {
     match frame {
         Frame::FullLeaf { pid, low, base, .. } => {
@@ -91,7 +90,7 @@ fn said(alloc: Global, frame: &Frame) -> Result<(Vec<u8>, u64), AllocError> {
     }
 }
 
-// Whether the bytes are read, in a log of this format, as a frame that says this, and has all of them.
+// Whether the bytes decode, in a log of this format, to a frame that prints so, and has all of them.
 fn is_read(
     alloc: Global,
     format: &Format,

@@ -153,7 +153,7 @@ static ROWS: [BackRow; 12] = [
         flushed: "; flushed 3; ",
         store: UPGRADED_STORE,
     },
-    // Frames of both versions say what pages hold.
+    // Pages that are made of frames of both versions.
     BackRow {
         name: "log 15.1, and a flush more",
         steps: &[FIVE_PUTS, "flush", "upgrade", "a=9", "flush"],
