@@ -65,7 +65,7 @@ below_all k j (i ∷ is) h a = (total.trans k j i h a.0, below_all k j is h a.1)
 module _ {V : Type 0} where
   -- ---- what is put
 
-  -- one step of setting a key, by how the key stands to the first pair's
+  -- one step of setting a key, by how the key compares to the first pair's
   abbrev Set : Ordering → List ℕ → V → List ℕ × V → List (List ℕ × V) → List (List ℕ × V) → List (List ℕ × V)
   Set o k v e es rest = match_ordering o ((k, v) ∷ e ∷ es) ((e.0, v) ∷ es) (e ∷ rest)
 

@@ -1,4 +1,4 @@
--- Words that are compared as numbers, the greatest byte first, stand to each other as their bytes do.
+-- Words that are compared as numbers, the greatest byte first, compare as their bytes do.
 use Rattle.std.proofs.Common.{◌≡◌, ℕ, zero, suc, ◌+◌, ◌*◌, ◌<◌, ◌≤◌, List, [], ◌∷◌, length, take, drop, refl, sym, ap, ◌∙◌, arith, slice_index_or, subst}
 use Rattle.keys.specs.Words.{word_behind, IsWordOf}
 use Rattle.keys.proofs.MapLemmas.{flipped_less}
@@ -13,7 +13,7 @@ use Rattle.std.specs.Slice.Scan.{big_endian}
 use Rattle.keys.specs.Cells.{AreBytes}
 use Rattle.keys.specs.Order.{order}
 
--- ---- how numbers stand to each other
+-- ---- how numbers compare
 
 below : (x y : ℕ) → x < y → nat_cmp x y ≡ Less
 below x y l = sym (nat_cmp_is x y Less l)
