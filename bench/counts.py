@@ -1,7 +1,7 @@
 #!/usr/bin/env python3
 """Counts what a batch costs, by valgrind's callgrind: instructions a command, and misses of a last cache of 2 MB, phase by phase.
 
-The same program on the same commands counts the same whatever else the machine does, so it tells two trees apart where times can't. It builds
+The same program on the same commands counts the same whatever else the machine does, so it compares two trees where times can't. It builds
 `crew/` without a proof over the crates of each tree (`library.py`); the counts are of such builds alone. What other threads do is not counted, so
 batches are shorter than the 4,096 commands from which on some trees sort by several threads. It needs valgrind and a C compiler.
 """

@@ -37,7 +37,7 @@ class Clock:
 
 
 def long_batches(command):
-    """Of each phase the seconds of all its batches, from the line before a batch to the one behind it."""
+    """Of each phase the seconds of all its batches, from the line before a batch to the one after it."""
     took, last = dict.fromkeys(PHASES, 0.0), 0.0
     with subprocess.Popen(command, stdout=subprocess.PIPE, text=True, bufsize=1) as process:
         for line in process.stdout:
@@ -52,7 +52,7 @@ def long_batches(command):
 
 
 def measure_long(clock, program, crews, repeats):
-    """Runs all phases by each crew in turn, so many times."""
+    """Runs all phases by each crew in turn, `repeats` times."""
     for _, kind, (workers, grain) in itertools.product(range(repeats), SETTINGS, crews):
         print(f"  long batches: {kind}, {workers} workers, grain {grain}", file=sys.stderr)
         numbers = map(str, (*SETTINGS[kind], workers, grain))
@@ -72,7 +72,7 @@ def short_phases(work):
 
 
 def measure_short(clock, program, crews, phases, repeats, text):
-    """Runs the batch file by each crew in turn, so many times; all crews must print the same."""
+    """Runs the batch file by each crew in turn, `repeats` times; all crews must print the same."""
     write_session(text, phases)
     digests = {}
     for _, kind, (workers, grain) in itertools.product(range(repeats), KINDS, crews):

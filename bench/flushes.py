@@ -13,7 +13,7 @@ from run import LONG, PROGRAM, Work
 SETTINGS = "--fan 32 --chain 16 --seg-size 1048576 --segments 256".split()
 SEGMENT = 65_536  # bytes, where the text of a flush is measured in segments
 AGAIN = 20  # flushes after one put
-MARK = "get -\ngo\n"  # prints `missing`, and so tells that all before it is done
+MARK = "get -\ngo\n"  # prints `missing`, and so shows that all before it is done
 
 
 def write_session(path, work, again=AGAIN):
@@ -30,7 +30,7 @@ def write_session(path, work, again=AGAIN):
 
 
 def holds(program, path, segments):
-    """Whether a log of so many segments has room for the first flush and one segment free."""
+    """Whether a log of `segments` segments has room for the first flush and one segment free."""
     settings = f"--fan 32 --chain 16 --seg-size {SEGMENT} --segments {segments}".split()
     with open(path, "rb") as file:
         ended = subprocess.run([program, *settings], stdin=file, stdout=subprocess.DEVNULL, stderr=subprocess.PIPE)

@@ -108,7 +108,7 @@ def whole_lines(printed):
 
 
 def told(printed):
-    """How many flushes were told."""
+    """How many flushes were reported."""
     return sum(line.startswith("flushed") for line in whole_lines(printed))
 
 
@@ -128,7 +128,7 @@ class Store:
         return self
 
     def run(self, batches, folder, delay=None):
-        """Runs so many batches more, and kills the program after a delay from its first lines on. Its exit status, the text that
+        """Runs `batches` more batches, and kills the program after a delay from its first lines on. Its exit status, the text that
         it printed, and how long it went on from these."""
         text, out = folder / "batches", folder / "out"
         text.write_text(batch_file(self.done + 1, self.done + batches))
@@ -144,7 +144,7 @@ class Store:
         return child.wait(), out.read_text(), time.monotonic() - start
 
     def look(self):
-        """What comes back, as `look_of` tells it; or what is said instead."""
+        """What comes back, as `look_of` has it; or what is said instead."""
         ended = subprocess.run([*self.program, "--disk", self.path], input=LOOK, capture_output=True, text=True)
         if ended.returncode:
             return [f"status {ended.returncode}: {ended.stderr.strip()}"]
@@ -152,7 +152,7 @@ class Store:
         return [" ".join([line[0], line[-1]] if line[:1] == ["ok"] else line) for line in words]
 
     def check(self, batches, printed):
-        """What is wrong with what was printed for so many batches, and with what comes back; nothing where all is right."""
+        """What is wrong with what was printed for `batches` batches, and with what comes back; nothing where all is right."""
         due = replies(self.done + 1, self.done + batches)
         lines = whole_lines(printed)
         if lines != due[: len(lines)]:
@@ -182,7 +182,7 @@ def whole_time(program, batches, folder):
 
 def kill_often(program, options, folder):
     """Kills a store some times, and goes on from what came back; then the next. What went wrong, and how far it came back:
-    by how many kills at the last flush that was told, or one further."""
+    by how many kills at the last flush that was reported, or one further."""
     chance = random.Random(options.seed)
     whole = whole_time(program, options.batches, folder)
     print(f"{options.batches} batches take {whole:.2f} s", file=sys.stderr)

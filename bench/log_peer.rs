@@ -3,7 +3,7 @@
 //! Without `--disk` there is no file; settings are not looked at.
 //!
 //! The file has a record for each command that changed something, as it is run, and one for each flush, which alone makes
-//! those before it count. A flush is one sync. Nothing tells a record that a power cut left wrong; a kill leaves none.
+//! those before it count. A flush is one sync. Nothing detects a record that a power cut left wrong; a kill leaves none.
 
 #[allow(dead_code)]
 #[path = "peer.rs"]
@@ -87,7 +87,7 @@ impl Log {
     }
 }
 
-// The first record, and what is behind it; none where the text ends before it does.
+// The first record, and what is after it; none where the text ends before it does.
 fn record(text: &[u8]) -> Option<(&[u8], &[u8])> {
     let (length, rest) = text.split_first_chunk::<4>()?;
     rest.split_at_checked(u32::from_be_bytes(*length) as usize)
@@ -126,7 +126,7 @@ fn flushed(text: &[u8]) -> (usize, u64) {
     (length, sequence)
 }
 
-// The map that the file tells, and its log, which goes on behind the last flush.
+// The map that the file holds, and its log, which goes on after the last flush.
 fn recover(path: &str) -> io::Result<(Map, Log)> {
     let text = fs::read(path)?;
     let (length, sequence) = flushed(&text);
@@ -178,7 +178,7 @@ fn parse(text: &[u8]) -> Option<Vec<Order>> {
     Some(orders)
 }
 
-// Does what the order says, and appends its lines. A verify looks at nothing, and tells one page on one level.
+// Does what the order says, and appends its lines. A verify looks at nothing, and prints one page on one level.
 fn run(map: &mut Map, log: &mut Log, order: &Order, lines: &mut Vec<u8>) -> io::Result<()> {
     match order {
         Order::Batch(commands) => {

@@ -103,7 +103,7 @@ fn chosen() -> Remove {
     }
 }
 
-// The first so many pairs from the one bound on, and below the other.
+// The first `limit` pairs from the one bound on, and below the other.
 fn rows(map: &Map, lo: &[u8], hi: Option<&[u8]>, limit: usize) -> Vec<(Vec<u8>, Vec<u8>)> {
     map.range::<[u8], _>((Bound::Included(lo), Bound::Unbounded))
         .take_while(|(key, _)| hi.is_none_or(|hi| key.as_slice() < hi))
@@ -168,9 +168,9 @@ fn parse(text: &[u8]) -> Option<Vec<Vec<Command>>> {
     Some(batches)
 }
 
-// The replies to the commands, each at its command's place. They are run in the order of their keys, those of one key in
-// the order of their places; but where a batch has changes, and scans or wipes, all in the order of their places. Each is told when it
-// has been run.
+// The replies to the commands, each at its command's place. They are run in the order of their keys, those of one key in the order of
+// their places; but where a batch has changes, and scans or wipes, all in the order of their places. `told` is called with each when
+// it has been run.
 pub fn run_batch(map: &mut Map, commands: &[Command], mut told: impl FnMut(&Command, &Reply)) -> Vec<Reply> {
     let mut keyed: Vec<_> = commands.iter().map(Command::key).zip(0..).collect();
     if !commands.iter().any(Command::is_ranged) || !commands.iter().any(Command::is_change) {

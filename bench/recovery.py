@@ -17,14 +17,14 @@ from run import LONG, PEER, PROGRAM, Phase, Running, Work, build_peer, run_sessi
 KINDS = {"fan 32, chain 16": (["--fan", "32", "--chain", "16"], 1_048_576), "defaults": ([], 65_536)}  # with --seg-size
 ROOM = 800  # bytes of the log for each put: more than are written
 AT_END = sys.maxsize
-MARK = "get -\ngo\n"  # prints `missing`, and so tells that all before it is done
-MARKS = 4_000  # so many of them print more than the pipe and the buffer of its reader hold
+MARK = "get -\ngo\n"  # prints `missing`, and so shows that all before it is done
+MARKS = 4_000  # that print more than the pipe and the buffer of its reader hold
 PIPE = 4_096  # bytes
 
 
 @dataclass(frozen=True)
 class Puts:
-    """Puts in long batches, with a flush behind each so many of them and behind the last."""
+    """Puts in long batches, with a flush after `every` of them and after the last."""
 
     keys: list
     every: int
@@ -114,7 +114,7 @@ class Program:
         return [*self.command, "--disk", self.disk]
 
     def created(self, puts):
-        """Makes the file anew, with room for so many puts."""
+        """Makes the file anew, with room for `puts` puts."""
         segments = 64 + puts * ROOM // self.seg_size
         return [*self.opened(), "--create", *self.settings, "--seg-size", str(self.seg_size), "--segments", str(segments)]
 
@@ -143,7 +143,7 @@ class Program:
 
     def memory(self, text, rows):
         """Bytes of memory that were in use at most until the store was back, and that are in use then. The program has more short
-        batches than the pipe holds replies, so it waits, having done little else, until these are read. `ru_maxrss` doesn't tell:
+        batches than the pipe holds replies, so it waits, having done little else, until these are read. `ru_maxrss` doesn't show it:
         that of a child counts what its parent, this script, had in use when it began. At last all pairs must be there."""
         text.write_text(MARK * MARKS + "scan % * 4294967295\n")
         with open(text, "rb") as file:

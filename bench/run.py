@@ -96,7 +96,7 @@ class Work:
             yield f"put {key} {self.value(at + salt)}" if at % 2 else f"get {key}"
 
     def ranges(self, keys, rows):
-        """From each key on so many rows, up to the key behind them: the key, that one or no bound, and how many rows there are."""
+        """From each key on `rows` rows, up to the key after them: the key, that one or no bound, and how many rows there are."""
         rising = sorted(self.keys)
         for key in keys:
             start = bisect.bisect_left(rising, key)
@@ -165,7 +165,7 @@ def sessions(work):
 
 
 def write_session(path, phases):
-    """Writes the batch file. A first batch of one command tells by its reply that the text has been read."""
+    """Writes the batch file. The reply to a first batch of one command shows that the text has been read."""
     with open(path, "w") as file:
         file.write("get 0\ngo\n")
         for phase in phases:
@@ -187,7 +187,7 @@ class Running:
         self.behind = b""  # what was read and belongs to later lines
 
     def take(self, lines, digest):
-        """Reads so many lines."""
+        """Reads this many lines."""
         while lines:
             chunk = self.behind or self.child.stdout.read(1 << 16)
             if not chunk:
@@ -206,7 +206,7 @@ class Running:
         return int(pages) * os.sysconf("SC_PAGE_SIZE")
 
     def phase(self, lines, by_batch=False):
-        """Times the phase whose batches print so many lines each, and where it is asked for, each batch by itself."""
+        """Times the phase whose batches print this many lines each, and where it is asked for, each batch by itself."""
         parts = lines if by_batch else [sum(lines)]
         digest = hashlib.blake2b()
         wall, marks = time.monotonic(), [self.cpu()]
@@ -348,7 +348,7 @@ def print_memory(results, names, raw):
 
 
 def print_scan_memory(results, names):
-    """How much memory is in use behind each phase of scans: what the largest batch before took stays in use."""
+    """How much memory is in use after each phase of scans: what the largest batch before took stays in use."""
     print(f"\n| memory behind, MB | {' | '.join(names)} |\n|---|{'---|' * len(names)}")
     for phase in dict.fromkeys(phase for phase, _ in results.best):
         if "scan" in phase.name:

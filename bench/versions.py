@@ -55,7 +55,7 @@ ORDERS = {"in no order": list, "in key order": sorted}
 
 
 def bytes_of(key):
-    """How many bytes it has: an escape tells one."""
+    """How many bytes it has: an escape stands for one."""
     return len(key) - 2 * key.count("%")
 
 
@@ -108,7 +108,7 @@ def flushed(program, keys, version, text):
 
 
 def done(program, word, count, text):
-    """What so many of these lines take on the store, once it has come back."""
+    """What `count` of these lines take on the store, once it has come back."""
     text.write_text(MARK + f"{word}\n" * count)
     running = Running(program.opened(), text)
     running.phase([1])

@@ -35,7 +35,7 @@ class Settings:
 
 @dataclass(frozen=True)
 class Slot:
-    """What a commit leaves: the number of commits, the log from its first segment to behind its last frame, the tree's root and height, and the
+    """What a commit leaves: the number of commits, the log from its first segment to the end of its last frame, the tree's root and height, and the
     version of the log, 0 for the first one and 2 for the second."""
 
     sequence: int
@@ -148,7 +148,7 @@ def fitting_disk(frames: list[bytes], root: int = 0, height: int = 1, version: i
 
 
 def appended(settings: Settings, disk: bytes, slot: Slot, frames: Iterable[bytes], version: int) -> bytes:
-    """The disk once these frames are committed behind the log that the slot tells, with its tree as it is. At least one segment stays free."""
+    """The disk once these frames are committed after the log that the slot gives, with its tree as it is. At least one segment stays free."""
     now, at = bytearray(disk), slot.tail
     for each in frames:
         segment, offset = at // settings.seg_size, at % settings.seg_size

@@ -15,10 +15,10 @@ from checks.rules import LOOK, ending_of, look_of, settings_of, slot_of
 
 DEEP = 200_000  # runs of a page
 RUN = 80  # bytes that a run takes in its page
-ROOM = 262_144 * RUN  # what a page with so many runs takes by itself, since its room doubles from 16 on
+ROOM = 262_144 * RUN  # what such a page takes by itself, since its room doubles from 16 on
 MANY = 100_000  # free frames
 LEAVES = 61_680  # empty leaves, a mebibyte of their frames
-SLOT, SLOTS = 256, 65_536  # bytes that a page takes in its table, and how many of them have room in that of so many leaves, which doubles
+SLOT, SLOTS = 256, 65_536  # bytes that a page takes in its table, and how many of them have room in that of these leaves, which doubles
 TIMES = 10  # the most memory that a disk may take beyond what its pages take, by its own length
 DAMAGED, PARTS = 400, 8
 WIDE = Settings(fan=64, max_key=255)  # where keys that share beginnings are longest beside the bytes that spell them
@@ -97,7 +97,7 @@ def many_segments() -> bytes:
 
 
 def key_of(number: int, length: int) -> bytes:
-    """A key of this length, whose last byte alone tells it from others."""
+    """A key of this length that differs from others in its last byte alone."""
     return b"k" * (length - 1) + bytes([number])
 
 
@@ -114,7 +114,7 @@ def long_keys() -> bytes:
 
 
 def long_keys_again() -> bytes:
-    """As many bases of one page, of which the last one alone lives."""
+    """As many bases of one page, where the last one alone lives."""
     again = many_bases(shared_leaf, LONGEST)
     return fitting_disk([again[0]] * len(again) + [shared_leaf(1, b"", {b"a": b"1"})], root=1, version=2, settings=WIDE)
 
@@ -214,7 +214,7 @@ def look_at(programs: Programs, number: int) -> Outcome:
 
 
 def compare_times(programs: Programs) -> Outcome:
-    """Whether a megabyte of bases whose keys share beginnings is read as fast as one of whole keys, each of which is a byte."""
+    """Whether a megabyte of bases whose keys share beginnings is read as fast as one of whole keys, which are a byte each."""
     with new_folder() as folder:
         seconds = []
         for leaf, length in ((full_leaf, 1), (shared_leaf, 1), (shared_leaf, LONGEST)):
@@ -243,7 +243,7 @@ NO_BASES = [
 
 
 def refuse_frames(programs: Programs) -> Outcome:
-    """Whether what is no frame of version 2 is refused at its place, whatever stands behind it; and frames of its kinds in a log of version 1."""
+    """Whether what is no frame of version 2 is refused at its place, whatever stands after it; and frames of its kinds in a log of version 1."""
     refused = [(what, frame(6, 0, counted(low) + count.to_bytes(2, "big") + bytes.fromhex(entries)), 2) for what, low, count, entries in NO_BASES]
     refused += [("a shared leaf in a log of version 1", SHARED_PAIR, 0), ("a shared index page there", shared_index(0, b"", {b"": 1}), 0)]
     refused += [("a frame of kind 8", frame(8, 0), 2), ("a shared leaf that is read as an index page", b"\7" + SHARED_PAIR[1:], 2)]
@@ -300,7 +300,7 @@ def small_leaf(chance: random.Random, pid: int, low: bytes, end: bytes, leaf: Ca
 
 
 def small_tree(chance: random.Random, version: int) -> bytes:
-    """A disk with a tree of three levels and what older pages have left. The runs of a page stay behind its base. In a log of version 2 some
+    """A disk with a tree of three levels and what older pages have left. The runs of a page stay after its base. In a log of version 2 some
     bases have whole keys, as an older one left them."""
     leaves, indexes = ([full_leaf, shared_leaf], [full_index, shared_index]) if version else ([full_leaf], [full_index])
     lows = [b"", b"c", b"cf", b"k", b"kk", b"t"]

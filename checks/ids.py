@@ -1,7 +1,7 @@
 """Page ids that a table of std puts into one place, where it hashes with the fixed seed that it has by itself.
 
 Its hash of an id is that of `FoldHasher`: the id, by xor with the seed, is multiplied to 128 bits, and these are folded by xor, at last to 32 bits.
-An entry is looked for from the place on that the hash's low bits tell. So ids whose hashes have the low 16 bits in common are all looked for from
+An entry is looked for from the place on that the hash's low bits give. So ids whose hashes have the low 16 bits in common are all looked for from
 one place, in a table of up to 65,536 groups.
 """
 
@@ -26,7 +26,7 @@ def part(product: int, number: int) -> int:
 
 
 def tops(above: int) -> dict[int, list[int]]:
-    """The upper 16 bits of a factor, by what they do to the low bits of a hash: they reach the product's parts 3 to 7, of which 4 and 6 count."""
+    """The upper 16 bits of a factor, by what they do to the low bits of a hash: they reach the product's parts 3 to 7; 4 and 6 count."""
     found = defaultdict(list)
     for top in range(2**16):
         product = top * MULTIPLIER << 48

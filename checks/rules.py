@@ -9,7 +9,7 @@ from checks.forge import HEADER, MOST, Settings, Slot, header
 LEAVES = (1, 2, 6)
 FULL = (1, 3, 6, 7)
 SHARED = (6, 7)
-RUNS = {1: 2, 6: 2, 3: 4, 7: 4, 5: None}  # of which kind the frames of runs are that may stand behind a frame of a kind
+RUNS = {1: 2, 6: 2, 3: 4, 7: 4, 5: None}  # by the kind of a frame, the kind of the frames of runs that may follow it
 DELTAS = (2, 4)
 FREE = 5
 KINDS = {0: range(1, 6), 2: range(1, 8)}  # that a log knows, by the number of its version
@@ -195,7 +195,7 @@ def log_of(disk: bytes, slot: Slot, settings: Settings) -> list[Frame]:
 
 
 def page_by_log(frames: list[Frame], pid: int) -> Page | None:
-    """The page that the frames of this pid tell."""
+    """The page that the frames of this pid make."""
     starts = [at for at, each in enumerate(frames) if each.kind not in DELTAS]
     if not starts:
         return None

@@ -1,4 +1,4 @@
-"""Drawn sessions with kills, crashes and failing calls, by `bench/soak.py`; and faults that are planted, each of which it must find."""
+"""Drawn sessions with kills, crashes and failing calls, by `bench/soak.py`; and faults that are planted, which it must all find."""
 
 from pathlib import Path
 

@@ -200,7 +200,7 @@ def drawn_command(chance: random.Random, drawn: Map, weights: list[int], keys: i
 
 
 def drawn_batches(chance: random.Random, batches: int, most: int, keys: int) -> tuple[bytes, bytes]:
-    """Batches by chance, in turn two that mostly put and two that mostly delete, a scan of all pairs behind them, and what is printed."""
+    """Batches by chance, in turn two that mostly put and two that mostly delete, a scan of all pairs after them, and what is printed."""
     drawn, text, printed = Map(), bytearray(), bytearray()
     for batch in range(batches):
         weights = [240, 40, 40, 5, 10] if batch % 4 < 2 else [40, 240, 40, 5, 10]

@@ -18,7 +18,7 @@ pub answers_left : (said : List code_answer.Answer) (i : ℕ) (a : code_answer.A
     → lines_of_answers (drop i said) ≡ shown_answer (answer_of a) ++ lines_of_answers (drop (i + 1) said)
 answers_left said i a h is = ap lines_of_answers (drop_more said i a h ∙ ap (λ (b : code_answer.Answer). b ∷ drop (i + 1) said) (sym is))
 
--- what is left to print, printed behind what stands there now, is what all of it prints behind what stood there first
+-- what is left to print, printed after what stands there now, is what all of it prints after what stood there first
 abbrev pub PrintsBehind : Option (List ℕ) → List (List ℕ) → Option (List ℕ) → List (List ℕ) → Type 0
 PrintsBehind old all now left = (new : Option (List ℕ)) (end : Result (Unit {0}) Ending) → Prints now new left (Ok tt) end → Prints old new all (Ok tt) end
 

@@ -26,7 +26,7 @@ use Rattle.bwsh.proofs.CommandLineLemmas.{Comes, rest_fault, rest_rows, words_co
 abbrev built_disk : Rule
 built_disk = filled (text_rule (codes "disk"))
 
--- what stands behind the options that take a number
+-- what stands after the options that take a number
 abbrev last_rules : List Rule
 last_rules = built_disk ∷ built_create ∷ built_help ∷ []
 
@@ -102,7 +102,7 @@ has_options = record {
   positional = refl;
 }
 
--- ---- before the words and behind them
+-- ---- before the words and after them
 
 no_level : (held : Held) (words : List Text) (stop : Option (Text × List Text))
     → level_fault (built bwsh).top [] held words (is_some (entered (built bwsh) stop)) (entered_fault (built bwsh) stop)
@@ -188,7 +188,7 @@ options_are_asked words rows none is_rows =
     let w = (from_asked words _ _ (asked words) refl (words_come_to words)).0 none in
     (w.0, w.1, is_rows ∙ rows_are words ∙ ap (λ (rs : List Row). fold with_default rs built_rules) w.2, w.3)
 
--- an error is want of memory, or right for the words
+-- an error is lack of memory, or right for the words
 pub error_is_right : (words : List Text) (e : Error) → HasKind (fault_of bwsh words) e → IsRightKind words (kind_of e)
 error_is_right words e (inl memory) = inl memory
 error_is_right words e (inr among) = (from_asked words _ _ (asked words) refl (words_come_to words)).1 (kind_of e) among

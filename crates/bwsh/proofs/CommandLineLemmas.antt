@@ -95,7 +95,7 @@ abbrev pub IsKnown : Late → Type 0
 IsKnown None = Unit {0}
 IsKnown (Some p) = takes_text p.0 ≡ true
 
--- what the words come to behind it
+-- what the words come to after it
 abbrev pub taken_late : Late → Given → (Given → Asked) → Asked
 taken_late None given next = next given
 taken_late (Some p) given next = taken p.0 p.1 given next
@@ -112,7 +112,7 @@ refused_late (Some p) given = go (is_given p.0 given) (fits p.0 p.1)
 Refuses-late : (p : Late) (given : Given) (kinds : Kinds) (rows : List Row) → Refuses kinds → Comes kinds rows (taken_late p given (λ _. refused))
 Refuses-late p given kinds rows r = subst (Comes kinds rows) (refused_late p given) r
 
--- the faults and the rows of the words behind here
+-- the faults and the rows of the words from here on
 abbrev pub rest_fault : List Rule → Walk → List Text → Kinds
 rest_fault c w words = or_else (walk_fault (shape c) [] w words) (settle_fault c false (fold (walked c []) w words).held)
 
@@ -161,7 +161,7 @@ module _ (c : List Rule) (facts : HasOptions c) where
       (sym (facts.known name is).by_id)
       (ap (λ (b : Bool). standing rows (Some (name, word ∷ [])) (cond (nat_lt (cond b 1 0) 1) (option name) idle) false) ((bytes_eq-Decides name name).1 refl))
 
-  -- ---- behind `--`
+  -- ---- after `--`
 
   trailing_stray : (rows : List Row) (pen : Pending) (waiting : Waiting) (word : Text) (rest : List Text) → Refuses (rest_fault c (standing rows pen waiting true) (word ∷ rest))
   trailing_stray rows pen waiting word rest =

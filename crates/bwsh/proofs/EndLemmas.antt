@@ -90,7 +90,7 @@ module _ (old : Option (List ℕ)) (start : Start) (orders : List Order) {D : Ty
             (end_after None (Ok (x.settings, (x.store, file))) shown orders) done end runs kept ended,
       )
 
--- what is told has some right start
+-- what the words give has some right start
 start_by_rest : (settings : Settings) (disk : Option (List ℕ)) (create : Bool) → (start : Start) × IsStartBy settings disk create start
 start_by_rest settings None create = (new_start settings (replicate (disk_size settings) 0), refl)
 start_by_rest settings (Some path) true = (new_start settings [], ([], refl))
@@ -109,7 +109,7 @@ at_false : (b : Bool) (P Q : Type 0) → b ≡ false → Q → MatchBool b P Q
 at_false true P Q is q = cc
 at_false false P Q is q = q
 
--- what a check of the crew tells of it
+-- what a check of the crew shows of it
 pub in_range : (b : Bool) → MatchBool b (true ≡ true) (false ≡ true) → IsTrue b
 in_range true p = refl
 in_range false p = cc
@@ -118,9 +118,9 @@ pub out_of_range : (b : Bool) → MatchBool b (false ≡ true) (true ≡ true) �
 out_of_range true p = cc
 out_of_range false p = refl
 
--- what is told of a store in memory, of one in a file that is made anew, and of one that a file holds
+-- what the words give for a store in memory, for one in a file that is made anew, and for one that a file holds
 module _ (o : Options) (in_range : IsTrue (is_crew o.crew)) where
-  -- this is a right start by what else is told
+  -- this is a right start by what else the words give
   by_rest : (start : Start) → IsStartBy o.settings (told_of o).disk o.create start → IsStart (told_of o) start
   by_rest start is = at_true (is_crew o.crew) (IsStartBy o.settings (told_of o).disk o.create start) (start ≡ Err BadCrew) in_range is
 
@@ -265,7 +265,7 @@ module _ (text : List ℕ) where
     front_right None (Err fault) = ([], refl)
     front_right (Some b) start = (printed_by start shown text, refl)
 
--- ---- what follows of a session whose words tell something
+-- ---- what follows of a session whose words name a store
 
 -- all that the text orders is printed, from a right start that has a store
 abbrev IsDoneOn : Told → Option (List ℕ) → Option (List ℕ) → List ℕ → Type 0
@@ -316,16 +316,16 @@ module _ (told : Told) (known old new : Option (List ℕ)) where
 
 -- ---- what follows of any session
 
--- the words ask for help, or tell what all that the text orders is printed for
+-- the words ask for help, or give what all that the text orders is printed for
 abbrev IsAllDone : List (List ℕ) → Option (List ℕ) → Option (List ℕ) → Option (List ℕ) → Type 0
 IsAllDone words known old new = AsksForHelp words ⊎ ((told : Told) × AsksFor words told × IfSome known (IsDoneOn told old new))
 
--- the words ask for help, or nothing is printed, or they tell what a beginning of all that the text orders is printed for
+-- the words ask for help, or nothing is printed, or they give what a beginning of all that the text orders is printed for
 abbrev HasBegun : List (List ℕ) → Option (List ℕ) → Option (List ℕ) → Option (List ℕ) → Type 0
 HasBegun words known old new =
     AsksForHelp words ⊎ Appends old new [] ⊎ ((told : Told) × AsksFor words told × IfSome known (HasBegunOn told old new))
 
--- words that tell something are not refused
+-- words that name a store are not refused
 not_refused : (words : List (List ℕ)) (told : Told) → AsksFor words told → AreRefused words → ⊥
 not_refused words told (given, tells, is) refused = cc
 
@@ -430,9 +430,9 @@ all_follows words known old new unread untouched status end e kept p = record {
 pub Appends-same : {X : Type 0} (contents : X → Option (List ℕ)) (old new : X) → new ≡ old → Appends (contents old) (contents new) []
 Appends-same {X} contents old new e = subst (λ (x : X). Appends (contents old) (contents x) []) (sym e) (Appends-nil (contents old))
 
--- ---- words that tell no settings
+-- ---- words that give no settings
 
--- what refuses words is no help, and no want of memory
+-- what refuses words is no help, and no lack of memory
 not_help : (kind : ErrorKind) → is_refusal kind ≡ true → kind ≢ DisplayHelp
 not_help kind refuses e = let bad : false ≡ true = subst (λ (k : ErrorKind). is_refusal k ≡ true) e refuses in absurd (cc)
 

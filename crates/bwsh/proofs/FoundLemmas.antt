@@ -38,7 +38,7 @@ find-append-none {X} p (y ∷ xs) ys e = go (p y) (find-append-none p xs ys) e
     go true later e = cc
     go false later e = later e
 
--- where there is no row of the id, one is put behind the others
+-- where there is no row of the id, one is appended
 pub at_row-missing : (id : Text) (change : Row → List Row) (missing rows : List Row) → has_row id rows ≡ false → at_row id change missing rows ≡ rows ++ missing
 at_row-missing id change missing [] e = refl
 at_row-missing id change missing (r ∷ rs) e = go (bytes_eq r.id id) (at_row-missing id change missing rs) e

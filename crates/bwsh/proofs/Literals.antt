@@ -180,7 +180,7 @@ nothing_told : told_by []
     ≡ record { settings = record { fan = 16; chain = 4; max_key = 64; max_value = 256; seg_size = 65536; segments = 64 }; crew = record { workers = 1; grain = 64 }; disk = None; create = false }
 nothing_told = refl
 
--- a path is any text, but behind `--disk` none that looks like a flag
+-- a path is any text, but after `--disk` none that looks like a flag
 an_empty_path : asked (codes "--disk" ∷ [] ∷ []) ≡ options ((codes "disk", []) ∷ [])
 an_empty_path = refl
 

@@ -93,7 +93,7 @@ Prints-kept old mid new lines right end (inr (inl (e, (front, begins, b)))) k =
 Prints-kept old mid new lines right end (inr (inr (e, (front, begins, b)))) k =
     inr (inr (e, (front, begins, Appends-kept old mid new front b k)))
 
--- a device failed behind that
+-- a device failed after that
 pub Prints-device : (old mid new : Option (List ℕ)) (lines : List (List ℕ)) (right end : Result (Unit {0}) Ending)
     → Prints old mid lines right end → Keeps mid new → Prints old new lines right (Err Device)
 Prints-device old mid new lines right end p k =

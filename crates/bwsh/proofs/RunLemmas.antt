@@ -68,7 +68,7 @@ module _ (settings : Settings) (st : Store) (file : List ℕ) (order : Order) (o
   abbrev lines_alone : List (List ℕ)
   lines_alone = answer_lines settings st (λ i. file) (contents st.tree) (accepted settings st (λ i. file) (order ∷ []))
 
-  -- the order stops here for want of memory, or by its right
+  -- the order stops here for lack of memory, or by its right
   pub stopped : (fault : Fault) → new ≡ old → (fault ≡ NoMemory) ⊎ (refusal_of settings st file order ≡ Some fault) → AloneIs (Err (endings.Fault fault))
   unfolding Runs
   stopped fault same (inl memory) =
@@ -86,7 +86,7 @@ module _ (settings : Settings) (st : Store) (file : List ℕ) (order : Order) (o
   answered end none p = rw none (subst (λ (l : List (List ℕ)). Prints old new l (Ok tt) end) (sym (append-nil lines)) p)
 
   module _ (rest : List Order) (shown : Reads) where
-    -- the lines that orders answer behind it
+    -- the lines that orders answer after it
     abbrev further : Store → List (List ℕ)
     further now = answer_lines settings now shown (map_behind (contents st.tree) order) (accepted settings now shown rest)
 
@@ -104,7 +104,7 @@ module _ (settings : Settings) (st : Store) (file : List ℕ) (order : Order) (o
     Runs-stops : (early : Ending) → AloneIs (Err early) → Runs settings st (first_shown file shown) (order ∷ rest) old new (Err early)
     Runs-stops early p = stops_by early (refusal_of settings st file order) refl p
 
-    -- all of it is done: what the rest prints is behind it
+    -- all of it is done: what the rest prints is after it
     Runs-goes_on : (now : Store) (last : Option (List ℕ)) (done : Unit {0}) (end : Result (Unit {0}) Ending) → refusal_of settings st file order ≡ None → now ≡ left.0
         → contents now.tree ≡ map_behind (contents st.tree) order → AloneIs (Ok done) → Runs settings now shown rest new last end
         → Runs settings st (first_shown file shown) (order ∷ rest) old last end
@@ -308,7 +308,7 @@ module _ (honest : Bool) (settings : Settings) (st : Store) (seen : List ℕ) (o
       let one : z ≡ x = cc in
       late_by file old new z fault other one (subst (λ (s : Store). IsStepFault settings s file old new (step_of z) fault) same refused)
 
-  -- it is refused: by its right, or for want of memory, or since a device failed, before anything of it is written
+  -- it is refused: by its right, or for lack of memory, or since a device failed, before anything of it is written
   pub RunsOrder-refused : (text : Option (List ℕ)) (said : List code_answer.Answer) (now : Store) (file bytes : List ℕ) (old new place : ℕ) (fault : Fault) (early : Ending) → place < 1
       → IsEndingOf fault early → IsPlayed honest settings st seen (map step_of (take place (x ∷ []))) said now
       → (IsTrue honest → file ≡ (let p : Played Global = plays (batching settings) settings st seen (map step_of (take place (x ∷ []))) in p.bytes))
@@ -395,7 +395,7 @@ module _ (honest : Bool) (settings : Settings) (st : Store) (seen : List ℕ) (o
 
 -- ---- orders one after the other
 
--- what the orders that are left print behind what stands there is, behind what stood there first, what all of them print
+-- what the orders that are left print after what stands there is, after what stood there first, what all of them print
 abbrev pub Leads : Bool → Settings → Store → List ℕ → List Order → Option (List ℕ) → Store → List ℕ → List Order → Option (List ℕ) → Type 0
 Leads honest settings first file orders old st seen left now =
     (new : Option (List ℕ)) (end : Result (Unit {0}) Ending) → RunsOn honest settings st seen left now new end → RunsOn honest settings first file orders old new end

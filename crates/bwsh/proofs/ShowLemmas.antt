@@ -21,14 +21,14 @@ OnErr-always (Err x) p = p
 pub refused_behind : {A B : Type 0} (r : Result A B) (old more mid new : List ℕ) → mid ≡ old ++ more → take (length mid) new ≡ mid → OnErr r (take (length old) new ≡ old)
 refused_behind r old more mid new is kept = OnErr-always r (front_kept old more mid new is kept)
 
--- the same behind two that were appended
+-- the same after two that were appended
 pub refused_behind_two : {A B : Type 0} (r : Result A B) (old first mid second last new : List ℕ) → mid ≡ old ++ first → last ≡ mid ++ second → take (length last) new ≡ last
     → OnErr r (take (length old) new ≡ old)
 refused_behind_two r old first mid second last new is then_is kept = refused_behind r old first mid new is (front_kept mid second last new then_is kept)
 
 -- ---- rows
 
--- behind what stood there are the lines of the rows so far
+-- after what stood there are the lines of the rows so far
 pub record AreShown (old out : List ℕ) (left rows : List (Bytes × Bytes)) : Type 0 where
   pub more : List ℕ
   pub stands : out ≡ old ++ more

@@ -21,7 +21,7 @@ use Rattle.bwsh.specs.declared.session.Ending.TheVariants.{Device}
 use Rattle.bwsh.specs.declared.session.Ending.TheVariants as endings
 use Rattle.bwsh.specs.Session.{Start, Opens, IsUnopened, start_unless, start_by, first_stored, new_start, found_start}
 
--- an ending for a fault: a device's is told as such
+-- an ending for a fault: a device's is reported as such
 abbrev pub IsEndingOf : Fault → Ending → Type 0
 IsEndingOf f early = ((f ≡ fault.Device) × (early ≡ Device)) ⊎ ((f ≢ fault.Device) × (early ≡ endings.Fault f))
 
@@ -81,7 +81,7 @@ module _ (settings : Settings) (file : List ℕ) where
 
 -- ---- the store of a file
 
--- it was found on a disk of which a read gives what it gave
+-- it was found on a disk whose reads give what they gave
 pub Opens-found : {D : Type 0} (view : D → View) (file : List ℕ) (old : View) (x : State D) → store_of_disk file ≡ Ok (x.settings, x.store) → Kept old (view x.disk)
     → (IsTrue old.is_honest → file ≡ old.seen) → (IsTrue old.is_honest → (view x.disk).seen ≡ old.seen) → Opens view (found_start file) (Ok x)
 Opens-found view file old x e kept read seen =

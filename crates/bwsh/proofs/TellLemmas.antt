@@ -1,4 +1,4 @@
--- Lemmas on what is told of an end, and on the words of the command line.
+-- Lemmas on the message for an end, and on the words of the command line.
 use Rattle.std.proofs.Common.{◌≡◌, ◌∙◌, ℕ, List, [], ◌∷◌, ◌++◌, Option, Some, None, IfSome, Result, Ok, Err, IfOk, IfErr, sym, ap, subst, append-nil, append_assoc, arith}
 use Rattle.std.specs.Prelude.{OnOk, OnErr, IsOk}
 use Rattle.std.specs.List.{FoldsTo, concat}
@@ -55,7 +55,7 @@ told_err (Some bs) bytes (Err e) old new is b = subst (IsBegun old new) is b
 
 -- ---- the words of the command line
 
--- the words can be read, and an end is told for those behind the name
+-- the words can be read, and an end is reported for those after the name
 pub told_at : {V Y : Type 0} (r : Result V Y) (all : V) (of : V → List (List ℕ)) (words : List (List ℕ)) (known old new told_old told_new : Option (List ℕ)) (unread untouched : Type 0) (status : ℕ)
     → r ≡ Ok all → words ≡ of all → EndsTold words known old new told_old told_new unread untouched status
     → IfOk r (λ v. EndsTold (of v) known old new told_old told_new unread untouched status)

@@ -101,7 +101,7 @@ pub or_else-assoc : (a b c : Kinds) → or_else (or_else a b) c ≡ or_else a (o
 or_else-assoc [] b c = refl
 or_else-assoc (k ∷ ks) b c = refl
 
--- what comes behind a fault does not matter
+-- what comes after a fault does not matter
 pub or_else-last : (ks : Kinds) (k : ErrorKind) (next : Kinds) → or_else (or_else ks (k ∷ [])) next ≡ or_else ks (k ∷ [])
 or_else-last [] k next = refl
 or_else-last (x ∷ ks) k next = refl

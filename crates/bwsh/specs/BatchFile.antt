@@ -33,7 +33,7 @@ abbrev pub last_order : List (Command Global) → List Order
 last_order [] = []
 last_order (command ∷ commands) = Batch (command ∷ commands) ∷ []
 
--- what is ordered by lines that say this, behind commands that are pending
+-- what is ordered by lines that say this, after commands that are pending
 abbrev pub orders_of : List (Command Global) → List Says → List Order
 orders_of pending [] = last_order pending
 orders_of pending (Says.Command command ∷ rest) = orders_of (pending ++ command ∷ []) rest
@@ -44,7 +44,7 @@ orders_of pending (says.Upgrade ∷ rest) = last_order pending ++ Upgrade ∷ or
 orders_of pending (says.Verify ∷ rest) = last_order pending ++ Verify ∷ orders_of [] rest
 orders_of pending (_ ∷ rest) = orders_of pending rest
 
--- the fault tells of the first bad line, or that memory was refused
+-- the fault is that of the first bad line, or that memory was refused
 abbrev pub IsRightFault : List Says → TextFault → Type 0
 IsRightFault says (faults.Bad n why) = first_bad 1 says ≡ Some (n, why)
 IsRightFault says faults.Memory = Unit {0}
@@ -92,6 +92,6 @@ commands_said [] = []
 commands_said (Says.Command command ∷ rest) = command ∷ commands_said rest
 commands_said (_ ∷ rest) = commands_said rest
 
--- what the lines of these commands and a line `go` behind them say
+-- what the lines of these commands and a line `go` after them say
 abbrev pub batch_lines : List (Command Global) → List Says
 batch_lines commands = map (λ command. Says.Command command) commands ++ Go ∷ []

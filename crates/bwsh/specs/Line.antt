@@ -41,35 +41,35 @@ command_or_bad command (Err why) = Bad why
 abbrev pub bound_of : Bytes → Option (Option Bytes)
 bound_of token = if bytes_eq token (codes "*") then Some None else option_map (λ key. Some key) (token_bytes token)
 
--- what is said by a lower bound, an upper bound and a limit behind `scan`, each if it is there
+-- what is said by a lower bound, an upper bound and a limit after `scan`, each if it is there
 abbrev pub scan_by : Option Bytes → Option (Option Bytes) → Option ℕ → Says
 scan_by None hi limit = Bad BadToken
 scan_by (Some lo) None limit = Bad BadToken
 scan_by (Some lo) (Some hi) None = Bad BadNumber
 scan_by (Some lo) (Some hi) (Some limit) = Says.Command (Scan lo hi limit)
 
--- what is said by these words behind `scan`
+-- what is said by these words after `scan`
 abbrev pub scan_says : List Bytes → Says
 scan_says (lo ∷ hi ∷ limit ∷ []) = scan_by (token_bytes lo) (bound_of hi) (number_in limit)
 scan_says _ = Bad WordCount
 
--- what is said by a lower bound and an upper bound behind `wipe`, each if it is there
+-- what is said by a lower bound and an upper bound after `wipe`, each if it is there
 abbrev pub wipe_by : Option Bytes → Option (Option Bytes) → Says
 wipe_by None hi = Bad BadToken
 wipe_by (Some lo) None = Bad BadToken
 wipe_by (Some lo) (Some hi) = Says.Command (Wipe lo hi)
 
--- what is said by these words behind `wipe`
+-- what is said by these words after `wipe`
 abbrev pub wipe_says : List Bytes → Says
 wipe_says (lo ∷ hi ∷ []) = wipe_by (token_bytes lo) (bound_of hi)
 wipe_says _ = Bad WordCount
 
--- this is said, where no words stand behind
+-- this is said, where no words follow
 abbrev pub alone : Says → List Bytes → Says
 alone says [] = says
 alone says _ = Bad WordCount
 
--- what is said by this word and those behind it, where it is none of a command
+-- what is said by this word and those after it, where it is none of a command
 abbrev pub order_says : Bytes → List Bytes → Says
 order_says word behind =
     if bytes_eq word (codes "go") then alone Go behind else (
@@ -79,7 +79,7 @@ order_says word behind =
     if bytes_eq word (codes "verify") then alone Verify behind else
     Bad UnknownCommand))))
 
--- what is said by this word and those behind it
+-- what is said by this word and those after it
 abbrev pub command_says : Bytes → List Bytes → Says
 command_says word behind =
     if bytes_eq word (codes "put") then command_or_bad (λ (k, v). Put k v) (key_and_value behind) else (

@@ -34,7 +34,7 @@ takes_number name = list_any (λ known. bytes_eq known name) number_names
 abbrev pub takes_text : Text → Bool
 takes_text name = takes_number name || bytes_eq (codes "disk") name
 
--- the text is a whole number from 0 to 4294967295, in digits behind a sign or none
+-- the text is a whole number from 0 to 4294967295, in digits after a sign or none
 abbrev pub is_number : Text → Bool
 is_number text = is_signed_in (pos 0) (pos 4294967295) text
 
@@ -65,7 +65,7 @@ abbrev pub sort_of_long : Text → Option Text → Sort
 sort_of_long name (Some text) = if takes_text name then gives name text else unknown
 sort_of_long name None = if takes_text name then awaits name else sort_of_flag name
 
--- `-x`, by the first character behind the hyphen, where only `h` (104) is known; in a text there always is one
+-- `-x`, by the first character after the hyphen, where only `h` (104) is known; in a text there always is one
 abbrev pub sort_of_short : Option ℕ → Sort
 sort_of_short None = plain
 sort_of_short (Some first) = if 104 == first then asks else unknown
@@ -99,7 +99,7 @@ abbrev pub taken : Text → Text → Given → (Given → Asked) → Asked
 taken name text given next = if is_given name given then refused
     else (if fits name text then next (given ++ (name, text) ∷ []) else refused)
 
--- behind `--` nothing stands
+-- nothing follows `--`
 abbrev pub at_end : List Text → Given → Asked
 at_end [] given = options given
 at_end (word ∷ rest) given = refused
@@ -115,7 +115,7 @@ asked_by None unknown word rest given next = refused
 asked_by (Some name) plain word rest given next = taken name word given (next None)
 asked_by (Some name) _ word rest given next = refused
 
--- what the words come to, behind what was given before, where this option waits for its text or none does
+-- what the words come to, after what was given before, where this option waits for its text or none does
 abbrev pub asked_from : List Text → Option Text → Given → Asked
 asked_from [] None given = options given
 asked_from [] (Some name) given = refused

@@ -55,12 +55,12 @@ ending_text (Bad line why) = Some (codes "line " ++ decimal line ++ codes ": " +
 ending_text (endings.Fault fault) = None
 ending_text Device = Some (codes "fault 9 Device" ++ 10 ∷ [])
 
--- what is told of an end, where a clause can say it: nothing of one with all done
+-- the message for an end, where a clause can say it: none for one with all done
 abbrev pub told_text : Result (Unit {0}) Ending → Option Bytes
 told_text (Ok done) = Some []
 told_text (Err early) = ending_text early
 
--- what is told of words that cannot be read, with its line feed
+-- the message for words that cannot be read, with its line feed
 abbrev pub unread_text : Bytes
 unread_text = codes "error: a word of the command line is no text" ++ 10 ∷ []
 
@@ -106,7 +106,7 @@ IsStartBy settings None create start = start ≡ new_start settings (replicate (
 IsStartBy settings (Some path) true start = (file : Bytes) × (start ≡ new_start settings file)
 IsStartBy settings (Some path) false start = (file : Bytes) × (start ≡ found_start file)
 
--- it is for what the words tell: with a crew that is in range this, whichever the crew is; else there is no store, whatever else is told
+-- it is for what the words give: with a crew that is in range this, whichever the crew is; else there is no store, whatever else they give
 abbrev pub IsStart : Told → Start → Type 0
 IsStart told start = MatchBool (is_crew told.crew) (IsStartBy told.settings told.disk told.create start) (start ≡ Err BadCrew)
 
@@ -114,7 +114,7 @@ IsStart told start = MatchBool (is_crew told.crew) (IsStartBy told.settings told
 abbrev pub Reads : Type 0
 Reads = ℕ → Bytes
 
--- and before each of those behind the first
+-- and before each of those after the first
 abbrev pub later : Reads → Reads
 later shown = λ i. shown (suc i)
 
@@ -211,7 +211,7 @@ abbrev pub AreLeftFrom : Start → Reads → List Order → Type 0
 AreLeftFrom (Ok p) shown orders = AreLeft p.0 p.1.0 p.1.1 shown orders
 AreLeftFrom (Err fault) shown orders = ⊤
 
--- the disk can show this before each of these orders, where this is told: in memory what was left, in a file anything
+-- the disk can show this before each of these orders, where the words give this: in memory what was left, in a file anything
 abbrev pub IsShown : Told → Start → Reads → List Order → Type 0
 IsShown told start shown orders = told.disk ≡ None → AreLeftFrom start shown orders
 
@@ -260,11 +260,12 @@ BeginsWith {X} xs front = (rest : List X) × (xs ≡ front ++ rest)
 abbrev pub IsBegun : Option Bytes → Option Bytes → Bytes → Type 0
 IsBegun old new text = (front : Bytes) × BeginsWith text front × Appends old new front
 
--- known bytes grow by a beginning of what is told of this end, where a clause can say what that is
+-- known bytes grow by a beginning of the message for this end, where a clause can say what that is
 abbrev pub IsTold : Result (Unit {0}) Ending → Option Bytes → Option Bytes → Type 0
 IsTold end old new = IfSome (told_text end) (IsBegun old new)
 
--- known bytes grow by all of the lines where the end is the right one; memory can be refused behind some whole lines, and a device can fail anywhere
+-- known bytes grow by all of the lines where the end is the right one; memory can be refused after some whole lines, and a device can fail
+-- anywhere
 abbrev pub Prints : Option Bytes → Option Bytes → List Bytes → Result (Unit {0}) Ending → Result (Unit {0}) Ending → Type 0
 Prints old new lines right end =
     ((end ≡ right) × Appends old new (flat lines))
@@ -319,7 +320,7 @@ Opens view start (Err early) = IsUnopened start early
 abbrev pub IsHonestStore : {D : Type 0} → (D → View) → Result (State D) Ending → Type 0
 IsHonestStore view opened = IfOk opened (λ x. IsTrue (view x.disk).is_honest)
 
--- what a session prints that is told this, and how it ends, is right for a text, which is the known one, for a start, and for what the
+-- what a session prints that is given this, and how it ends, is right for a text, which is the known one, for a start, and for what the
 -- disk shows before each order, but for memory and devices
 unfoldable pub Answers : Told → Option Bytes → Option Bytes → Option Bytes → Result (Unit {0}) Ending → Type 0
 Answers told known old new end =
@@ -337,7 +338,7 @@ IsForWords (Ok done) = ⊥
 IsForWords (Err (Words error)) = Unit {0}
 IsForWords (Err _) = ⊥
 
--- how a session with these words ends and what it prints, but for memory and devices: as it should for what they tell; or
+-- how a session with these words ends and what it prints, but for memory and devices: as it should for what they give; or
 -- with nothing read, and help where they ask for it; or with nothing printed either, where they are refused
 abbrev pub EndsBy : List Bytes → Option Bytes → Option Bytes → Option Bytes → Type 0 → Type 0 → Result (Unit {0}) Ending → Type 0
 EndsBy words known old new unread untouched end =
@@ -345,7 +346,7 @@ EndsBy words known old new unread untouched end =
     ⊎ (unread × AsksForHelp words × PrintsOneText old new end)
     ⊎ (unread × untouched × ((AreRefused words × IsForWords end) ⊎ (end ≡ Err (endings.Fault NoMemory))))
 
--- a session with these words ends with this status: it has an end that is right as `EndsBy` says, and that is told
+-- a session with these words ends with this status: it has an end that is right as `EndsBy` says, and that is reported
 abbrev pub EndsTold : List Bytes → Option Bytes → Option Bytes → Option Bytes → Option Bytes → Option Bytes → Type 0 → Type 0 → ℕ → Type 0
 EndsTold words known old new told_old told_new unread untouched status =
     (end : Result (Unit {0}) Ending) × (status ≡ status_of_end end) × EndsBy words known old new unread untouched end × IsTold end told_old told_new

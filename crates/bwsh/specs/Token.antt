@@ -34,7 +34,7 @@ byte_in_front b bs = option_map (λ (x, xs). x ∷ xs) (option_zip b bs)
 abbrev pub with_front : Bytes → Option Bytes → Option Bytes
 with_front front bs = option_map (λ xs. front ++ xs) bs
 
--- what characters stand for: a percent sign and the two behind it for one byte, any other for itself
+-- what characters stand for: a percent sign and the two after it for one byte, any other for itself
 abbrev pub unescaped : Bytes → Option Bytes
 unescaped [] = Some []
 unescaped (c ∷ []) = byte_in_front (own_byte c) (Some [])

@@ -34,7 +34,7 @@ impl Model for Batch {
 }
 
 impl Batch {
-    /// The batch of the pending commands, of which there are none afterwards. The line is the one that said the last of them.
+    /// The batch of the pending commands; none are pending afterwards. The line is the one that said the last of them.
     pub(crate) fn take(
         alloc: Global,
         pending: &mut Vec<Command<Global>>,

@@ -16,13 +16,13 @@ use std::alloc::{AllocError, AllocFailed, Global};
 pub enum Order {
     /// To run this batch, which may have no commands.
     Batch(Batch),
-    /// To write what the log lacks, and tell the sequence number.
+    /// To write what the log lacks, and print the sequence number.
     Flush,
-    /// To free the first segment of the log, and tell which is the first now.
+    /// To free the first segment of the log, and print which is the first now.
     Clean,
-    /// To bring the log to version 2, and tell the sequence number.
+    /// To bring the log to version 2, and print the sequence number.
     Upgrade,
-    /// To verify the store, and tell of its pages, its height and its pairs.
+    /// To verify the store, and print its pages, its height and its pairs.
     Verify,
 }
 
@@ -95,8 +95,8 @@ fn push_behind(
     Ok(())
 }
 
-/// What the lines of the text order, all of them. Where a line is bad nothing is ordered: the answer tells of the
-/// first such line. `TextFault::Memory` can be the answer to any text.
+/// What the lines of the text order, all of them. Where a line is bad nothing is ordered: the answer is for the first such line.
+/// `TextFault::Memory` can be the answer to any text.
 pub fn parse(alloc: Global, text: &[u8]) -> Result<Vec<Order>, TextFault>
     ensures bad { IfErr result (IsRightFault (text_says text.now)) }
     ensures good { IfOk result (λ _. first_bad 1 (text_says text.now) ≡ None) }

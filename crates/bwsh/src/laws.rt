@@ -41,7 +41,7 @@ pub fn batches_are_read_back()
         orders_of [] (flat_map batch_lines batches) ≡ map (λ commands. Batch commands) batches }
 {}
 
-/// A batch prints the lines of its replies, in front of what the orders behind it print on what it leaves and its map. A flush prints
+/// A batch prints the lines of its replies, in front of what the orders after it print on what it leaves and its map. A flush prints
 /// the line of the sequence number that it leaves, as an upgrade does, a clean that of the head segment, and all three leave the map as
 /// it is. A verify prints the line of the report on the tree, and leaves all as it is.
 pub fn each_order_prints_its_answer()
@@ -63,8 +63,8 @@ pub fn each_order_prints_its_answer()
 {}
 
 /// Where all are batches, what is printed in all are an ordered map's replies to the commands that are ordered, one after the other: it
-/// makes no difference how they are cut into batches, nor what the settings are, what is stored and what the disk shows. So it is
-/// for lines of which none says `flush`, `clean`, `upgrade` or `verify`.
+/// makes no difference how they are cut into batches, nor what the settings are, what is stored and what the disk shows. So it is where
+/// no line says `flush`, `clean`, `upgrade` or `verify`.
 pub fn the_commands_are_answered_in_order()
     ensures orders { (settings : Settings) → (st : Store) → (shown : Reads) → (m : Pairs Bytes) → (orders : List Order) → All IsBatch orders →
         printed settings st shown m orders ≡ flat_map shown_reply (replies_to m (flat_map commands_of orders)) }
@@ -100,7 +100,7 @@ pub fn what_was_left_decides_the_answers()
 {}
 
 /// It makes no difference to what a session may print and how it may end who its crew is, but for whether that is in range. With one
-/// that isn't there is no store, whatever else the words tell.
+/// that isn't there is no store, whatever else the words give.
 pub fn the_crew_does_not_matter()
     ensures same { (told : Told) → (crew : Crew) → is_crew crew ≡ is_crew told.crew → (known old new : Option Bytes) → (end : Result (Unit {0}) Ending) →
         Answers told known old new end → Answers (record told { crew = crew }) known old new end }

@@ -92,7 +92,7 @@ impl LineReader {
         Ok(Some(Value::from_bytes(self.alloc, &self.bytes)?))
     }
 
-    // The key that the words behind a command are.
+    // The key that the words after a command are.
     fn only_key(&mut self, words: &[u8]) -> Result<Result<Key<Global>, Why>, AllocError>
         ensures { IfOk result (λ key. key ≡ only_key (words_of words.now)) }
     {
@@ -102,7 +102,7 @@ impl LineReader {
         Ok(self.key(token)?.ok_or(Why::BadToken))
     }
 
-    // The key and the value that the words behind a command are.
+    // The key and the value that the words after a command are.
     fn key_and_value(
         &mut self,
         words: &[u8],
@@ -131,7 +131,7 @@ impl LineReader {
         Ok(self.key(token)?.map(Some))
     }
 
-    // What is said by these words behind `scan`.
+    // What is said by these words after `scan`.
     fn scan(&mut self, words: &[u8]) -> Result<Says, AllocError>
         ensures { IfOk result (λ says. says ≡ scan_says (words_of words.now)) }
     {
@@ -150,7 +150,7 @@ impl LineReader {
         Ok(Says::Command(Command::Scan(lo, hi, limit)))
     }
 
-    // What is said by these words behind `wipe`.
+    // What is said by these words after `wipe`.
     fn wipe(&mut self, words: &[u8]) -> Result<Says, AllocError>
         ensures { IfOk result (λ says. says ≡ wipe_says (words_of words.now)) }
     {
@@ -166,7 +166,7 @@ impl LineReader {
         Ok(Says::Command(Command::Wipe(lo, hi)))
     }
 
-    // What is said by this word and those behind it.
+    // What is said by this word and those after it.
     fn command(&mut self, word: &[u8], words: &[u8]) -> Result<Says, AllocError>
         ensures { IfOk result (λ says. says ≡ command_says word.now (words_of words.now)) }
     {
@@ -217,7 +217,7 @@ impl LineReader {
     }
 }
 
-// What is said by this word and those behind it, where it is none of a command.
+// What is said by this word and those after it, where it is none of a command.
 fn order(word: &[u8], words: &[u8]) -> Says
     ensures { result ≡ order_says word.now (words_of words.now) }
 {
@@ -239,7 +239,7 @@ fn order(word: &[u8], words: &[u8]) -> Says
     Says::Bad(Why::UnknownCommand)
 }
 
-// This is said, where no words stand behind.
+// This is said, where no words follow.
 fn alone(says: Says, words: &[u8]) -> Says
     ensures { result ≡ alone says (words_of words.now) }
 {

@@ -38,7 +38,7 @@ const DISK: &str =
 const CREATE: &str =
     "Makes the file anew, with the settings of this command line; what it held is lost";
 
-// What the help says behind the options.
+// What the help says after the options.
 const AFTER_HELP: &str = "\
 A store in a file has the settings with which the file was made. Those of the command line are for a
 store in memory, and for a file that is made anew; otherwise they are ignored. Workers and grain are
@@ -189,7 +189,7 @@ fn create(matches: &ArgMatches<'_>) -> bool
     matches.get_flag("create")
 }
 
-/// Reads the words behind the program's name: `[--fan N] [--chain N] [--max-key N] [--max-value N] [--seg-size N]
+/// Reads the words after the program's name: `[--fan N] [--chain N] [--max-key N] [--max-value N] [--seg-size N]
 /// [--segments N] [--workers N] [--grain N] [--disk PATH] [--create]`, in any order, `--fan=N` too, and `--help` or `-h`. A
 /// number that is not given has its default. Whether the numbers are in range is for `Settings::check` and `Crew::check` to say.
 pub fn options(alloc: Global, words: &[String]) -> Result<Options, Error>

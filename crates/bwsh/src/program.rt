@@ -17,7 +17,7 @@ fn all_words<R: Env + AllocGlobal>(rt: &R) -> io::Result<Vec<String>> {
     Ok(env::args(rt)?.collect(rt.alloc())?)
 }
 
-// The words behind the program's name.
+// The words after the program's name.
 fn behind_name(words: &[String]) -> &[String]
     ensures { result.now ≡ drop 1 words.now }
 {
@@ -27,8 +27,8 @@ fn behind_name(words: &[String]) -> &[String]
     }
 }
 
-/// Does what all these words of the command line ask for, of which the first is the program's name, and returns the
-/// exit status of the session. Where they cannot be read, that alone is told, and the status is that of
+/// Does what all these words of the command line ask for, the first being the program's name, and returns the exit
+/// status of the session. Where they cannot be read, that alone is reported, and the status is that of
 /// `unread_words`.
 pub fn run_words<R: AllocGlobal + Threads + Sync + Files, I: Read, O: Write, E: Write>(
     rt: &R,

@@ -1,4 +1,4 @@
-//! A session: the batch file is read, and run by a crew on the store that the command line tells: a new one in memory, or one in a file.
+//! A session: the batch file is read, and run by a crew on the store that the command line names: a new one in memory, or one in a file.
 ghost use Rattle.std.specs.Prelude.{false, IsTrue, replicate, ◌≡◌, ◌≢◌, ◌↔◌, ◌⊎◌, ℕ, [], ◌∷◌, ◌++◌, map, None, Some, IfSome, Result, Ok, Err, IsOk, IfOk, OnOk, OnErr, IsOkUnless, MatchResult, take, length, ◌≤◌};
 ghost use Rattle.std.specs.List.{flat_map, list_any};
 ghost use Rattle.std.specs.String.{string_bytes};
@@ -42,7 +42,7 @@ use std::{fmt, io};
 // Bytes that hold the line of each ending but that for refused words.
 const LINE: usize = 64;
 
-// What is told of words that cannot be read.
+// The message for words that cannot be read.
 const UNREAD: &[u8] = b"error: a word of the command line is no text\n";
 
 /// Why a session ends before all is done. It prints as what goes to standard error, with its line feeds.
@@ -503,7 +503,7 @@ fn has_writing(orders: &[Order]) -> bool
     orders.iter().any(|order| order.writes())
 }
 
-/// Reads the batch file that `input` holds, and has it run by the crew on the store that is told: a new one in memory, or in a
+/// Reads the batch file that `input` holds, and has it run by the crew on the store that is named: a new one in memory, or in a
 /// file that is made anew; or the one that the file holds. The answers go to `out`, in lines, and are the same for every
 /// crew. Where all is done, or a line is bad or there is no store (nothing is run then), or the store refuses an order, all
 /// answers stand there. Where memory is refused, some first lines of them do; where a device fails, some first bytes. A bad
@@ -553,7 +553,7 @@ fn show_help<O: Write>(alloc: Global, help: &clap::Error, out: &mut O) -> Result
     flush(done, out)
 }
 
-// Answers words that tell no settings: with help where they ask for it. Nothing else is printed here.
+// Answers words that give no settings: with help where they ask for it. Nothing else is printed here.
 fn answer_words<O: Write>(alloc: Global, error: clap::Error, out: &mut O) -> Result<(), Ending>
     ensures help { kind_of error ≡ DisplayHelp → PrintsOneText (O.contents out.old) (O.contents out.new) result }
     ensures memory { kind_of error ≡ OutOfMemory → (result ≡ Err (Ending.Fault Fault.NoMemory)) × (out.new ≡ out.old) }
@@ -600,8 +600,8 @@ fn tell<E: Write>(ending: &Ending, err: &mut E) -> Result<(), Ending>
     write_bytes(line.as_str().as_bytes(), err)
 }
 
-// Tells why the session ends early, if it does, and returns the exit status. Where that cannot be told, nothing is
-// left to tell it to.
+// Reports why the session ends early, if it does, and returns the exit status. Where that cannot be reported, nobody is left to report it
+// to.
 fn end<E: Write>(done: Result<(), Ending>, err: &mut E) -> u8
     ensures status { result ≡ status_of_end done }
     ensures quiet { IfOk done (λ _. err.new ≡ err.old) }
@@ -632,9 +632,8 @@ pub fn unread_words<E: Write>(error: io::Error, err: &mut E) -> u8
     }
 }
 
-/// Does what the `words` of the command line ask for, and returns the exit status. Where they tell a store, the batch
-/// file that `input` holds is run on it, as `run` says. The answers go to `out`, in lines; what stopped the
-/// session goes to `err`.
+/// Does what the `words` of the command line ask for, and returns the exit status. Where they name a store, the batch file that `input`
+/// holds is run on it, as `run` says. The answers go to `out`, in lines; what stopped the session goes to `err`.
 ///
 /// - 0: all is done; or the words ask for help, which went to `out`, and nothing was read.
 /// - 2: the words are refused. Nothing was read.
@@ -653,15 +652,14 @@ where
     R::File: LockFile,
     ensures status { (result ≡ 0) ⊎ (result ≡ 2) ⊎ (result ≡ 3) ⊎ (result ≡ 4) }
 
-    // Words that are refused make it 2, and nothing else does. Only for want of memory they make it 4.
+    // Words that are refused make it 2, and nothing else does. Only for lack of memory they make it 4.
     ensures refused { (result ≡ 2) ↔ (AreRefused (map string_bytes words.now) × (result ≢ 4)) }
     ensures untouched { AreRefused (map string_bytes words.now) → (input.new ≡ input.old) × (out.new ≡ out.old) }
 
-    // What stands on the output with each status: always a beginning of what the orders of the input answer on the store that the
-    // words tell, unless that is help. In memory and in a file that is made anew it is a new one of the settings that they tell;
-    // else it is the one that the bytes of the file stand for, whichever these are. With a crew out of range there is none, and
-    // else the crew doesn't matter. A clean is done of what the disk shows: in memory that is what was left, and a file may show
-    // anything.
+    // What stands on the output with each status: always a beginning of what the orders of the input answer on the store that the words
+    // name, unless that is help. In memory and in a file that is made anew it is a new one of the settings that they give; else it is the
+    // one that the bytes of the file stand for, whichever these are. With a crew out of range there is none, and else the crew doesn't
+    // matter. A clean is done of what the disk shows: in memory that is what was left, and a file may show anything.
     ensures done { result ≡ 0 → AsksForHelp (map string_bytes words.now) ⊎ ((told : Told) × AsksFor (map string_bytes words.now) told
         × IfSome (I.remaining input.old) (λ text. (first_bad 1 (text_says text) ≡ None)
         × ((start : Start) × IsStart told start × IsOk start × (shown : Reads) × IsShown told start shown (orders_of [] (text_says text))
@@ -674,13 +672,13 @@ where
         × ((front : Bytes) × BeginsWith (printed_by start shown text) front × Appends (O.contents out.old) (O.contents out.new) front))) }
 
     // How it ends, and what is read and printed, is right for the words and the text but for memory and devices.
-    // What goes to `err` is told of this end, or a beginning of it.
+    // What goes to `err` is the message for this end, or a beginning of it.
     ensures ends { EndsTold (map string_bytes words.now)
         (I.remaining input.old) (O.contents out.old) (O.contents out.new)
         (E.contents err.old) (E.contents err.new)
         (input.new ≡ input.old) (out.new ≡ out.old) result }
 
-    // A session with all done tells nothing.
+    // A session with all done reports nothing.
     ensures quiet { result ≡ 0 → err.new ≡ err.old }
 {
     let done = obey(rt, words, input, out);

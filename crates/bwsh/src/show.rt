@@ -9,7 +9,7 @@ use engine::Report;
 use keys::{Reply, RowList};
 use std::alloc::{AllocError, Global};
 
-// Appends what the first line of a reply with so many rows says.
+// Appends what the first line of a reply with `count` rows says.
 fn push_count(count: usize, out: &mut Vec<u8>) -> Result<(), AllocError>
     ensures ok { OnOk result (out.new.items ≡ out.old.items ++ codes "rows " ++ decimal count) }
     ensures err { OnErr result (out.new.items ≡ out.old.items) }
@@ -18,7 +18,7 @@ fn push_count(count: usize, out: &mut Vec<u8>) -> Result<(), AllocError>
     out.extend_from_slice(text.as_bytes())
 }
 
-// Appends what the line of a reply to a wipe of so many keys says.
+// Appends what the line of a reply to a wipe of `count` keys says.
 fn push_wiped(count: u128, out: &mut Vec<u8>) -> Result<(), AllocError>
     ensures ok { OnOk result (out.new.items ≡ out.old.items ++ codes "wiped " ++ decimal count) }
     ensures err { OnErr result (out.new.items ≡ out.old.items) }

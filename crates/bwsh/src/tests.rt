@@ -107,7 +107,7 @@ fn small_store(alloc: Global) -> Result<Vec<String>, AllocError> {
     )
 }
 
-// Seventeen puts in small pages, and these lines behind them, which print this.
+// Seventeen puts in small pages, and these lines after them, which print this.
 fn check_behind_puts<R: AllocGlobal + Abort + Threads + Sync + Files>(
     rt: &R,
     lines: &[u8],
@@ -337,7 +337,7 @@ fn help_is_printed(rt: HostRuntime) -> Result<(), Fail> {
     Ok(())
 }
 
-// A runtime whose command line has one word behind the program's name, which is `--help`, and whose files fail so.
+// A runtime whose command line has one word after the program's name, which is `--help`, and whose files fail so.
 #[derive(Drop)]
 struct OneWord<'a, R> {
     rt: R,
@@ -557,7 +557,7 @@ fn the_longest_batch(rt: HostRuntime) -> Result<(), Fail> {
     Ok(())
 }
 
-// A stream that fails so many times after so many good calls.
+// A stream that fails `faults` times after `calls` good calls.
 #[derive(Drop)]
 struct Failing<S> {
     calls: usize,
@@ -597,8 +597,7 @@ impl<S: Write> Write for Failing<S> {
     }
 }
 
-// Asserts how a session ends on this input, of which that many reads succeed, with an output of which that many
-// calls succeed.
+// Asserts how a session ends on this input, where that many reads succeed, with an output where that many calls succeed.
 fn check_device<R: AllocGlobal + Abort + Threads + Sync + Files>(
     rt: &R,
     input: &[u8],
@@ -652,7 +651,7 @@ where
     assert_eq!(rt; written.stream.as_slice(), out);
 }
 
-// Nothing is written behind a fault, though the output would take it. A call that was interrupted is made again.
+// Nothing is written after a fault, though the output would take it. A call that was interrupted is made again.
 #[test]
 fn the_output_fails_once(rt: HostRuntime) {
     check_one_fault(&rt, ErrorKind::Other, 0, 4, b"");
@@ -662,7 +661,7 @@ fn the_output_fails_once(rt: HostRuntime) {
     check_one_fault(&rt, ErrorKind::Interrupted, 2, 0, b"new\nvalue 1\n");
 }
 
-// Asserts what is told of a bad line where the first so many writes to standard error fail so.
+// Asserts the message for a bad line where the first `faults` writes to standard error fail so.
 fn check_told<R: AllocGlobal + Abort + Threads + Sync + Files>(
     rt: &R,
     kind: ErrorKind,

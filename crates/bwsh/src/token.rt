@@ -41,7 +41,7 @@ fn are_plain(bytes: &[u8]) -> bool
     plain
 }
 
-// The byte that the front of the text stands for, and the text behind it.
+// The byte that the front of the text stands for, and the text after it.
 fn first_byte(text: &[u8]) -> Option<(u8, &[u8])>
     requires { 0 < length text.now }
     ensures value { MatchOption result (unescaped text.now ≡ None) (λ first. unescaped text.now ≡ byte_in_front (Some first.0) (unescaped first.1.now)) }
@@ -54,7 +54,7 @@ fn first_byte(text: &[u8]) -> Option<(u8, &[u8])>
     }
 }
 
-// Appends the bytes that the text stands for, and tells whether it stands for any.
+// Appends the bytes that the text stands for, and returns whether it stands for any.
 fn push_unescaped(text: &[u8], bytes: &mut Vec<u8>) -> Result<bool, AllocError>
     ensures { IfOk result (λ well. (if well then Some bytes.new.items else None) ≡ with_front bytes.old.items (unescaped text.now)) }
 {
@@ -70,7 +70,7 @@ fn push_unescaped(text: &[u8], bytes: &mut Vec<u8>) -> Result<bool, AllocError>
     Ok(true)
 }
 
-/// Writes over `bytes` the bytes that the token stands for, and tells whether it stands for any. Where it does
+/// Writes over `bytes` the bytes that the token stands for, and returns whether it stands for any. Where it does
 /// not, and after an `Err`, `bytes` has some of them.
 pub fn unescape(token: &[u8], bytes: &mut Vec<u8>) -> Result<bool, AllocError>
     ensures { IfOk result (λ well. (if well then Some bytes.new.items else None) ≡ token_bytes token.now) }

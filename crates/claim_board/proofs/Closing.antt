@@ -60,7 +60,7 @@ module _ {P : Type 0} (all : List P) (last : Slot P) (count : ℕ) where
       first_is [] n e = absurd (some-ne-none n (sym e))
       first_is (x ∷ xs) n e = some-injective x n e
 
-  -- the slot behind the pieces has what it had at the start
+  -- the slot after the pieces has what it had at the start
   pub last_is : (w : ℕ) (v : Hand P) (slots : List (Slot P)) (k : ℕ) (y : Slot P) → Ends w v slots → k ≡ length all → get_elem? slots k ≡ some y → y ≡ last
   last_is w v slots k y e end at =
       let many = e.many in
@@ -99,7 +99,7 @@ rest_is all w i le =
     (λ y. let m : w ≡ min w (length all) = omega arith in ap (λ k. drop k all) m)
     (λ no. let m : length all ≡ min w (length all) = omega arith in drop_of_length-le all {i = w} (omega arith) ∙ sym (drop_of_length-le all {i = length all} (omega arith)) ∙ ap (λ k. drop k all) m)
 
--- which slots are filled once those below i, and the one behind all, were taken
+-- which slots are filled once those below i, and the last one, were taken
 abbrev pub Taken : ℕ → ℕ → List Bool → Type 0
 Taken i count f =
     ((k : ℕ) → i ≤ k → k < count → get_or f k false ≡ true)

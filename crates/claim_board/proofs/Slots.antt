@@ -18,7 +18,7 @@ piece_at [] last k x e = absurd (some-ne-none x (sym e))
 piece_at (y ∷ ys) last zero x e = ap (λ p. some (Piece p)) (some-injective y x e)
 piece_at (y ∷ ys) last (suc k) x e = piece_at ys last k x e
 
--- behind the pieces lies the last slot
+-- after the pieces comes the last slot
 pub last_at : {P : Type 0} (all : List P) (last : Slot P) → get_elem? (slots_of all last) (length all) ≡ some last
 last_at [] last = refl
 last_at (y ∷ ys) last = last_at ys last
@@ -56,7 +56,7 @@ same_pieces {P} (x ∷ xs) (y ∷ ys) e =
 pub all_back : {P : Type 0} (slots : List (Slot P)) (pieces all given : List P) → slots ≡ [] → slots ++ map Piece pieces ≡ map Piece all → given ≡ pieces → given ≡ all
 all_back slots pieces all given none e g = subst (λ l. l ≡ all) (sym g) (same_pieces pieces all (subst (λ l. l ++ map Piece pieces ≡ map Piece all) none e))
 
--- the slots are laid once the last one is behind the pieces
+-- the slots are laid once the last one follows the pieces
 pub laid : {P : Type 0} (all old : List P) (last given : Slot P) (pieces pushed : List (Slot P)) → all ≡ old → pieces ≡ map Piece old → pushed ≡ pieces ++ given ∷ [] → last ≡ given → pushed ≡ slots_of all last
 laid all old last given pieces pushed a e p s =
     subst (λ x. pushed ≡ slots_of all x) (sym s) (subst (λ l. pushed ≡ slots_of l given) (sym a) (subst (λ l. pushed ≡ l ++ given ∷ []) e p))

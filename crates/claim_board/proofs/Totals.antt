@@ -1,4 +1,4 @@
--- Sums over lists of which one element changes, and how often a number stands in a list.
+-- Sums over lists in which one element changes, and how often a number stands in a list.
 use Rattle.std.proofs.Common.{◌≡◌, ℕ, zero, suc, ◌+◌, ◌≤◌, List, [], ◌∷◌, ◌++◌, set, length, length-append, ap, sym, refl, arith}
 use Rattle.std.specs.List.{flat_map}
 use mathlib.Core.Option.{some, some-injective, some-ne-none}

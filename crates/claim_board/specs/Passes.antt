@@ -38,12 +38,12 @@ module _ {P : Type 0} where
   abbrev pub drawn_by_all : List (Pass P) → List ℕ
   drawn_by_all passes = flat_map drawn_by passes
 
-  -- what closing a board tells, with the pieces that it was opened with, all its passes, and the pieces that nobody drew
+  -- what closing a board shows, with the pieces that it was opened with, all its passes, and the pieces that nobody drew
   pub record Closes (pieces : List P) (passes : List (Pass P)) (left : List P) : Type 0 where
     -- the numbers drawn are those below their count, each drawn by one pass, once
     pub once : HasEachBelowOnce (length (drawn_by_all passes)) (drawn_by_all passes)
     pub within : length (drawn_by_all passes) ≤ length pieces
-    -- the pieces behind these are left, in order
+    -- the pieces after these are left, in order
     pub left_are : left ≡ drop (length (drawn_by_all passes)) pieces
     -- no pass finds none unless all are drawn
     pub none_left : Any (λ pass. IsTrue (found_none pass)) passes → length (drawn_by_all passes) ≡ length pieces

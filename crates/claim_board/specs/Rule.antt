@@ -10,11 +10,11 @@ use Rattle.claim_board.specs.declared.rule.Slot.TheVariants.{Piece}
 use Rattle.claim_board.specs.Counting.{HasEachBelowOnce, times, total}
 
 module _ {P : Type 0} where
-  -- what a pass knows that stands for so many passes
+  -- what a pass knows that stands for several
   abbrev pub hand : List P → ℕ → List ℕ → ℕ → Hand P
   hand pieces passes drawn misses = record { pieces = pieces; passes = passes; drawn = drawn; misses = misses }
 
-  -- the slots at the start: the pieces in order, and one more behind them
+  -- the slots at the start: the pieces in order, and one more after them
   abbrev pub slots_of : List P → Slot P → List (Slot P)
   slots_of pieces last = map Piece pieces ++ last ∷ []
 
@@ -46,7 +46,7 @@ module _ {P : Type 0} where
     pub rising : All (λ k. k < n) m.0.drawn
     pub as_many : length m.0.drawn ≤ n
 
-  -- what a draw tells that found the number n: it takes a piece, or it misses
+  -- what a draw returns that found the number n: it takes a piece, or it misses
   abbrev pub Draws : Me (Slot P) (Hand P) → ℕ → Me (Slot P) (Hand P) → Type 0
   Draws m n w =
       (n < length m.0.pieces → Takes m n w)

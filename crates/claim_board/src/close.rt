@@ -63,7 +63,7 @@ impl<P: Drop> Board<P> {
     }
 }
 
-// Puts the piece of a slot behind the others, if nobody drew it.
+// Appends the piece of a slot, if nobody drew it.
 fn put_back<P: Drop>(left: &mut Vec<P>, slot: Slot<P>, is_left: bool)
     requires { vec_len left.old < vec_capacity left.old }
     ensures left { (piece : P) → IsTrue is_left → slot ≡ Piece piece → left.new.items ≡ left.old.items ++ piece ∷ [] }

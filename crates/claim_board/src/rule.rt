@@ -26,7 +26,7 @@ pub(crate) struct Hand<P> {
     pub(crate) misses: u64,
 }
 
-/// What a board is told when it is opened: its pieces, the list that they came in, emptied, and how many passes it has.
+/// What a board is opened with: its pieces, the list that they came in, emptied, and how many passes it has.
 #[derive(Drop)]
 pub(crate) struct About<P> {
     pub(crate) pieces: Snapshot<Vec<P>>,

@@ -19,7 +19,7 @@ use Rattle.cleaner.specs.CleanText.{carried}
 
 -- ---- one pid
 
--- behind a free frame there is nothing, unless it is finding 1
+-- after a free frame there is nothing, unless it is finding 1
 free_alone : (cs : List Content) → is_broken (told_page (Free ∷ cs)) ≡ false → cs ≡ []
 free_alone [] e = refl
 free_alone (c ∷ cs) e =
@@ -35,7 +35,7 @@ free_or_base (FullIndex spelling low base) e f = absurd (cc)
 free_or_base (DeltaIndex run) e f = absurd (cc)
 free_or_base Free e f = refl
 
--- nothing is carried on of what stands behind the head segment
+-- nothing is carried on of what stands after the head segment
 pub carried_none : (head : ℕ) (fs : List Found) → AllByRecursion (λ f. nat_eq f.segment head ≡ false) fs → carried head fs ≡ []
 carried_none head [] a = refl
 carried_none head (f ∷ fs) a = rw a.0 refl
@@ -50,7 +50,7 @@ carried_free head f fs e h = rw e (rw h refl)
 missing : (cs : List Content) → list_any is_start cs ≡ false → page_by_log cs ≡ Missing
 missing cs e = ap told_page (from_last-none is_start cs e)
 
--- of a pid: what stands in the head segment, and what stands behind it
+-- of a pid: what stands in the head segment, and what stands after it
 module _ (head : ℕ) (hs ts : List Found) (within : AllByRecursion (λ f. nat_eq f.segment head ≡ true) hs) (behind : AllByRecursion (λ f. nat_eq f.segment head ≡ false) ts)
     (sound : is_broken (page_by_log (contents_in (hs ++ ts))) ≡ false) where
   abbrev part : List Found

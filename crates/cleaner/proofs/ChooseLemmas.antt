@@ -132,7 +132,7 @@ module _ (g : Format) (images : List (List (List ℕ))) (left every : List (ℕ 
   pub all-chosen : left ≡ [] → frames_of_images images ≡ frames_kept g every
   all-chosen none = sym (append-nil (frames_of_images images)) ∙ ap (λ (es : List (ℕ × Kept)). frames_of_images images ++ frames_kept g es) (sym none) ∙ h.frames
 
--- images none of which is empty: there are none, or their text has a frame
+-- images where none is empty: there are none, or their text has a frame
 pub some-text : (images : List (List (List ℕ))) (text : List Frame) → AreOfText images text → AllByRecursion (λ i. i ≢ []) images → (images ≡ []) ⊎ (1 ≤ length text)
 some-text [] text of some = inl refl
 some-text ([] ∷ images) text of some = absurd (some.0 refl)
@@ -157,7 +157,7 @@ module _ (o : Option ℕ) (head : ℕ) where
   head-first [] is same = refl
   head-first (f ∷ fs) is same = ap (λ (h : ℕ). clean_text h (f ∷ fs)) (ap (λ (p : Option ℕ). unwrap_or p head) (sym is) ∙ same)
 
-  -- it stands behind it
+  -- it stands after that
   pub head-empty : (found : List Found) → o ≡ first_found found → unwrap_or o head ≢ head → BeginsAt head found → clean_text head found ≡ []
   head-empty [] is other begins = refl
   head-empty (f ∷ fs) is other (inl same) = absurd (other (ap (λ (p : Option ℕ). unwrap_or p head) is ∙ same))

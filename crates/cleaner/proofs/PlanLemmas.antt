@@ -224,7 +224,7 @@ as-clean g e u file found old new (Err fault) more read is (inr full) =
 
 -- ---- what was chosen of what was read
 
--- what is told of the choice of this head segment's text
+-- what is known of the choice of this head segment's text
 abbrev pub IsChoice : {X : Type 0} → (X → List (List (List ℕ))) → ℕ → List Found → Result X Fault → Type 0
 IsChoice items head found r = MatchResult r (λ x. (broken_in (frames_in found) ≡ None) × AreOfText (items x) (clean_text head found))
     (λ fault. (fault ≡ NoMemory) ⊎ ((f : Finding) × (broken_in (frames_in found) ≡ Some f) × (fault ≡ BadStructure f)))

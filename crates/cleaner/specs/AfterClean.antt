@@ -17,7 +17,7 @@ use Rattle.recovery.specs.LogPages.{broken_in}
 use Rattle.recovery.specs.StoreOfDisk.{unless_found, frames_in}
 use Rattle.cleaner.specs.CleanText.{clean_text}
 
--- what the slot for this sequence number says, as it stands on the disk
+-- the slot for this sequence number, as it stands on the disk
 abbrev pub slot_on_disk : ℕ → Bytes → Slot
 slot_on_disk n file = slot_in (take slot_size (drop (slot_place n) file))
 

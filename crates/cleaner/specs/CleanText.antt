@@ -7,7 +7,7 @@ use Rattle.recovery.specs.Gathered.{telling}
 use Rattle.recovery.specs.PageByLog.{is_base}
 use Rattle.recovery.specs.StoreOfDisk.{frames_in}
 
--- what is carried on of the frames that tell a page: all of them, where the first is a base in the head segment
+-- which of a page's live frames are carried on: all of them, where the first is a base in the head segment
 abbrev pub carried : ℕ → List Found → List Frame
 carried head [] = []
 carried head (f ∷ fs) = if nat_eq f.segment head && is_base f.frame.content then frames_in (f ∷ fs) else []

@@ -24,7 +24,7 @@ use Rattle.cleaner.specs.CleanText.{clean_text}
 abbrev pub WouldClean : Settings → Store → Bytes → Type 0
 WouldClean s st file = (now : Store) × (bytes : Bytes) × (after_clean s st file ≡ Ok (now, bytes))
 
--- Why a clean is refused: by its right; or, where more than one segment is in use, for want of memory or since a call of the disk failed.
+-- Why a clean is refused: by its right; or, where more than one segment is in use, for lack of memory or because a call of the disk failed.
 abbrev pub IsCleanFault : Settings → Store → Bytes → ℕ → ℕ → Fault → Type 0
 IsCleanFault s st file old new fault = (after_clean s st file ≡ Err fault) ⊎ ((st.head ≢ last_segment s st.tail) × IsLate old new fault)
 
@@ -34,7 +34,7 @@ IsCleanFault s st file old new fault = (after_clean s st file ≡ Err fault) ⊎
 abbrev pub IsRefused : Format → LogEnds → Bytes → Fault → Type 0
 IsRefused g e file fault = (st : Store) → ends_of st ≡ e → st.version ≡ g.version → after_clean g.settings st file ≡ Err fault
 
--- its log holds these frames, none of which says what fits no page
+-- its log holds these frames, and none of them says what fits no page
 pub record IsRead (g : Format) (e : LogEnds) (file : Bytes) (found : List Found) : Type 0 where
   pub read : log_between g file e.head e.tail ≡ Ok found
   pub sound : broken_in (frames_in found) ≡ None

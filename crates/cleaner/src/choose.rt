@@ -1,4 +1,4 @@
-//! The text of a clean is chosen: the frames of the pages that live in the head segment.
+//! Chooses the text of a clean: the frames of the pages that live in the head segment.
 ghost use Rattle.std.specs.Prelude.{◌≡◌, ◌≢◌, ◌⊎◌, ◌≤◌, [], List, length, None, Some, IfOk, MatchResult};
 ghost use Rattle.std.specs.List.{AllByRecursion};
 ghost use Rattle.std.specs.List.Sorted.{IsStrictlySortedBy};
@@ -23,7 +23,7 @@ use recovery::{Gathering, Kept};
 use std::alloc::{AllocError, Global};
 use std::collections::BTreeMap;
 
-// The frames that these bytes are, back to back, as an image. Where other bytes stand among them it has none.
+// The frames of these bytes, which stand back to back, as an image. It has none where other bytes stand among them.
 fn image_of(alloc: Global, format: &Format, frames: &[u8]) -> Result<Image, AllocError>
     ensures { IfOk result (λ image. image ≡ image_in format.now frames.now) }
 {
@@ -40,7 +40,7 @@ fn image_of(alloc: Global, format: &Format, frames: &[u8]) -> Result<Image, Allo
     Ok(image)
 }
 
-// The images of the pages, in the order in which the map has them, without those of which no frames are kept.
+// The images of the pages, in the order in which the map has them; a page without kept frames has none.
 fn images_in(
     alloc: Global,
     format: &Format,
@@ -65,9 +65,10 @@ fn images_in(
 }
 
 /// The frames that a clean carries on of a log of this format that begins at this segment, as images, by rising page id: of each page
-/// that lives in that segment all from its last base on, as they stand. The images are made of what is kept, and none of them is empty.
+/// that lives in that segment, its last base and the runs after it, unchanged. The images are made of what is kept, and none of them is
+/// empty.
 ///
-/// Where the frames of a page fit no page that is `Fault::BadStructure`, rule 1, with the least such page id. Besides there is
+/// Where the frames of a page fit no page, that is `Fault::BadStructure`, rule 1, with the least such page id. The other fault is
 /// `Fault::NoMemory`.
 pub fn choose(format: &Format, pages: Gathering, head: u64) -> Result<Vec<Image>, Fault>
     requires { first_bad_field format.now.settings ≡ None }

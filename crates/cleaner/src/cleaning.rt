@@ -23,7 +23,7 @@ use recovery::{Wanted, read, read_log};
 use std::alloc::Global;
 use std::thread::Threads;
 
-// What the slot for this sequence number says, as it stands on the disk.
+// Reads and decodes the slot for this sequence number.
 fn read_slot_on_disk<D: Disk>(disk: &mut D, sequence: u64) -> Result<Slot, Fault>
     requires { segments_begin ≤ (D.view disk.old).size }
     ensures read { (file : Bytes) → IsReadOf (D.view disk.old) file →
@@ -39,7 +39,7 @@ fn read_slot_on_disk<D: Disk>(disk: &mut D, sequence: u64) -> Result<Slot, Fault
     Ok(slot_in(&bytes))
 }
 
-// The images of the text of a clean, of what is read of the log with these ends.
+// Reads the log with these ends, and returns the images of the text of its clean.
 fn read_text<D: Disk>(
     rt: &(impl Threads + Sync),
     crew: Crew,
@@ -83,7 +83,7 @@ fn cleaned_slot(version: Version, ends: &LogEnds, on_disk: &Slot) -> Slot
     }
 }
 
-// Plans the clean of a log of which more than one segment is in use. It reads the disk, and writes nothing.
+// Plans the clean of a log that has more than one segment in use. It reads the disk, and writes nothing.
 fn plan<D: Disk>(
     rt: &(impl Threads + Sync),
     crew: Crew,
@@ -116,8 +116,8 @@ fn plan<D: Disk>(
 ///
 /// A frame is copied as it is, so a log of the second version can still have whole keys in it after a clean, from before its upgrade.
 ///
-/// It works on the log alone, so what a tree in memory has that the log lacks stays so. The crew shares the work of skimming the log; which
-/// crew it is changes nothing of what is answered or written.
+/// It works on the log alone, so what a tree in memory has that the log lacks stays so. The crew shares the work of skimming the log; what
+/// is answered and written is the same for every crew.
 ///
 /// Where the log is in one segment that is `Fault::NothingToClean`, and neither is memory taken nor the disk called. Else the log is
 /// read, and the first fault counts: that at the least position of the log, `Fault::BadSegment` or `Fault::BadFrame`; of the pages by

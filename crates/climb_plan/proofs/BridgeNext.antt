@@ -109,7 +109,7 @@ module _ {V : Type 0} (s : Settings) (of : Page V → PageOfKind) (t : TreeInMem
   abbrev pub tree_here : TreeInMemory
   tree_here = next_tree t new_here (parent_pids changing_here)
 
-  -- what the parents of a level are told, and all parents after that
+  -- the runs that the parents of a level get, and all parents after that
   abbrev pub runs_here : List (List (List ℕ × Option ℕ))
   runs_here = map terms (family_changes s used i (families ps ws))
 
@@ -147,7 +147,7 @@ module _ {V : Type 0} (s : Settings) (of : Page V → PageOfKind) (t : TreeInMem
         each [] o k = tt
         each (q ∷ qs) o k = (drawn_others t.table rooms new_here used i q.pid drawn h.drawn o.0 ∙ k.0, each qs o.1 k.1)
 
-    -- and so has each that is told something
+    -- and so has each that gets a run
     told_in_rooms : AreHome Index rooms (parents_of changing_here)
     told_in_rooms = all_told (λ p. place_of rooms p.pid ≡ Some (Some (Index p.page))) (terms_told s used i ps ws) home_in_rooms
 
@@ -161,7 +161,7 @@ module _ {V : Type 0} (s : Settings) (of : Page V → PageOfKind) (t : TreeInMem
         some [] k = tt
         some (q ∷ qs) k = (ap (λ (o : Option (Option PageOfKind)). is_some o) k.0, some qs k.1)
 
-    -- the parents that are told something are away, the others at home
+    -- the parents that get a run are away, the others at home
     parents_away : AllByRecursion (λ p. place_of tree_here.table p.pid ≡ Some None) (parents_of changing_here)
     parents_away =
         by_pids (λ n. place_of tree_here.table n ≡ Some None) (parents_of changing_here) (subst (λ (ns : List ℕ). AllByRecursion (λ n. place_of tree_here.table n ≡ Some None) ns) (sym (pids-parents_of changing_here)) (each taken (all_among taken)))

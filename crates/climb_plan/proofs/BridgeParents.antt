@@ -19,7 +19,7 @@ use Rattle.climb_plan.proofs.Told.{AreRunsOf, each_told}
 
 -- ---- each parent with its run
 
--- the parents are those that are told
+-- the parents are those that get a run
 pub told_pids : (ns : List ℕ) (runs : List (List (List ℕ × Option ℕ))) → length runs ≡ length ns → map (λ e. e.0) (each_told ns runs) ≡ ns
 told_pids [] runs e = refl
 told_pids (n ∷ ns) [] e = absurd (omega arith)
@@ -65,6 +65,6 @@ distinct_told (AreRunsOf.none) d = tt
 distinct_told (told {ps = ps} {qs = qs} p run r) d = (their_pids p.pid qs (all_told (λ q. q.pid ≢ p.pid) r (other_pids p.pid ps d.0)), distinct_told r d.1)
 distinct_told (untold p r) d = distinct_told r d.1
 
--- parents that are told something can be taken, where all of the level are at home
+-- parents that get a run can be taken, where all of the level are at home
 pub parents_can_be_taken : {ps qs : List (Placed ℕ)} {all rs : List (List (List ℕ × Option ℕ))} (t : Mapping PageOfKind) → AreRunsOf ps all qs rs → Distinct (pids ps) → AreHome Index t qs → AreParentsHome t (pids qs)
 parents_can_be_taken {ps} {qs} t r d h = (index_at_home t qs h, distinct_told r d)

@@ -138,7 +138,7 @@ module _ {V : Type 0} (of : Page V → PageOfKind) where
         ∙ ap (λ (m : ℕ). made_of (map (λ w. w.placed.pid) g) (kept_pages new) (pids (drop 1 new)) ∷ later (i + m)) count
         ∙ ap (λ (rs : List Remade). made_of (map (λ w. w.placed.pid) g) (kept_pages new) (pids (drop 1 new)) ∷ rs) (with_numbers-page_seen used (i + length (drop 1 new)) gs h.1)
 
-    -- so many numbers are needed
+    -- as many numbers are needed as there are new pieces
     pub numbers-page_seen : (used : List ℕ) (i : ℕ) (gs : List (List (Worked V))) → AreRewritten gs → numbers (map (cut_group s) (shown_groups of gs)) ≡ length (fresh_of (changes s used i gs))
     numbers-page_seen used i [] h = refl
     numbers-page_seen used i (g ∷ gs) h =

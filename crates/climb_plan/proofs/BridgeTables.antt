@@ -107,7 +107,7 @@ taken_pids t (n ∷ ns) r h =
 
 -- ---- numbers were drawn
 
--- from one table to the next so many numbers were drawn: their places are away, and all else is as it was
+-- from one table to the next n numbers were drawn: their places are away, and all else is as it was
 pub record AreDrawn (before after : Mapping PageOfKind) (n : ℕ) : Type 0 where
   pub away : (pid : ℕ) → is_among pid (fresh_pids (pids_in_use before) n) ≡ true → place_of after pid ≡ Some None
   pub others : (pid : ℕ) → is_among pid (fresh_pids (pids_in_use before) n) ≡ false → place_of after pid ≡ place_of before pid

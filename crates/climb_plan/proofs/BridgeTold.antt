@@ -1,4 +1,4 @@
--- What code tells the parents of a level is what the plan tells them.
+-- The runs that code gives the parents of a level are those that the plan gives them.
 use Rattle.std.specs.Prelude.{◌≡◌, ℕ, suc, ◌+◌, ◌<◌, ◌≤◌, List, [], ◌∷◌, ◌++◌, map, flat_map, take, drop, length, Option}
 use Rattle.std.proofs.Common.{refl, sym, ap, ◌∙◌, subst, arith, length-append, Less}
 use Rattle.std.specs.List.{AllByRecursion}
@@ -108,7 +108,7 @@ module _ {V : Type 0} where
       let a = tiled_family_apart n ws end h in
       rises_by (groups_to_rewrite f) s used p (changing_families ps more) (family_rises s used p f (next_low (placed_of more) end) z a.0) (changing_rises s used ps more end z a.1 r.1)
 
--- ---- the first so many
+-- ---- the first n
 
 module _ {X : Type 0} where
   first_taken : (n : ℕ) (xs ys : List X) → n ≡ length xs → take n (xs ++ ys) ≡ xs
@@ -136,7 +136,7 @@ can_step pid n cs fs more rs later e f a b c =
     let y : n ≤ length (rs ++ later) = omega (arith, length-append rs later) in
     rw (first_taken n fs more e, first_dropped n fs more e, first_taken n rs later f, first_dropped n rs later f) (x, y, a, b, c)
 
--- ---- what the parents are told
+-- ---- the runs of the parents
 
 module _ {V : Type 0} where
   length-changes : (s : Settings) (used : List ℕ) (i : ℕ) (gs : List (List (Worked V))) → length (changes s used i gs) ≡ length gs
@@ -206,7 +206,7 @@ module _ {V : Type 0} (of : Page V → PageOfKind) where
         let b = names_fresh (changes s used i gs) in
         rw (a, b) refl
 
-    -- what all parents are told
+    -- the runs of all parents
     pub told-page_seen : (s : Settings) (used : List ℕ) (i : ℕ) (chs : List (Changing V))
         → terms_by_parent (group_counts chs) (freed_in (changing_groups chs)) (made_in (changes s used i (changing_groups chs))) ≡ each_told (parent_pids chs) (map terms (changing_changes s used i chs))
     told-page_seen s used i [] = refl
@@ -241,7 +241,7 @@ module _ {V : Type 0} (of : Page V → PageOfKind) where
         let made : made_in (changes s used i (gs ++ more)) ≡ made_in cs ++ made_in later = ap (λ (ds : List (Change V)). made_in ds) (changes_apart s used i c chs) ∙ map-append (remade_of of) cs later in
         subst (λ (fs : List Names). CanBeTold counts fs (made_in (changes s used i (gs ++ more)))) (sym (freed_in-append gs more)) (subst (λ (rs : List Remade). CanBeTold counts (freed_in gs ++ freed_in more) rs) (sym made) one)
 
-    -- the parents of a level can be told
+    -- the parents of a level can get their runs
     pub can_be_told : (s : Settings) (used : List ℕ) (i : ℕ) (ps : List (Placed ℕ)) (ws : List (Worked V)) (end : Option (List ℕ)) → 0 < s.fan → Tiled (placed_of ws) end → joined ps ≡ names (placed_of ws)
         → CanBeTold (group_counts (changing_families ps ws)) (freed_in (changing_groups (changing_families ps ws))) (made_in (changes s used i (changing_groups (changing_families ps ws))))
     can_be_told s used i ps ws end z h l = told_each s used i (changing_families ps ws) (changing_rises s used ps ws end z h l)

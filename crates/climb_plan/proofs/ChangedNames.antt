@@ -13,7 +13,7 @@ named_none (p ∷ ps) (pid ∷ pids) (inl e) = absurd (cc)
 named_none (p ∷ ps) (pid ∷ pids) (inr e) = absurd (cc)
 
 module _ {X : Type 0} where
-  -- one more list of so many is joined
+  -- one more of n lists is joined
   pub joined_more : (done x all : List X) (old new : List (List X)) (n i : ℕ) → old ≡ x ∷ new → i < n → done ++ flat (take (n - i) old) ≡ all → (done ++ x) ++ flat (take (n - (i + 1)) new) ≡ all
   joined_more done x all old new n i e l h =
       let more : suc (n - (i + 1)) ≡ n - i = omega arith in
@@ -22,7 +22,7 @@ module _ {X : Type 0} where
       ∙ ap (λ (xss : List (List X)). done ++ flat (take (n - i) xss)) (sym e)
       ∙ h
 
-  -- and what lies behind these stays
+  -- and what follows these stays
   pub behind_more : (x : List X) (old new rest : List (List X)) (n i : ℕ) → old ≡ x ∷ new → i < n → drop (n - i) old ≡ rest → drop (n - (i + 1)) new ≡ rest
   behind_more x old new rest n i e l h =
       let more : suc (n - (i + 1)) ≡ n - i = omega arith in

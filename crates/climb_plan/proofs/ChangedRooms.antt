@@ -76,7 +76,7 @@ module _ (t u : TreeInMemory) (xs ys : List ℕ) (e : u ≡ record t { table = f
   pub left_freed : (end : TreeInMemory) → record t { table = freed_all t.table (xs ++ ys) } ≡ end → record u { table = freed_all u.table ys } ≡ end
   left_freed end h = ap (λ (v : TreeInMemory). with_table v (freed_all v.table ys)) e ∙ ap (with_table t) (sym (freed-append t.table xs ys)) ∙ h
 
--- the numbers of the groups behind a place are those of the first of them, and the others'
+-- the numbers of the groups from a place on are those of the first of them, and the others'
 pub fresh_more : (all : List Remade) (i : ℕ) (r : Remade) (xs : List ℕ) → i < length all → r ≡ get_or all i r → xs ≡ r.fresh → flat_map (λ x. x.fresh) (drop i all) ≡ xs ++ flat_map (λ x. x.fresh) (drop (i + 1) all)
 fresh_more all i r xs l e f =
     let rest : List ℕ = flat_map (λ x. x.fresh) (drop (i + 1) all) in
@@ -86,7 +86,7 @@ fresh_more all i r xs l e f =
 
 -- ---- numbers that are drawn
 
--- the numbers that come behind others
+-- the numbers that follow others
 pub shifted : (used later : List ℕ) (n i j k : ℕ) → j ≡ n + i → ((m : ℕ) → unused later m ≡ unused used (n + m)) → map (unused later) (range_with_len i k) ≡ map (unused used) (range_with_len j k)
 shifted used later n i j zero e h = refl
 shifted used later n i j (suc k) e h =
@@ -108,7 +108,7 @@ module _ {P : Type 0} where
   rooms-append t [] ys = refl
   rooms-append t (x ∷ xs) ys = rooms-append (with_rooms t (x ∷ [])) xs ys
 
--- a tree with rooms for so many drawn pids, and then for some more
+-- a tree with rooms for n drawn pids, and then for some more
 module _ (t u : TreeInMemory) (n : ℕ) (e : u ≡ record t { table = with_rooms t.table (fresh_pids (pids_in_use t.table) n) }) where
   -- the pids that are free then
   pub next_drawn : ((m : ℕ) → unused (pids_in_use (with_rooms t.table (fresh_pids (pids_in_use t.table) n))) m ≡ unused (pids_in_use t.table) (n + m)) → (m : ℕ) → unused (pids_in_use u.table) m ≡ unused (pids_in_use t.table) (n + m)
@@ -127,7 +127,7 @@ module _ (t u : TreeInMemory) (n : ℕ) (e : u ≡ record t { table = with_rooms
 abbrev pub with_fresh : Remade → List ℕ → Remade
 with_fresh r pids = record { members = r.members; pieces = r.pieces; fresh = pids }
 
--- the numbers of one more group come behind those of the others
+-- the numbers of one more group follow those of the others
 with_numbers-push : (used : List ℕ) (i j : ℕ) (rs : List Remade) (r : Remade) → j ≡ i + numbers rs → with_numbers used i (rs ++ r ∷ []) ≡ with_numbers used i rs ++ with_fresh r (map (unused used) (range_with_len j (length r.pieces - 1))) ∷ []
 with_numbers-push used i j [] r e =
     let x : i ≡ j = omega arith in
@@ -151,7 +151,7 @@ fresh-with_numbers used i (r ∷ rs) =
     let n : ℕ = length r.pieces - 1 in
     ap (λ (ms : List ℕ). map (unused used) (range_with_len i n) ++ ms) (fresh-with_numbers used (i + n) rs) ∙ sym (range-append (unused used) i n (i + n) (numbers rs) refl)
 
--- numbers that others would have behind theirs
+-- numbers that would follow those of others
 renumbered : (used later : List ℕ) (n i j : ℕ) (rs : List Remade) → j ≡ n + i → ((m : ℕ) → unused later m ≡ unused used (n + m)) → with_numbers later i rs ≡ with_numbers used j rs
 renumbered used later n i j [] e h = refl
 renumbered used later n i j (r ∷ rs) e h =
@@ -165,7 +165,7 @@ module _ (used : List ℕ) (start all : List Remade) (at : ℕ) (r : Remade) (l 
   abbrev before : List Remade
   before = with_numbers used 0 (take at start)
 
-  -- the group at the place, and those behind
+  -- the group at the place, and those after
   abbrev here : Remade
   here = get_or start at r
 
@@ -208,7 +208,7 @@ distinct_range : (used : List ℕ) (i n : ℕ) → Distinct (map (unused used) (
 distinct_range used i zero = tt
 distinct_range used i (suc n) = (apart_later used i (i + 1) n (omega arith), distinct_range used (i + 1) n)
 
--- so many of the groups have their numbers
+-- the first n groups have their numbers
 module _ (used : List ℕ) (start all : List Remade) (n : ℕ) (l : n ≤ length start) (is : all ≡ with_numbers used 0 (take n start) ++ drop n start) where
   taken : take n all ≡ with_numbers used 0 (take n start)
   taken = ap (take n) is ∙ take_at (with_numbers used 0 (take n start)) (drop n start) n (length-with_numbers used 0 (take n start) ∙ length-take-le n start l)

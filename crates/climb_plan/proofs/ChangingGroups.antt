@@ -60,7 +60,7 @@ module _ {V : Type 0} where
   alike_rewritten s used i [] = record { fresh = refl; freed = refl }
   alike_rewritten s used i (g ∷ gs) = alike_by (is_rewritten g) s used i g gs refl (λ j. alike_rewritten s used j gs)
 
-  -- so the parent is told the same
+  -- so the parent gets the same run
   pub alike_terms : (cs ds : List (Change V)) → AreAlike cs ds → terms cs ≡ terms ds
   alike_terms cs ds a = rw (a.fresh, a.freed) refl
 

@@ -145,7 +145,7 @@ module _ {V : Type 0} (of : Page V → PageOfKind) (below before after : Mapping
 
 -- ---- what goes from one tree to the next
 
--- before a climb goes on above a level, fresh pids get places, and parents what they are told: all else stays
+-- before a climb goes on above a level, fresh pids get places, and parents their runs: all else stays
 pub record IsMadeReady {V : Type 0} (before after : TreeInMemory) (ws : List (Worked V)) (fresh : List (Placed V)) (touched : List ℕ) : Type 0 where
   pub others : (n : ℕ) → is_among n (worked_pids ws) ≡ false → is_among n (pids fresh) ≡ false → is_among n touched ≡ false → place_of after.table n ≡ place_of before.table n
   pub logged : after.table.logged ≡ before.table.logged

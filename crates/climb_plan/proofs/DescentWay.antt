@@ -21,7 +21,7 @@ use Rattle.mapping.proofs.Joined.{next_joined}
 use Rattle.mapping.proofs.TileLemmas.{Names, next_low-parents, joined-append, range-names, one_page, page_for}
 use Rattle.climb_plan.specs.Rewriting.{pids_for, AreParents}
 
--- so many levels above these pages, the pid is that of the page in whose range the key lies
+-- a number of levels above these pages, the pid is that of the page in whose range the key lies
 abbrev pub IsOnWay : ℕ → List (Placed ℕ) → List (List (Placed ℕ)) → List ℕ → ℕ → Type 0
 IsOnWay zero ps ups k pid = pids_for ps k ≡ pid ∷ []
 IsOnWay (suc n) ps [] k pid = ⊥
@@ -153,7 +153,7 @@ module _ (t : Mapping PageOfKind) where
     has_child : (p : Placed ℕ) (end : Option (List ℕ)) → IsHeaded 1 p.page → is_within p.page.low end k ≡ true → HasChildFor (Index p.page) k
     has_child p end h w = (let n = h.some in omega arith, subst (λ (l : List ℕ). is_below k l ≡ false) (sym h.first) (within_parts p.page.low end k w).0)
 
-    -- so many levels above there is an index page under the pid
+    -- one or more levels above there is an index page under the pid
     way_index : (n : ℕ) (ps : List (Placed ℕ)) (ups : List (List (Placed ℕ))) (pid : ℕ) → AreUnder ps ups → IsOnWay (suc n) ps ups k pid → (p : Placed ℕ) × (page_of t pid ≡ Some (Index p.page)) × HasChildFor (Index p.page) k
     way_index n ps [] pid h w = absurd w
     way_index zero ps (up ∷ ups) pid h w =

@@ -1,4 +1,4 @@
--- The families of a level, and what their parents are told.
+-- The families of a level, and the runs that their parents get.
 use Rattle.std.specs.Prelude.{◌≡◌, ℕ, ◌+◌, ◌<◌, List, [], ◌∷◌, ◌++◌, map, take, drop, length, Option, Some, None}
 use Rattle.std.proofs.Common.{refl, sym, ap, ◌∙◌, subst, arith, length-append, length-drop, take-append-drop}
 use Rattle.std.proofs.lemmas.List.{length-map}

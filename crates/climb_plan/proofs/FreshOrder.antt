@@ -28,7 +28,7 @@ use Rattle.climb_plan.proofs.Planned.{levels_of_planned}
 abbrev free : List ℕ → List ℕ → List ℕ
 free used ns = filter (λ n. not (is_among n used)) ns
 
--- so many unused numbers, from place i on
+-- a number of unused numbers, from place i on
 abbrev next_unused : List ℕ → ℕ → ℕ → List ℕ
 next_unused used i n = map (unused used) (range_with_len i n)
 

@@ -95,7 +95,7 @@ row_13_pairs : length (contents tree_13) ≡ 14
 row_13_pairs = refl
 
 -- After row 13 with a flush, where pid 1 is unused and the log still has an old page of it: one batch puts d, da, db, e and f, which go to
--- leaf 0 under page 5, and seventeen keys behind q, which go to leaf 4 under page 6. Both leaves are cut in this batch: leaf 0
+-- leaf 0 under page 5, and seventeen keys after q, which go to leaf 4 under page 6. Both leaves are cut in this batch: leaf 0
 -- into two pieces, leaf 4, of 21 entries, into six. So page 6 has eight children, and is cut into two. The new pages are
 -- numbered from left to right, first the leaves and then the level above: 1 under page 5, 8 to 12 under page 6 and its new
 -- neighbour, then that neighbour, 13. Page 5 and the root get a run in front.
@@ -106,7 +106,7 @@ da = 100 ∷ 97 ∷ []
 abbrev db : Bytes
 db = 100 ∷ 98 ∷ []
 
--- the key of q and one byte more, the digit x or one behind the digits
+-- the key of q and one byte more, the digit x or one after the digits
 abbrev qx : ℕ → Bytes
 qx x = 113 ∷ (48 + x) ∷ []
 

@@ -155,7 +155,7 @@ pub can_next : (tree now : TreeInMemory) (r : Remade) (rs all : List Remade) →
 can_next tree now r rs all e n h =
     subst (λ (x : TreeInMemory). CanInstallAll x.table rs) (sym n) ((subst (λ (x : List Remade). CanInstallAll tree.table x) e h).1)
 
--- behind a place of a list stand the number at it and those behind the next
+-- from a place of a list on stand the number at it and those from the next on
 pub front : (xs : List ℕ) (i : ℕ) → i < length xs → drop i xs ≡ slice_index_or xs i 0 ∷ drop (i + 1) xs
 front xs i h = let next : suc i ≡ i + 1 = omega arith in drop-cons xs i 0 h ∙ ap (λ (n : ℕ). slice_index_or xs i 0 ∷ drop n xs) next
 

@@ -67,7 +67,7 @@ module _ {V : Type 0} (s : Settings) (of : Page V → PageOfKind) (kind : IsKind
         ∙ ap (λ (rs : List Remade). terms_by_parent (group_counts (changing_families ps ws)) (freed_in of rewritten_here) rs) remade_here
         ∙ told-page_seen of kind s used i (changing_families ps ws)
 
-    -- the parents can be told
+    -- the parents can get their runs
     pub can_tell : CanBeTold counts freed given
     can_tell =
         subst (λ (cs : List (ℕ × ℕ)). CanBeTold cs freed given) (sym cut.counts)
@@ -116,7 +116,7 @@ module _ {V : Type 0} (s : Settings) (of : Page V → PageOfKind) (kind : IsKind
 
 -- ---- a level whose numbers were drawn
 
--- what holds of it then: its parents can be told and taken, and what comes of that is what the plan makes of the level
+-- what holds of it then: its parents can get their runs and be taken, and what comes of that is what the plan makes of the level
 pub record IsDrawn {V : Type 0} (s : Settings) (of : Page V → PageOfKind) (t u : TreeInMemory) (l : LevelPlan V) (ps : List (Placed ℕ)) (counts : List (ℕ × ℕ)) (freed : List (List (List ℕ × ℕ))) (given : List Remade) : Type 0 where
   pub rising : AreRisingPids (pids_in_use u.table)
   pub names : CanBeTold counts freed given

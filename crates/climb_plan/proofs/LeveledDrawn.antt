@@ -24,7 +24,7 @@ range_joined a (suc m) n =
     let f : suc (m + n) ≡ suc m + n = omega arith in
     ap (λ (b : ℕ). a ∷ (range_with_len (a + 1) m ++ range_with_len b n)) e ∙ ap (λ (ns : List ℕ). a ∷ ns) (range_joined (a + 1) m n) ∙ ap (λ (k : ℕ). range_with_len a k) f
 
--- the numbers of all pieces are so many in a row
+-- the numbers of all pieces follow one another, from place i on
 pub all_numbers : (used : List ℕ) (i : ℕ) (rs : List Remade) → flat_map (λ r. r.fresh) (with_numbers used i rs) ≡ map (unused used) (range_with_len i (numbers rs))
 all_numbers used i [] = refl
 all_numbers used i (r ∷ rs) =

@@ -121,7 +121,7 @@ module _ {V : Type 0} where
 -- ---- the level
 
 -- of the highest level once the numbers of its new pieces were drawn: levels can grow above it, and with those that code grows it has become
--- what the plan makes of it; what grows above index pages of the same names, where so many were drawn, is what grows above it
+-- what the plan makes of it; what grows above index pages of the same names, where as many were drawn, is what grows above it
 pub record IsTopDrawn {V : Type 0} (s : Settings) (of : Page V → PageOfKind) (t u : TreeInMemory) (ws : List (Worked V)) (used : List ℕ) (i : ℕ) (given : List Remade) : Type 0 where
   pub some : 0 < length (top_names u.root given)
   pub named : IsRising (top_names u.root given)

@@ -223,7 +223,7 @@ module _ {A : Type 0} (s : Settings) (t : Tree) (cs : List (Command A)) where
           | inr b ↦ index_page_stands pid p g e b
         ]
 
-    -- so does one of which the log still has the base and runs
+    -- so does one whose base and runs the log still has
     pub logged_page_stands : (pid k : ℕ) (p : PageOfKind) → logged_of (planned_tree s t cs) pid ≡ Upto k → page_at t.pages pid ≡ Some p → StillStands pid p
     logged_page_stands pid k p h e = page_stands pid p (upto_is pid k h).0 e
 

@@ -32,7 +32,7 @@ within_no_bounds (e ∷ es) r =
     ∙ ap (λ (b : Bool). map {B = List ℕ × ℕ} (λ (x : Place). (x.low, x.pid)) (cond b (at ∷ rest) rest)) (meets_all e.0 e.1 (next_key es None) (before_next e es r))
     ∙ ap (λ (more : List (List ℕ × ℕ)). e ∷ more) (within_no_bounds es r.1)
 
--- so a walk over them tells the only child
+-- so a walk over them finds the only child
 pub walk_tells : (o : Option PageOfKind) (p : PageOfKind) (walk es : List (List ℕ × ℕ)) → Some p ≡ o → IsRising (child_entries (page_or_none o)) → walk ≡ children_within [] None (child_entries p) → walk ≡ es
     → only_pid es ≡ only_pid (child_entries (page_or_none o))
 walk_tells o p walk es e r w s =

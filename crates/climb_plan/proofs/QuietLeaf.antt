@@ -1,5 +1,5 @@
--- Where of a batch's leaves just one changes, and is neither replaced nor thin nor fat, no group is rewritten and no parent told: the plan is
--- the tree with that leaf back in its place.
+-- Where of a batch's leaves just one changes, and is neither replaced nor thin nor fat, no group is rewritten and no parent gets a run: the
+-- plan is the tree with that leaf back in its place.
 use Rattle.std.specs.Prelude.{◌≡◌, ◌≢◌, ℕ, zero, suc, ◌+◌, ◌<◌, true, false, nat_eq, List, [], ◌∷◌, ◌++◌, map, flat_map, take, drop, length, Option, Some, None}
 use Rattle.std.proofs.Common.{refl, sym, ap, ◌∙◌, subst, arith}
 use Rattle.std.proofs.lemmas.List.{length-map}

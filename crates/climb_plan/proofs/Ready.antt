@@ -102,7 +102,7 @@ module _ {A : Type 0} (s : Settings) (fan : 1 < s.fan) (t : Tree) (cs : List (Co
       let same : m.height ≡ t.height = r.height in
       omega arith
 
-  -- so many levels below the root
+  -- how many levels below the root
   pub ready_depth : m.height - 1 ≡ length (levels_of t).above
   ready_depth = let e = levels_counted in omega arith
 

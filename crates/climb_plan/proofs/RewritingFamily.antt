@@ -49,7 +49,7 @@ all_taken {X} (x ∷ xs) (suc n) e = let r = all_taken xs n (omega arith) in (ap
 -- ---- the walk over the children
 
 module _ (t : Mapping PageOfKind) (seen : List Seen) (es : Names) (children later : List SeenPage) where
-  -- so many children are seen; those that are left, and the pages behind them, begin at this place
+  -- the children before `at` are seen; those that are left, and the pages after them, begin at `next`
   pub record IsSoFar (next at : ℕ) (made : List SeenPage) : Type 0 where
     pub named : es ≡ map seen_name children
     pub seen_so_far : made ≡ take at children

@@ -98,7 +98,7 @@ group_at {X} (g ∷ gs) (suc i) l =
     let e : suc (i + 1) ≡ suc i + 1 = omega arith in
     (r.0, r.1 ∙ ap (λ (k : ℕ). r.0 ∷ drop k (g ∷ gs)) e, r.2)
 
--- so many groups are dealt with; those that are left begin at this place
+-- the first i groups are dealt with; those that are left begin at `start`
 module _ (children : List Seen) (sizes : List ℕ) (all : List (List SeenPage)) where
   pub record IsDealt (start i : ℕ) (made : List (List SeenPage)) : Type 0 where
     pub most : start ≤ length children

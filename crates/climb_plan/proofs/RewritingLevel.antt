@@ -62,7 +62,7 @@ names_apart (n ∷ es) fs (x ∷ xs) e =
     let r = names_apart es fs xs rest in
     (ap (λ (m : List ℕ × ℕ). m ∷ es) first ∙ ap (λ (ns : Names). seen_name x ∷ ns) r.0, r.1)
 
--- a part of a list ends behind an element, or in front of it
+-- a part of a list ends after an element, or in front of it
 split_by : {X : Type 0} (xs ys ds bs : List X) (x : X) → xs ++ ys ≡ ds ++ x ∷ bs → ((more : List X) × (xs ≡ ds ++ x ∷ more)) ⊎ ((cs : List X) × (ds ≡ xs ++ cs) × (ys ≡ cs ++ x ∷ bs))
 split_by [] ys ds bs x e = inr (ds, refl, e)
 split_by {X} (z ∷ zs) ys [] bs x e = let first : z ≡ x = cc in inl (zs, ap (λ (w : X). w ∷ zs) first)
@@ -218,7 +218,7 @@ all_behind (p ∷ ps) h = from-joined p ps None h
 
 -- ---- the state of the walk
 
--- of the parents those behind are left, with their children; what is made so far, and what is still to come, is all
+-- the later parents are left, with their children; what is made so far, and what is still to come, is all
 pub record IsLeft (t : Mapping PageOfKind) (xs all : List SeenPage) (ps : List (Placed ℕ)) (parents : List (ℕ × ℕ)) (made : List (List SeenPage)) : Type 0 where
   pub done : List (Placed ℕ)
   pub rest : List (Placed ℕ)
@@ -301,7 +301,7 @@ module _ (t : TreeInMemory) (depth : ℕ) (all_xs all : List SeenPage) (ps : Lis
         let pids : pids_for ps low ≡ found.parent.pid ∷ [] = pid_for low (s.done ++ found.front) found.behind found.parent ps parts h.parents.tiled h.parents.first inside in
         cc
 
-    -- some page is behind
+    -- some page has gone by
     pub has_gone : AreSeenIn t.table xs found.later → ⊥
     has_gone seen =
         let no : AllByRecursion (λ k. is_before (next_low found.behind None) k ≡ false) (lows xs) =

@@ -71,7 +71,7 @@ child_worked {t} {later = later} y ys (worked {xs = more} x s) e r b =
     (first, subst (λ (zs : List SeenPage). AreSeenIn t zs later) same s)
 child_worked {xs = xs} {later = later} y ys (at_home x c p h s) e r b = absurd (not_later (low_of x.page) xs b (all_lows (λ k. order (low_of x.page) k ≡ Less) s (rising_first x later r)))
 
--- a page that got no run, with the pages behind it
+-- a page that got no run, with the pages after it
 pub record IsUntouched (t : Mapping PageOfKind) (xs : List SeenPage) (x : SeenPage) (later : List SeenPage) : Type 0 where
   pub class : x.class ≡ Same
   pub replaced : x.replaced ≡ false
@@ -131,7 +131,7 @@ module _ (k : List ℕ) where
   none_low (x ∷ xs) (y ∷ ys) e a zero d l = let same : seen_now x ≡ y = cc in ap (λ (z : SeenPage). is_below (low_of z.page) k) same ∙ a.0
   none_low (x ∷ xs) (y ∷ ys) e a (suc i) d l = let rest : all_seen xs ≡ ys = cc in none_low xs ys rest a.1 i d (omega arith)
 
-  -- no page below the key is behind one that isn't
+  -- no page below the key comes after one that isn't
   pub low_first : (xs : List Seen) (before from : List SeenPage) → all_seen xs ≡ before ++ from → AreBelow k (lows before) → AreFrom k (lows from) → (i j : ℕ) (d : Seen) → i ≤ j → j < length xs → is_low (get_or xs j d) ≡ true → is_low (get_or xs i d) ≡ true
   low_first xs [] from e b a i j d l w h = absurd (let n = none_low xs from e a j d w in cc)
   low_first [] (y ∷ ys) from e b a i j d l w h = absurd (cc)

@@ -29,7 +29,7 @@ module _ (t : TreeInMemory) (depth : ℕ) (all_xs all : List SeenPage) (ps : Lis
         let c = walk.found t depth all_xs all ps ups h (all_seen again) parents made low here first in
         (family_of c.parent c.before (c.own ++ c.after) c.children c.later, walk.is_parent t depth all_xs all ps ups h (all_seen again) parents made low here first pid r, walk.family t depth all_xs all ps ups h (all_seen again) parents made low here first)
 
-    -- it ends behind some page
+    -- it ends after some page
     pub some_behind : (behind : ℕ) → OfFamily t.table (all_seen again) pid (λ k. AreSeenIn t.table (all_seen (drop behind again)) k.later) → 0 < behind
     unfolding next_family
     some_behind zero k =

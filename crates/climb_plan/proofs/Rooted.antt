@@ -137,7 +137,7 @@ module _ (s : Settings) (used : List ℕ) (fan : 1 < s.fan) where
       ap (λ (ls : List (List (Placed ℕ))). up ∷ ls) (ih (i + length up) up (omega arith) (omega arith))
   enough_by false d e i ps h l m ih = refl
 
-  -- where so many are enough, more make no difference
+  -- where a number of levels is enough, another that is enough makes no difference
   enough_grown : (d e i : ℕ) (ps : List (Placed ℕ)) → length ps ≤ d → length ps ≤ e → grown_levels d s used i ps ≡ grown_levels e s used i ps
   enough_grown zero zero i ps l m = refl
   enough_grown zero (suc e) i ps l m = few (nat_lt 1 (length ps)) e i ps refl l

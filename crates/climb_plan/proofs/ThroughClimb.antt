@@ -169,7 +169,7 @@ module _ {V D : Type 0} (of : Page V → PageOfKind) (f : D → SeenPage) where
   pub nothing_done : (s : Settings) (t : TreeInMemory) (ds : List D) (depth : ℕ) → length ds ≡ 0 → ClimbsFrom of s t t (map f ds) depth
   nothing_done s t ds depth e l h g = nothing_climbs of s t (map f ds) (length-map ds f ∙ e) l.worked l.above l.used l.from h
 
--- ---- what the climb of the parents told
+-- ---- what the climb of the parents returned
 
 module _ {U A : Type 0} (s : Settings) (w : Working) (now : TreeInMemory) where
   pub have_ended : (r : Result U (Refused × Vec IndexWorked A)) → OnOk r (ClimbsFrom Index s w.ready now (parents_seen w.parents) (w.depth - 1)) → OnOk r (now.height ≤ 64) → IfErr r (λ e. e.1.items ≡ w.parents) → OnErr r (now ≡ w.ready)

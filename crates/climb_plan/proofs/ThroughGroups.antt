@@ -52,7 +52,7 @@ module _ (used : List ℕ) where
   leave_all i [] = done
   leave_all i (n ∷ ns) = drop_one n (leave_all i ns)
 
-  -- so many numbers are drawn, one after the other
+  -- n numbers are drawn, one after the other
   pub draw_all : (i n : ℕ) → Renewed used i (i + n) [] (map (unused used) (range_with_len i n))
   draw_all i zero = recast used (let e : i ≡ i + 0 = omega arith in e) refl refl done
   draw_all i (suc n) =

@@ -1,4 +1,4 @@
--- What parents are told, as the proofs say it.
+-- The runs that parents get, as the proofs say it.
 use Rattle.std.specs.Prelude.{ℕ, List, [], ◌∷◌, Option}
 use Rattle.mapping.specs.Levels.{Placed, pids}
 

@@ -1,4 +1,4 @@
--- Lemmas on parents of which only some have a run, and on what they are after their runs.
+-- Lemmas on parents where only some have a run, and on what they are after their runs.
 use Rattle.std.specs.Prelude.{◌≡◌, ◌≢◌, ℕ, suc, ◌+◌, false, nat_eq, List, [], ◌∷◌, map, take, drop, length, Option, Some, None}
 use Rattle.std.proofs.Common.{refl, sym, ap, ◌∙◌, arith}
 use Rattle.std.specs.List.{AllByRecursion}
@@ -22,7 +22,7 @@ use Rattle.climb_plan.proofs.Told.AreRunsOf.{told, untold}
 use Rattle.climb_plan.proofs.ChangingGroups.{AreAlike, alike_rewritten, alike_terms}
 use Rattle.climb_plan.proofs.Told.{AreRunsOf}
 
--- ---- only parents of families that change are told anything
+-- ---- only parents of families that change get a run
 
 -- runs for the pages of a level
 abbrev RunsOf : Type 0 → Type 0

@@ -109,7 +109,7 @@ module _ {V : Type 0} where
 
 -- ---- all levels
 
--- these levels, of which nothing is outdated
+-- these levels, with nothing outdated
 abbrev pub as_they_were : {V : Type 0} → List (Placed V) → List (List (Placed ℕ)) → Climbed V
 as_they_were level ups = record { tower = record { level = level; above = ups }; outdated = [] }
 

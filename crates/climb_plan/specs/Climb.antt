@@ -19,7 +19,7 @@ pub record Climbed (V : Type 0) : Type 0 where
   pub outdated : List ℕ
 
 -- the levels above pages that have no parent: their low keys and pids cut into index pages, until one page is left,
--- where i fresh pids were given out before, and so many levels are enough
+-- where i fresh pids were given out before; the first number limits how many levels there are
 abbrev pub grown_levels : {V : Type 0} → ℕ → Settings → List ℕ → ℕ → List (Placed V) → List (List (Placed ℕ))
 grown_levels zero s used i ps = []
 grown_levels (suc enough) s used i ps =
@@ -43,7 +43,7 @@ climb s used i ws (parents ∷ ups) =
     let up : Climbed ℕ = climb s used (i + length (all_fresh css)) (worked_parents s parents (map terms css)) ups in
     record { tower = record { level = all_new css; above = up.tower.level ∷ up.tower.above }; outdated = all_outdated css ++ up.outdated }
 
--- a level of pages after their runs, with the levels above it as they were; of the numbers that are not among the used ones so many
+-- a level of pages after their runs, with the levels above it as they were; `from` of the numbers that are not among the used ones
 -- were given out before
 pub record LevelPlan (V : Type 0) : Type 0 where
   pub worked : List (Worked V)

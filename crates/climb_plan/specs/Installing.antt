@@ -103,11 +103,11 @@ CanInstallAll t (r ∷ rs) = CanInstall t r × CanInstallAll (group_installed t 
 
 -- ---- levels grow
 
--- the next numbers that the table gives out are those that are not among the used ones, where so many of them were given out before
+-- the next numbers that the table gives out are those that are not among the used ones, where `from` of them were given out before
 abbrev pub DrawsFrom : Mapping PageOfKind → List ℕ → ℕ → Type 0
 DrawsFrom t used from = (m : ℕ) → unused (pids_in_use t) m ≡ unused used (from + m)
 
--- pids were drawn: their places are away, and the next that are drawn come behind them; all else of the tree stayed, and to
+-- pids were drawn: their places are away, and the next that are drawn follow them; all else of the tree stayed, and to
 -- give up these places gives it back
 pub record AreDrawn (before after : TreeInMemory) (pids : List ℕ) : Type 0 where
   pub away : AllByRecursion (λ pid. place_of after.table pid ≡ Some None) pids
@@ -133,7 +133,7 @@ abbrev pub OfGrown : Settings → Mapping PageOfKind → Names → (List (Placed
 OfGrown s t ns P =
     (used : List ℕ) (from : ℕ) (ps : List (Placed ℕ)) → DrawsFrom t used from → names ps ≡ ns → P ps (grown_levels (length ps) s used from ps)
 
--- the pid of the highest page and the number of levels, once these levels have grown above pages of which so many levels had the tree
+-- the pid of the highest page and the number of levels, once these levels have grown above the highest pages of a tree of `height` levels
 abbrev pub HasGrown : TreeInMemory → TreeInMemory → ℕ × ℕ → ℕ → List (Placed ℕ) → List (List (Placed ℕ)) → Type 0
 HasGrown before after top height ps ls = (top.0 ≡ top_pid ps ls) × (top.1 ≡ height + length ls) × AreGrown before after ls
 

@@ -46,8 +46,8 @@ group_counts chs = map (λ c. (c.parent.pid, length c.groups)) chs
 
 -- ---- levels
 
--- the plan is that of a level of the tree, up to its root: of the level's pages those that were seen are away, and the levels above it are at
--- home
+-- the plan is that of a level of the tree, up to its root: those of the level's pages that were seen are away, and the levels above it are
+-- at home
 pub record IsLevel {V : Type 0} (of : Page V → PageOfKind) (t : TreeInMemory) (xs : List SeenPage) (l : LevelPlan V) : Type 0 where
   pub seen : AreSeen of t.table xs l.worked
   pub tiled : Tiled (placed_of l.worked) None
@@ -61,7 +61,7 @@ pub record IsLevel {V : Type 0} (of : Page V → PageOfKind) (t : TreeInMemory) 
   pub drawn : DrawsFrom t.table l.used l.from
   pub logs : IsOldWithoutPlace t.table
 
--- the table once so many numbers were drawn, and these pages taken
+-- the table once n numbers were drawn, and these pages taken
 abbrev pub drawn_and_taken : Mapping PageOfKind → ℕ → List ℕ → Mapping PageOfKind
 drawn_and_taken t n taken = all_taken (with_rooms t (fresh_pids (pids_in_use t) n)) taken
 

@@ -19,11 +19,11 @@ use Rattle.climb_plan.specs.declared.refused.Refused.TheVariants.{TooHigh}
 module _ {V : Type 0} (of : Page V → PageOfKind) where
   -- ---- what is asked
 
-  -- there is a level of these pages, so many levels below the root
+  -- there is a level of these pages, `depth` levels below the root
   abbrev pub SomeLevel : TreeInMemory → List SeenPage → ℕ → Type 0
   SomeLevel t xs depth = (l : LevelPlan V) × IsLevel of t xs l × (depth ≡ length l.above)
 
-  -- and one under parents that are so many levels below the root
+  -- and one under parents that are `depth` levels below the root
   abbrev pub SomeChildren : TreeInMemory → List SeenPage → ℕ → Type 0
   SomeChildren t xs depth =
       (l : LevelPlan V) × (ps : List (Placed ℕ)) × IsLevel of t xs (under ps l) × (depth ≡ length l.above)
@@ -40,7 +40,7 @@ module _ {V : Type 0} (of : Page V → PageOfKind) where
   ChangesFrom s before after xs depth groups parents =
       (l : LevelPlan V) (ps : List (Placed ℕ)) → IsLevel of before xs (under ps l) → depth ≡ length l.above → IsChanged s of before after l ps groups parents
 
-  -- the highest level has, with this root and so many levels
+  -- the highest level has, with this root and `height` levels
   abbrev pub TopChangesFrom : Settings → TreeInMemory → TreeInMemory → List SeenPage → List Remade → ℕ → ℕ → Type 0
   TopChangesFrom s before after xs groups root height =
       (l : LevelPlan V) → IsLevel of before xs (alone l) → IsTopChanged s of before after (alone l) groups root height
@@ -83,7 +83,7 @@ pub record AreRefused (s : Settings) (w : Working) (now : TreeInMemory) (why : R
   pub back : given ≡ w.parents
   pub high : why ≡ TooHigh → IsTooHighFrom Index s w.ready (parents_seen w.parents) (w.depth - 1)
 
--- one of these, as the climb of the parents told
+-- one of these, as the climb of the parents returned
 abbrev pub HaveEnded : {U A : Type 0} → Settings → Working → TreeInMemory → Result U (Refused × Vec IndexWorked A) → Type 0
 HaveEnded s w now (Ok done) = HaveClimbed s w now
 HaveEnded s w now (Err refused) = AreRefused s w now refused.0 refused.1.items

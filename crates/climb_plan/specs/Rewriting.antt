@@ -38,7 +38,7 @@ all_seen xs = map seen_now xs
 abbrev pub groups_seen : {A : Type 0} → List (Vec Seen A) → List (List SeenPage)
 groups_seen gs = map (λ g. all_seen g.items) gs
 
--- what a parent's entry says of it
+-- its name: what a parent's entry holds of it
 abbrev pub seen_name : SeenPage → Bytes × ℕ
 seen_name x = (low_of x.page, x.pid)
 
@@ -87,7 +87,7 @@ groups_of rs = flat_map (λ r. r.groups) rs
 
 -- ---- the levels above
 
--- the levels from these parents on upward, as a tree in memory has them, so many below the root
+-- the levels from these parents on upward, as a tree in memory has them, `depth` below the root
 pub record AreParents (t : TreeInMemory) (depth : ℕ) (ps : List (Placed ℕ)) (ups : List (List (Placed ℕ))) : Type 0 where
   pub home : AllByRecursion (AllByRecursion (λ p. page_of t.table p.pid ≡ Some (Index p.page))) (ps ∷ ups)
   pub headed : AllByRecursion (λ p. IsHeaded 1 p.page) ps
@@ -97,7 +97,7 @@ pub record AreParents (t : TreeInMemory) (depth : ℕ) (ps : List (Placed ℕ)) 
   pub root : t.root ≡ top_pid ps ups
   pub far : depth ≡ length ups
 
--- a level of pages under these parents, of which these got a run
+-- a level of pages under these parents, and those of them that got a run
 pub record IsLevelSeen (t : TreeInMemory) (depth : ℕ) (xs all : List SeenPage) (ps : List (Placed ℕ)) (ups : List (List (Placed ℕ))) : Type 0 where
   pub seen : AreSeenIn t.table xs all
   pub linked : joined ps ≡ map seen_name all
@@ -123,7 +123,7 @@ IsQuiet x = calls x.class ≡ false
 abbrev pub lows : List SeenPage → List Bytes
 lows xs = map (λ x. low_of x.page) xs
 
--- of these pages the first that is thin or fat, with those in front of it and those behind
+-- of these pages the first that is thin or fat, with those in front of it and those after it
 pub record IsFirstCall (xs quiet : List SeenPage) (x : SeenPage) (more : List SeenPage) : Type 0 where
   pub parted : xs ≡ quiet ++ x ∷ more
   pub none_earlier : AllByRecursion IsQuiet quiet
@@ -148,14 +148,14 @@ abbrev pub begins_at : Bytes → List SeenPage → Bool
 begins_at low [] = false
 begins_at low (x ∷ xs) = is_same_key (low_of x.page) low
 
--- the first of the pages that are left of a level, of which these got a run
+-- the first of the pages that are left of a level, where these of them got a run
 pub record IsNextChild (t : Mapping PageOfKind) (xs : List SeenPage) (low : Bytes) (pid : ℕ) (x : SeenPage) (later : List SeenPage) : Type 0 where
   pub seen : AreSeenIn t xs (x ∷ later)
   pub same_low : low ≡ low_of x.page
   pub same_pid : pid ≡ x.pid
   pub rising : IsRising (map seen_name (x ∷ later))
 
--- a parent with its children and the pages of the level behind them; of the pages that got a run those in front of them, and the others
+-- a parent with its children and the pages of the level after them; of the pages that got a run those in front of them, and the others
 pub record FamilySeen : Type 0 where
   pub parent : Placed ℕ
   pub before : List SeenPage
@@ -248,16 +248,16 @@ top_names root (r ∷ rs) = group_names r
 abbrev pub terms_of : List Names → List Remade → Changes ℕ
 terms_of fs rs = with_run (absent (flat fs)) (present (flat_map fresh_names rs))
 
--- each parent with the run of its terms: so many of the groups are its own
+-- each parent, given with the number of its groups, with the run of its terms
 abbrev pub terms_by_parent : List (ℕ × ℕ) → List Names → List Remade → List (ℕ × Changes ℕ)
 terms_by_parent [] fs rs = []
 terms_by_parent (c ∷ cs) fs rs = (c.0, terms_of (take c.1 fs) (take c.1 rs)) ∷ terms_by_parent cs (drop c.1 fs) (drop c.1 rs)
 
--- the parents that are told
+-- the parents that get terms
 abbrev pub told_pids : List (ℕ × ℕ) → List Names → List Remade → List ℕ
 told_pids cs fs rs = map (λ t. t.0) (terms_by_parent cs fs rs)
 
--- each parent has so many groups, and their names can be told, since they rise
+-- there are as many groups as the parents' numbers, and terms can be made of their names, since these rise
 abbrev pub CanBeTold : List (ℕ × ℕ) → List Names → List Remade → Type 0
 CanBeTold [] fs rs = ⊤
 CanBeTold (c ∷ cs) fs rs =

@@ -31,9 +31,9 @@ use std::thread::Threads;
 
 /// Climbs from these leaves, which were taken out of the tree and worked with the commands of a batch: they go home, their groups are cut
 /// and merged, and so on level by level upward, and the root shrinks while it has one child. The tree is the plan's then. Where it is
-/// refused, for want of memory or since the tree would have more than 64 levels, the tree is as it was, and the leaves come back as
-/// they were given. Only the parents of leaves that are thin or fat are visited. On each level the crew cuts the groups and works the parents;
-/// the gate is told of each piece of these, and neither changes what becomes of the tree.
+/// refused, for lack of memory or because the tree would have more than 64 levels, the tree is as it was, and the leaves come back as they
+/// were given. Only the parents of leaves that are thin or fat are visited. On each level the crew cuts the groups and works the parents;
+/// the gate is called for each piece of these, and neither changes what becomes of the tree.
 pub fn climb(
     rt: &(impl Threads + Sync),
     crew: Crew,
@@ -63,8 +63,8 @@ pub fn climb(
     Ok(())
 }
 
-// Climbs from these leaves, which were worked, and which are so many levels below the root. Where it is refused, the tree is as
-// it was, and the pages come back as they were given.
+// Climbs from these leaves, which were worked, and are `depth` levels below the root. Where it is refused, the tree is as it was, and the
+// pages come back as they were given.
 fn climb_leaves(
     rt: &(impl Threads + Sync),
     crew: Crew,
@@ -101,7 +101,7 @@ fn climb_leaves(
     finish_level(rt, crew, alloc, settings, tree, climbed, groups, dones)
 }
 
-// Climbs from these index pages, which were worked, and which are so many levels below the root. Where it is refused, the tree is as
+// Climbs from these index pages, which were worked, and are `depth` levels below the root. Where it is refused, the tree is as
 // it was, and the pages come back as they were given.
 fn climb_parents(
     rt: &(impl Threads + Sync),

@@ -1,4 +1,4 @@
-//! What is made of the groups of a level, and what their parents are told.
+//! What is made of the groups of a level, and the runs that their parents get.
 ghost use Rattle.std.specs.Prelude.{◌≡◌, ℕ, ◌+◌, ◌-◌, ◌<◌, ◌≤◌, ◌++◌, List, map, flat_map, take, drop, length, IfOk, OnOk, OnErr};
 ghost use Rattle.keys.specs.Lists.{flat};
 ghost use Rattle.keys.specs.Order.{IsRising};
@@ -146,7 +146,7 @@ fn freed_of(alloc: Global, group: &[Seen<'_>]) -> Result<Vec<Name>, AllocError>
     }
 }
 
-// What a parent's entries say of these pages.
+// The names of these pages: what their parent's entries hold.
 fn names_of(alloc: Global, pages: &[Seen<'_>]) -> Result<Vec<Name>, AllocError>
     ensures { IfOk result (λ names. names.items ≡ map seen_name (all_seen pages.now)) }
 {
@@ -194,7 +194,7 @@ fn draw_each(tree: &mut Tree<Global>, all: &mut [Rewritten]) -> usize
           (fresh_pids (pids_in_use tree.old.table) (numbers (take result all.old)));
     } }
 {
-    // The next that are drawn come behind those that were drawn before.
+    // The next that are drawn follow those that were drawn before.
     drawn_pids_get_places_that_are_away::<Page<Global>>();
     for at in 0..all.len() {
         let group = &mut all[at];
@@ -268,7 +268,7 @@ fn next_terms(
     terms(alloc, gone, come)
 }
 
-// The next so many lists of names, joined.
+// The next `count` lists of names, joined.
 fn next_names(
     alloc: Global,
     lists: &mut VecDeque<Vec<Name>>,
@@ -332,7 +332,7 @@ impl Rewritten {
         (members, pieces, fresh)
     }
 
-    /// What a parent's entries say of the pieces, the first under the first member's page id.
+    /// The names of the pieces, the first under the first member's page id.
     pub(crate) fn names(&self, alloc: Global) -> Result<Vec<Name>, AllocError>
         ensures { IfOk result (λ names. names.items ≡
             named_pages self.now.pieces (take 1 self.now.members ++ self.now.fresh)) }

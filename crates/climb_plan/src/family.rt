@@ -28,7 +28,7 @@ pub(crate) struct ToRewrite<'a> {
 }
 
 /// The groups of a level that are rewritten, where these of its pages got a run and the others are at home. Their parents are
-/// so many levels below the root. The tree is only read.
+/// `depth` levels below the root. The tree is only read.
 pub(crate) fn rewrites<'a>(
     alloc: Global,
     tree: &'a Tree<Global>,
@@ -75,7 +75,7 @@ fn first_call<'a>(seen: &[Seen<'a>]) -> Option<&'a [u8]>
     None
 }
 
-// The page id of the index page, so many levels below the root, in whose range the key is.
+// The page id of the index page, `depth` levels below the root, in whose range the key is.
 fn parent_of(tree: &Tree<Global>, depth: u32, key: &[u8]) -> Pid
     requires { (ps : List (Placed ℕ)) × (ups : List (List (Placed ℕ))) ×
         AreParents tree.now depth ps ups }
@@ -92,7 +92,8 @@ fn parent_of(tree: &Tree<Global>, depth: u32, key: &[u8]) -> Pid
     pid
 }
 
-// Adds the groups of the parent's children that are rewritten. Returns behind which of the pages the parent's children end.
+// Adds the groups of the parent's children that are rewritten. Returns the place after the last of these pages that is a
+// child of the parent.
 fn add_family<'a>(
     alloc: Global,
     tree: &'a Tree<Global>,
@@ -121,7 +122,7 @@ fn add_family<'a>(
     Ok(behind)
 }
 
-// The parent's children as they are seen now, and behind which of the pages they end.
+// The parent's children as they are seen now, and the place after the last of these pages that is one.
 fn family<'a>(
     alloc: Global,
     tree: &'a Tree<Global>,

@@ -159,7 +159,7 @@ fn rests_once_home<D: WorkedPage>(
     rests
 }
 
-// Puts the item behind the others, if there is one, and the list has room for it.
+// Appends the item, if there is one, and the list has room for it.
 fn keep_if_room<T: Drop>(items: &mut Vec<T>, item: Option<T>) {
     if let Some(item) = item {
         if items.len() < items.capacity() {

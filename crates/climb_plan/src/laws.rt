@@ -43,7 +43,7 @@ pub fn the_plan_of_a_proper_store_is_proper<A: Allocator>()
         IsProper s (plan s st cs).tree }
 {}
 
-/// What was true of the log stays true: of each pid that it has the base and some runs of, there is a page with so many.
+/// What was true of the log stays true: where it has the base and k runs of a pid, there is a page with k runs or more.
 pub fn the_log_states_stay_true<A: Allocator>()
     ensures { (s : Settings) (st : Store) (cs : List (Command A)) →
         first_bad_field s ≡ None → IsProper s st.tree → AreLogsTrue st.tree →
@@ -115,9 +115,8 @@ pub fn new_pages_are_numbered_in_order<A: Allocator>()
         ≡ map (unused (keys_of st.tree.pages)) (range_with_len 0 n)) }
 {}
 
-/// What the log has of a page stays true. The plan gives no pid more than the log had of it, and takes away no page
-/// from one of which it had none. A page of which the log still has the base and runs stands as it did, with newer runs
-/// in front.
+/// What the log has of a page stays true. The plan gives no pid more than the log had of it, and takes away no page from
+/// one that it had none of. A page whose base and runs the log still has stands as it did, with newer runs in front.
 pub fn what_the_log_has_of_a_page_stays_true<A: Allocator>()
     ensures none { (s : Settings) (st : Store) (cs : List (Command A)) (pid : ℕ) →
         (logged_of st.tree pid ≡ No) ↔ (logged_of (plan s st cs).tree pid ≡ No) }

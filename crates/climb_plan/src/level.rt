@@ -26,8 +26,8 @@ pub(crate) struct Changed {
     pub(crate) parents: Vec<TermDone>,
 }
 
-/// Cuts the groups of a level that are rewritten, draws the numbers of their new pieces, and works their parents, which are so many
-/// levels below the root. These of the level's pages were worked. Where memory is refused, the tree is as it was.
+/// Cuts the groups of a level that are rewritten, draws the numbers of their new pieces, and works their parents, which are `depth`
+/// levels below the root. `dones` are the pages of the level that were worked. Where memory is refused, the tree is as it was.
 pub(crate) fn change_level<D: WorkedPage>(
     rt: &(impl Threads + Sync),
     crew: Crew,

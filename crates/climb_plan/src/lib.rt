@@ -1,9 +1,8 @@
 //! What a batch makes of the levels of a tree, from the leaves up to the root.
 //!
 //! `specs/` has the plan of a batch, and its laws stand in `laws`. The climb makes the tree of that plan, level by level from the
-//! leaves up: which groups of a level are rewritten, what is made of them, and what their parents are told; then, from the root
-//! down, what is done to the mapping table.
-//! Other crates name items by this root, and laws by the public module `laws`.
+//! leaves up: which groups of a level are rewritten, what is made of them, and the runs that their parents get; then, from the
+//! root down, what is done to the mapping table. Other crates name items by this root, and laws by the public module `laws`.
 #![tactic(auto)]
 
 mod ascent;

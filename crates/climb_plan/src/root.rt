@@ -22,9 +22,9 @@ use std::alloc::{AllocError, Global};
 const MOST_LEVELS: u32 = 64;
 
 /// Grows levels of index pages above pages of these names, until one page is left, and puts them into the tree's table: the
-/// page id of the top, and how many levels the tree has then, where it had so many with the named pages on top. The tree
-/// keeps its root and height. Where it is refused, for want of memory or since there would be more than 64 levels, the tree
-/// is as it was.
+/// page id of the top, and how many levels the tree has then, where it had `height` with the named pages on top. The tree
+/// keeps its root and height. Where it is refused, for lack of memory or because there would be more than 64 levels, the
+/// tree is as it was.
 pub(crate) fn grow(
     alloc: Global,
     settings: &Settings,
@@ -90,7 +90,7 @@ fn draw_names(
     }
 }
 
-// Draws so many new page ids, whose places are away.
+// Draws `count` new page ids, whose places are away.
 fn draw(tree: &mut Tree<Global>, count: usize) -> Result<Vec<u64>, AllocError>
     requires { AreRisingPids (pids_in_use tree.old.table) }
     ensures pids { IfOk result (λ pids. pids.items ≡

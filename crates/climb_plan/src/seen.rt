@@ -73,7 +73,7 @@ pub(crate) trait WorkedPage: Drop {
     fn into_parts(self) -> (Page<Global>, Option<LeafRest>)
         ensures { result.0 ≡ (seen_page self).page };
 
-    /// Room for what is left of so many pages' work, as far as there is memory.
+    /// Room for what is left of the work of `count` pages, as far as there is memory.
     fn room_for_rests(alloc: Global, count: usize) -> Vec<LeafRest>;
 
     // It is seen as what its run made of it.

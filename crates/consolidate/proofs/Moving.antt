@@ -31,7 +31,7 @@ rising_apart ks at m k q r l h g e = let less = rising_less ks at m k q r l h g 
 module _ {V : Type 0} where
   -- ---- entries that have the same keys, place by place
 
-  -- how many there are is told by the keys
+  -- how many there are follows from the keys
   pub length-keys : (bs es : List (List ℕ × V)) → keys_of bs ≡ keys_of es → length bs ≡ length es
   length-keys [] [] h = refl
   length-keys [] (e ∷ es) h = absurd (cc)

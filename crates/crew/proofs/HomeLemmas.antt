@@ -5,7 +5,7 @@ use Rattle.std.proofs.lemmas.List.{length-map, map-append}
 
 module _ {J D H : Type 0} (held : J → H) (origin : D → H) (jobs undone back : List J) (dones : List D) (rest all : List H)
     (undo : map held undone ≡ map held jobs ++ map origin dones) (was : map held jobs ++ (map origin dones ++ (map held back ++ rest)) ≡ all) where
-  -- what was made is undone, and the jobs that came back are behind it
+  -- what was made is undone, and the jobs that came back follow it
   pub taken_back : map held (undone ++ back) ++ ([] ++ rest) ≡ all
   taken_back =
       ap (λ xs. xs ++ rest) (map-append held undone back ∙ ap (λ xs. xs ++ map held back) undo) ∙ append_assoc (map held jobs ++ map origin dones) (map held back) rest

@@ -6,7 +6,7 @@ use Rattle.std.proofs.Math.Nat.{mul-le-mul_right}
 use Rattle.std.proofs.lemmas.List.{reverse-append}
 use Rattle.crew.specs.Pieces.{jobs_of}
 
--- the jobs behind a place go into a piece, in front of the pieces so far
+-- the jobs from a place on go into a piece, in front of the pieces so far
 pub cut_off : {J : Type 0} (jobs all : List J) (pieces : List (Vec J Global)) (piece : Vec J Global) (at : ℕ) → piece.items ≡ drop at jobs
     → jobs ++ jobs_of (reverse pieces) ≡ all → take at jobs ++ jobs_of (reverse (pieces ++ piece ∷ [])) ≡ all
 cut_off jobs all pieces piece at tail was =

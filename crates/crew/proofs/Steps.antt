@@ -32,7 +32,7 @@ is_below true same = refl
 is_below false true = refl
 is_below false false = refl
 
--- what `is_empty` tells of a range
+-- what `is_empty` says of a range
 pub idle : (start end : ℕ) → true ≡ not (is_lt (nat_cmp start end)) → end ≤ start
 idle start end e = ltb-false start end (sym (is_below (nat_lt start end) (start == end)) ∙ not-true _ (sym e))
 

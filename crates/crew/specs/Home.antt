@@ -16,7 +16,7 @@ module _ {J D : Type 0} where
   left_behind n (piece ∷ pieces) = record { number = n; made = Err piece } ∷ left_behind (n + 1) pieces
 
 module _ {W J D : Type 0} (g : Work.Ghosts W J D) where
-  -- what the jobs held of which this became
+  -- what the jobs held that this was made of
   abbrev pub origins : Result (Vec D Global) (Vec J Global) → List g.Held
   origins (Ok dones) = map g.origin dones.items
   origins (Err jobs) = map g.held jobs.items

@@ -1,4 +1,4 @@
--- What of the jobs of a round is home, by their numbers alone: it depends on no job, nor on what is made of one.
+-- Which jobs of a round are home, by their numbers alone: it depends on no job, nor on what is made of one.
 use Rattle.std.specs.Prelude.{ℕ, ◌-◌, List, map, replicate, Option, option_map}
 use Rattle.std.specs.declared.ops.Range.{Range}
 use Rattle.crew.specs.declared.machine.Event.{Event}

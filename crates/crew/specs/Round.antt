@@ -27,7 +27,7 @@ pub record State (J D : Type 0) : Type 0 where
 abbrev pub joined : {J : Type 0} → List (List J) → List J
 joined pieces = flat_map (λ piece. piece) pieces
 
--- the jobs with their numbers, of which the first is n
+-- the jobs with their numbers, from n on
 abbrev pub numbered : {J : Type 0} → ℕ → List J → List (ℕ × J)
 numbered n [] = []
 numbered n (j ∷ js) = (n, j) ∷ numbered (n + 1) js
@@ -88,7 +88,7 @@ module _ {J D : Type 0} where
   after_events made s [] = s
   after_events made s (event ∷ events) = after_events made (after_event made s event) events
 
-  -- all pieces on the board, and so many workers who hold nothing
+  -- all pieces on the board, and `workers` workers who hold nothing
   abbrev pub begun : List (List J) → ℕ → State J D
   begun pieces workers =
       record { board = numbered_pieces 0 pieces; hands = replicate workers (record { unworked = []; worked = [] }); home = [] }
@@ -97,6 +97,6 @@ module _ {J D : Type 0} where
   abbrev pub round : (J → D) → List (List J) → ℕ → List Event → State J D
   round made pieces workers events = after_events made (begun pieces workers) events
 
-  -- these were made of so many jobs, in the order of the jobs, and all are home
+  -- these were made of `jobs` jobs, in the order of the jobs, and all are home
   abbrev pub AreHome : State J D → ℕ → List D → Type 0
   AreHome s jobs ds = map (λ n. fate_of n s.home) (range_with_len 0 jobs) ≡ map (λ d. Some (Made d)) ds

@@ -1,4 +1,4 @@
--- What is said of what became of a job.
+-- Properties of what became of a job.
 use Rattle.crew.specs.declared.Turn.{Turn}
 use Rattle.crew.specs.declared.Turn.TheVariants.{Done, Back}
 

@@ -23,7 +23,7 @@ pub(crate) struct Hand<J, D> {
     pub(crate) worked: Vec<Worked<J, D>>,
 }
 
-/// Works the jobs in pieces of `grain`, drawn by so many workers of which the caller is one. All is as of `run_round`.
+/// Works the jobs in pieces of `grain`, drawn by `workers` workers, the caller among them, as `run_round` does.
 pub(crate) fn work_drawn<R: Threads + Sync, G: Gate, W: Work>(
     rt: &R,
     gate: &G,
@@ -91,7 +91,7 @@ fn draw_round<R: Threads + Sync, G: Gate, W: Work>(
     Ok(homes)
 }
 
-// Places for so many pieces, with nothing in them.
+// Places for `count` pieces, with nothing in them.
 fn no_homes<J: Drop, D: Drop>(alloc: Global, count: usize) -> Result<Vec<Home<J, D>>, AllocError>
     ensures { IfOk result (λ homes. homes.items ≡ replicate count None) }
 {

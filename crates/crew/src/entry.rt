@@ -1,7 +1,7 @@
-//! What is told of each piece before it is worked.
+//! The gate of a round, which is called for each piece before it is worked.
 
-/// Told of each piece of a round, by its number, before that piece is worked, in the thread that works it. It may look on, or let the
-/// thread wait: what a round makes doesn't depend on it.
+/// A gate is called with the number of each piece of a round, before that piece is worked, in the thread that works it. It may
+/// look on, or let the thread wait: what a round makes doesn't depend on it.
 pub trait Gate: Sync {
     fn enter(&self, piece: u64);
 }

@@ -8,7 +8,7 @@ use std::alloc::Allocator;
 
 /// Works the jobs one after the other, and returns what was made of each, in the order of the jobs. Where memory was
 /// refused, for the list of results or to a job, nothing stays worked: all jobs come back as they were, in their
-/// order. The way back takes no memory. The gate is told of each piece of `grain` jobs, of which the first has this number.
+/// order. The way back takes no memory. The gate is called for each piece of `grain` jobs, whose numbers begin at `first`.
 pub(crate) fn work_in_turn<W: Work, G: Gate, A: Allocator + Copy>(
     gate: &G,
     first: u64,
@@ -43,8 +43,8 @@ pub(crate) fn work_in_turn<W: Work, G: Gate, A: Allocator + Copy>(
     Ok(dones)
 }
 
-/// Undoes all that was made, and returns the jobs in their order, with the given ones behind them. It takes no memory,
-/// since the given list has room for all.
+/// Undoes all that was made, and returns the jobs in their order, followed by the given ones. It takes no memory, since the given list
+/// has room for all.
 pub(crate) fn undo_all<W: Work, A: Allocator>(
     work: &W,
     mut dones: Vec<W::Done, A>,
@@ -61,7 +61,7 @@ pub(crate) fn undo_all<W: Work, A: Allocator>(
     jobs
 }
 
-/// Undoes all that was made, and puts the jobs behind those that are in the list, in their order. It takes no memory, since the list has
+/// Undoes all that was made, and appends the jobs to the list, in their order. It takes no memory, since the list has
 /// room for all.
 pub(crate) fn undo_behind<W: Work>(work: &W, dones: &mut Vec<W::Done>, jobs: &mut Vec<W::Job>)
     requires room { length jobs.old.items + length dones.old.items ≤ vec_capacity jobs.old }

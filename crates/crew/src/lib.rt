@@ -54,7 +54,7 @@ pub trait Work: Sync {
 
     ghost held: { Self.Job → Held };
 
-    // What the job held of which this was made.
+    // What the job held that this was made of.
     ghost origin: { Self.Done → Held };
 
     // What was made, as plain data.
@@ -70,7 +70,7 @@ pub trait Work: Sync {
         ensures made { IfDone result (λ done. outcome done ≡ made self.now (held job)) }
         ensures back { IfBack result (λ again. held again ≡ held job) };
 
-    /// The job of which this was made. It takes no memory.
+    /// Gives back the job that this was made of. It takes no memory.
     fn undo(&self, done: Self::Done) -> Self::Job
         ensures { held result ≡ origin done };
 }

@@ -1,4 +1,4 @@
-//! What of the jobs of a round is home after events, told without working any.
+//! Which jobs of a round are home after events, found without working any.
 ghost use Rattle.std.specs.Prelude.{◌≡◌, ℕ, ◌<◌, ◌^◌, length, map, slice_index_or, IfOk};
 ghost use Rattle.crew.specs.Round.{joined, round};
 ghost use Rattle.crew.specs.Marks.{mark_at};
@@ -8,7 +8,7 @@ use crate::progress::Progress;
 use std::alloc::{AllocError, Global};
 use std::marker::Model;
 
-/// What of the jobs of a round is home after events. Contracts see it as the mark of each job in turn, or `None`.
+/// Which jobs of a round are home after events. Contracts see it as the mark of each job in turn, or `None`.
 #[derive(Drop)]
 pub struct Round {
     marks: Vec<Option<Mark>>,
@@ -24,8 +24,8 @@ impl Model for Round {
 }
 
 impl Round {
-    /// The round of these pieces of jobs, shared by so many workers, after these events. An event that cannot happen, or of a worker that
-    /// there is not, changes nothing. It fails only for want of memory, for a mark each of all jobs among it.
+    /// The round of these pieces of jobs, shared by `workers` workers, after these events. An event that cannot happen, or of a worker
+    /// that there is not, changes nothing. It fails only for lack of memory, that for a mark of each job included.
     pub fn after<J>(
         alloc: Global,
         pieces: &[Vec<J>],

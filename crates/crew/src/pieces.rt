@@ -5,8 +5,8 @@ ghost use Rattle.crew.specs.Pieces.{jobs_of};
 
 use std::alloc::AllocError;
 
-/// The jobs in pieces of so many, the last perhaps of fewer. The list stays with its room, emptied; where memory is refused it has all
-/// jobs, as before.
+/// Cuts the jobs into pieces of `grain`, the last perhaps of fewer. The list stays with its room, emptied; where memory is refused it
+/// has all jobs, as before.
 pub(crate) fn cut<J: Drop>(jobs: &mut Vec<J>, grain: usize) -> Result<Vec<Vec<J>>, AllocError>
     requires grain { 0 < grain }
     ensures pieces { IfOk result (λ pieces. jobs_of pieces.items ≡ jobs.old.items) }
@@ -31,7 +31,7 @@ pub(crate) fn cut<J: Drop>(jobs: &mut Vec<J>, grain: usize) -> Result<Vec<Vec<J>
     Ok(pieces)
 }
 
-/// Puts the jobs of the pieces behind those in the list, which has room for them. It takes no memory.
+/// Appends the jobs of the pieces to the list, which has room for them. It takes no memory.
 pub(crate) fn put_together<J: Drop>(jobs: &mut Vec<J>, mut pieces: Vec<Vec<J>>)
     requires room { length jobs.old.items + length (jobs_of pieces.items) ≤ vec_capacity jobs.old }
     ensures jobs { jobs.new.items ≡ jobs.old.items ++ jobs_of pieces.items }

@@ -29,7 +29,7 @@ pub(crate) struct Progress {
 }
 
 impl Progress {
-    /// All pieces on the board, and so many workers who hold nothing.
+    /// All pieces on the board, and `workers` workers who hold nothing.
     pub(crate) fn begun<J>(
         alloc: Global,
         pieces: &[Vec<J>],
@@ -100,7 +100,7 @@ impl Progress {
         Ok(())
     }
 
-    /// The mark of each of so many jobs, where it is home.
+    /// The mark of each of the first `jobs` jobs, where it is home.
     pub(crate) fn marks(&self, alloc: Global, jobs: usize) -> Result<Vec<Option<Mark>>, AllocError>
         ensures count { IfOk result (λ marks. length marks.items ≡ jobs) }
         ensures marks { IfOk result (λ marks. (job : ℕ) → job < jobs → slice_index_or marks.items job None ≡ mark_at (state_by self.now) job) }

@@ -17,11 +17,11 @@ const MOST_PIECES: usize = 1 << 32;
 
 /// Works the jobs, and returns what was made of each, in the order of the jobs. They are cut into pieces of `crew.grain`, which lie on a
 /// board, and as many workers as the crew has, the caller among them, draw pieces until none is left; where one worker is enough the
-/// caller works alone, and no thread is started. The gate is told of each piece before it is worked. A crew that `Crew::check` refuses
+/// caller works alone, and no thread is started. The gate is called for each piece before it is worked. A crew that `Crew::check` refuses
 /// works as the nearest one that has some workers and some grain.
 ///
 /// Where memory was refused, to a job or to the round itself, nothing stays worked: all jobs come back as they were, in their order, and
-/// that takes no memory. A thread that the system doesn't start is missed by nobody: the one that would have started it draws in its place.
+/// that takes no memory. Where the system doesn't start a thread, the one that would have started it draws in its place.
 pub fn run_round<R: Threads + Sync, G: Gate, W: Work>(
     rt: &R,
     crew: Crew,

@@ -38,7 +38,7 @@ module _ {V : Type 0} where
       let rest = most_with_run (with_change m c.0 c.1) cs in
       omega (arith, one, rest)
 
-  -- so many fewer entries than there were are there, where a run of so many changes is applied
+  -- at least `fewest` less n entries are there, where a run of n changes is applied
   pub still_fewest : (n fewest left : ℕ) (m : List (List ℕ × V)) (run : List (List ℕ × Option V)) → fewest ≤ length m → n ≡ length run → left ≡ fewest - n → left ≤ length (with_run m run)
   still_fewest n fewest left m run h e s = let most = most_with_run m run in omega (arith, most)
 
@@ -73,7 +73,7 @@ module _ {V : Type 0} where
       let rest = least_with_run (with_change m c.0 c.1) cs in
       omega (arith, one, rest)
 
-  -- so many more entries than there were may be there, where a run of so many changes is applied
+  -- at most `most` + n entries are there, where a run of n changes is applied
   pub still_most : (n most more top : ℕ) (m : List (List ℕ × V)) (run : List (List ℕ × Option V)) → min (length m) top ≤ most → n ≡ length run → more ≡ min (most + n) top → min (length (with_run m run)) top ≤ more
   still_most n most more top m run h e s = let least = least_with_run m run in omega (arith, least, h, e, s)
 

@@ -9,7 +9,7 @@ use Rattle.delta_chain.specs.Late.{Late, open_runs, seen}
 use Rattle.delta_chain.specs.Layers.{Layers, said_or, held_under, holds, with_run, entries_under, entries_of, AllRise, IsInOrder}
 use Rattle.delta_chain.proofs.LayerLemmas.{rising-entries_under, value_at-entries_under}
 
--- the oldest ones of a list that grows behind are the last ones of it from behind
+-- the oldest ones of a list that grows at its end are the last ones of it reversed
 pub reverse-oldest : {T : Type 0} (xs : List T) (count : ℕ) → count ≤ length xs → reverse (take count xs) ≡ drop (length (reverse xs) - count) (reverse xs)
 reverse-oldest xs count l =
     let parts : reverse xs ≡ reverse (drop count xs) ++ reverse (take count xs) = ap reverse (sym (take-append-drop count xs)) ∙ reverse-append (take count xs) (drop count xs) in

@@ -20,7 +20,7 @@ module _ {V : Type 0} where
   cell_lent (d ∷ ds) zero e l h = ap (λ (x : Bor (List ℕ) × Bor V). Some x.1.now) (sym h)
   cell_lent (d ∷ ds) (suc at) e l h = let m : at < length (pairs_lent ds) = omega arith in cell_lent ds at e m h
 
-  -- one more behind the others
+  -- one more after the others
   pub pairs_lent-push : (lent : List (Bor (List ℕ) × Bor V)) (e : Bor (List ℕ) × Bor V) → pairs_lent (lent ++ e ∷ []) ≡ pairs_lent lent ++ (e.0.now, e.1.now) ∷ []
   pairs_lent-push [] e = refl
   pairs_lent-push (d ∷ ds) e = ap (λ (m : List (List ℕ × V)). (d.0.now, d.1.now) ∷ m) (pairs_lent-push ds e)

@@ -10,7 +10,7 @@ use Rattle.delta_chain.specs.Merging.{pair_if, first_order}
 use Rattle.delta_chain.proofs.Places.{drop_pair, front_under, front_at}
 
 module _ {T : Type 0} where
-  -- what stands behind a place rises too
+  -- what stands from a place on rises too
   pub rising_behind : (n : ℕ) (es : List (List ℕ × T)) → IsRising es → IsRising (drop n es)
   rising_behind zero es r = r
   rising_behind (suc n) [] r = r

@@ -54,7 +54,7 @@ noted-all newest run at n number l e f q less = rw (take_all at run l) at (f q (
 
 -- ---- of the runs of a page
 
--- where numbers changed only to one that is greater than those of all the runs, they tell of these as before
+-- where numbers changed only to one that is greater than those of all the runs, they say of these what they said before
 pub still_known : {V : Type 0} (newest now : List ℕ) (number : ℕ) (runs : List (Changes V)) → length runs < number → ((m : ℕ) → (get_or now m 0 ≡ get_or newest m 0) ⊎ (get_or now m 0 ≡ min number 255))
     → AreKnown newest runs → AreKnown now runs
 still_known newest now number [] l f h = tt
@@ -72,7 +72,7 @@ passed newest q (run ∷ newer) rest base l few h =
     let none : value_at q run ≡ None = h.0 q (omega (arith, l, few, long)) in
     rw none (passed newest q newer rest base l few h.1)
 
--- the first so many of a list of runs, the oldest first, hold the same at the key
+-- the first `count` of a list of runs, the oldest first, hold the same at the key
 pub held-for : {V : Type 0} (newest : List ℕ) (q : List ℕ) (runs : List (Changes V)) (base : List (List ℕ × V)) (count : ℕ) → newest_for newest q ≤ count → count ≤ length runs → newest_for newest q < 255
     → AreKnown newest (reverse runs) → held_under q (reverse (take count runs)) base ≡ held_under q (reverse runs) base
 held-for newest q runs base count l within few h =

@@ -6,7 +6,7 @@ use Rattle.keys.specs.Order.{order}
 use Rattle.delta_chain.specs.Merging.{first_order}
 
 module _ {T : Type 0} where
-  -- what stands behind a place: the pair of the key and the item there, and then the rest
+  -- what stands from a place on: the pair of the key and the item there, and then the rest
   pub drop_pair : (es : List (List ℕ × T)) (at : ℕ) (k : List ℕ) (v : T) → slice_get (keys_of es) at ≡ Some k → slice_get (values_of es) at ≡ Some v → drop at es ≡ (k, v) ∷ drop (suc at) es
   drop_pair [] at k v h i = absurd (cc)
   drop_pair (e ∷ es) zero k v h i =
@@ -46,12 +46,12 @@ module _ {T : Type 0} where
   alone_at e zero l = refl
   alone_at e (suc at) l = absurd (omega arith)
 
-  -- one more pair put behind others, from what stood behind a place
+  -- one more pair appended to others, from what stood from a place on
   pub push_pair : (out es all : List (List ℕ × T)) (at : ℕ) (k : List ℕ) (v : T) → slice_get (keys_of es) at ≡ Some k → slice_get (values_of es) at ≡ Some v → out ++ drop at es ≡ all → (out ++ (k, v) ∷ []) ++ drop (at + 1) es ≡ all
   push_pair out es all at k v h i t =
       rw add-one (append_assoc out ((k, v) ∷ []) (drop (suc at) es) ∙ ap (λ (x : List (List ℕ × T)). out ++ x) (sym (drop_pair es at k v h i)) ∙ t)
 
-  -- how the first pair behind a place stands to a key, by the key there
+  -- how the first pair from a place on compares to a key, by the key there
   pub first_at : (es : List (List ℕ × T)) (at : ℕ) (j k : List ℕ) → slice_get (keys_of es) at ≡ Some j → first_order (drop at es) k ≡ order j k
   first_at [] at j k h = absurd (cc)
   first_at (e ∷ es) zero j k h = let s : e.0 ≡ j = cc in ap (λ (i : List ℕ). order i k) s

@@ -10,7 +10,7 @@ use Rattle.keys.proofs.MapLemmas.{IsBelowAll, total}
 use Rattle.delta_chain.specs.Building.{goes_last}
 use Rattle.delta_chain.proofs.Places.{front_under}
 
--- what stands behind a place is the key there, and then the rest
+-- what stands from a place on is the key there, and then the rest
 key_behind : (ks : List (List ℕ)) (at : ℕ) (k : List ℕ) → slice_get ks at ≡ Some k → drop at ks ≡ k ∷ drop (suc at) ks
 key_behind [] at k h = absurd (cc)
 key_behind (j ∷ ks) zero k h = let s : j ≡ k = cc in ap (λ (i : List ℕ). i ∷ ks) s
@@ -31,7 +31,7 @@ module _ {V : Type 0} where
   below_push j [] k v a h = (h, tt)
   below_push j (e ∷ es) k v a h = (a.0, below_push j es k v a.1 h)
 
-  -- entries with one more behind them, above the last one, rise
+  -- entries with one more after them, above the last one, rise
   pub rising-push : (es : List (List ℕ × V)) (k : List ℕ) (v : V) → IsRising es → goes_last k es ≡ true → IsRising (es ++ (k, v) ∷ [])
   unfolding IsStrictlySortedBy
   rising-push [] k v r h = (tt, tt)

@@ -23,7 +23,7 @@ more_by : (named n more top sum all run : ℕ) → named ≡ min sum top → n �
 more_by named n more top sum all run e s t h = omega (arith, e, s, t, h)
 
 module _ {T : Type 0} where
-  -- what is put behind the others is the first from behind
+  -- what is appended is the first in reverse
   pub reverse-behind : (xs : List T) (x : T) → reverse (xs ++ x ∷ []) ≡ x ∷ reverse xs
   reverse-behind xs x = reverse-append xs (x ∷ [])
 
@@ -118,7 +118,7 @@ module _ {V : Type 0} where
   all_rise-over [] base a r = r
   all_rise-over (run ∷ runs) base a r = (a.0, all_rise-over runs base a.1 r)
 
-  -- ---- what the first so many say together
+  -- ---- what the first ones say together
 
   pub said-next : (runs : List (Changes V)) (at : ℕ) (run older : Changes V) → slice_get runs at ≡ Some run → older ≡ said_by (reverse (take at runs)) → overlaid older run ≡ said_by (reverse (take (at + 1) runs))
   said-next runs at run older h e =

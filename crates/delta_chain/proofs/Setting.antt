@@ -91,7 +91,7 @@ module _ {T : Type 0} where
   value_at-missing (e ∷ es) (suc at) k b a =
       rw (flipped_less e.0 k (b 0 e (omega arith) (omega arith))) (value_at-missing es at k (λ m d z l. b (suc m) d (omega arith) (omega arith)) (λ m d f l. a (suc m) d (omega arith) (omega arith)))
 
-  -- ---- a step of a search by halves, by how the key at a place stands to the one looked for
+  -- ---- a step of a search by halves, by how the key at a place compares to the one looked for
 
   key_there_or : (es : List (List ℕ × T)) (at : ℕ) (j : List ℕ) (d : List ℕ × T) → slice_get (keys_of es) at ≡ Some j → (at < length es) × ((slice_index_or es at d).0 ≡ j)
   key_there_or [] at j d h = absurd (cc)
@@ -140,7 +140,7 @@ module _ {T : Type 0} where
       let p = h (comparisons_rise es k r) in
       (l, value_at-missing es at k p.0 p.1, λ v. with_pair-missing es at k v l p.0 p.1)
 
-  -- a key above the last one is above all, and goes behind them
+  -- a key above the last one is above all, and goes after them
   all_below : (es : List (List ℕ × T)) (k : List ℕ) → IsRising es → goes_last k es ≡ true → BelowBefore es (length es) k
   all_below [] k r h m d z l = absurd (omega arith)
   all_below (e ∷ es) k r h zero d z l = goes_last_first e es k r h

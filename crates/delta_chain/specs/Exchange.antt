@@ -15,7 +15,7 @@ abbrev pub in_place_of : {V : Type 0} → Option V → V → Option V
 in_place_of None v = None
 in_place_of (Some w) v = Some v
 
--- a run in front of others and a base, by what it says of the key: the cell is exchanged in it, or there is none, or it is exchanged
+-- a run in front of others and a base, by its change of the key: the cell is exchanged in it, or there is none, or it is exchanged
 -- below
 abbrev pub exchanged_by : {V : Type 0} → Option (Option V) → Bytes → V → Changes V → Layers V → Layers V → Layers V
 exchanged_by None k v run p below = record { runs = run ∷ below.runs; base = below.base }

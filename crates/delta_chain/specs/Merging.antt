@@ -11,12 +11,12 @@ abbrev pub pair_if : {V : Type 0} → Bytes → Option V → Pairs V
 pair_if k None = []
 pair_if k (Some v) = (k, v) ∷ []
 
--- how the first key stands to k; where there is none, as one above every key
+-- how the first key compares to k; where there is none, as one above every key
 abbrev pub first_order : {V : Type 0} → Pairs V → Bytes → Ordering
 first_order [] k = Greater
 first_order (e ∷ es) k = order e.0 k
 
--- a run's changes, each as one that says something of its key
+-- a run's changes, each as one that is there, a cell or an absence
 abbrev pub asserted : {V : Type 0} → Changes V → Changes (Option V)
 asserted {V} run = map {B = Bytes × Option (Option V)} (λ (c : Bytes × Option V). (c.0, Some c.1)) run
 
@@ -24,7 +24,7 @@ asserted {V} run = map {B = Bytes × Option (Option V)} (λ (c : Bytes × Option
 abbrev pub overlaid : {V : Type 0} → Changes V → Changes V → Changes V
 overlaid older newer = with_run older (asserted newer)
 
--- what runs say together, the newest first
+-- the changes of runs joined, the newest run first
 abbrev pub said_by : {V : Type 0} → List (Changes V) → Changes V
 said_by [] = []
 said_by (run ∷ runs) = overlaid (said_by runs) run

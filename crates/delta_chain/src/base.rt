@@ -47,7 +47,7 @@ impl<V, A: Allocator + Copy> Base<V, A> {
         }
     }
 
-    // A base without entries, with room for this many whose keys have so many bytes together.
+    // A base without entries, with room for `count` of them, whose keys have `bytes` bytes together.
     pub(crate) fn with_capacity(alloc: A, count: usize, bytes: usize) -> Result<Self, AllocError>
         ensures { IfOk result (λ base. base ≡ []) }
     {
@@ -109,7 +109,7 @@ impl<V, A: Allocator + Copy> Base<V, A> {
         None
     }
 
-    // Whether the key is above the last one, so that an entry under it may be put behind the others.
+    // Whether the key is above the last one, so that an entry under it may be appended.
     pub(crate) fn takes(&self, key: &[u8]) -> bool
         ensures { result ≡ goes_last key.now self.now }
     {
@@ -142,7 +142,7 @@ impl<V, A: Allocator + Copy> Base<V, A> {
 }
 
 impl<V: Drop, A: Allocator + Copy> Base<V, A> {
-    // Puts an entry with a copy of the key behind the others. Where memory is refused they stay as they are.
+    // Appends an entry with a copy of the key. Where memory is refused the entries stay as they are.
     pub(crate) fn push(&mut self, key: &[u8], cell: V) -> Result<(), AllocError>
         requires { goes_last key.now self.old ≡ true }
         ensures ok { OnOk result (self.new ≡ self.old ++ (key.now, cell) ∷ []) }

@@ -42,8 +42,8 @@ impl<V, A: Allocator> Model for BaseBuilder<V, A> {
 }
 
 impl<V, A: Allocator + Copy> BaseBuilder<V, A> {
-    /// A builder without entries, with room for this many whose keys have so many bytes together. It takes more where
-    /// there come to be more.
+    /// A builder without entries, with room for `count` of them, whose keys have `bytes` bytes together. It grows
+    /// beyond that.
     pub fn with_capacity(alloc: A, count: usize, bytes: usize) -> Result<Self, AllocError>
         ensures { IfOk result (λ builder. builder ≡ []) }
     {
@@ -60,7 +60,7 @@ impl<V, A: Allocator + Copy> BaseBuilder<V, A> {
 }
 
 impl<V: Drop, A: Allocator + Copy> BaseBuilder<V, A> {
-    /// Adds an entry behind the others, with a copy of the key. An `Err` drops the cell and leaves the builder as
+    /// Appends an entry, with a copy of the key. An `Err` drops the cell and leaves the builder as
     /// it was: `OutOfOrder` exactly where the key is not above the last one, and else `NoMemory`.
     pub fn push(&mut self, key: &[u8], cell: V) -> Result<(), PushError>
         ensures ok { OnOk result (self.new ≡ self.old ++ (key.now, cell) ∷ []) }
@@ -74,9 +74,8 @@ impl<V: Drop, A: Allocator + Copy> BaseBuilder<V, A> {
         Ok(())
     }
 
-    /// Adds an entry behind the others, with a copy of the key, which is above the last one. Where
-    /// memory is refused the cell is dropped and the builder stays as it was. `push` is for a key of
-    /// which that isn't known.
+    /// Appends an entry, with a copy of the key, which is above the last one. Where memory is refused the cell is
+    /// dropped and the builder stays as it was. For a key that may not be above it there is `push`.
     pub fn push_next(&mut self, key: &[u8], cell: V) -> Result<(), AllocError>
         requires { goes_last key.now self.old ≡ true }
         ensures ok { OnOk result (self.new ≡ self.old ++ (key.now, cell) ∷ []) }

@@ -22,7 +22,7 @@ use std::marker::Model;
 #[derive(Drop)]
 pub struct Chain<V, A: Allocator> {
     base: Base<V, A>,
-    // The oldest first, back to back, so that a look-up goes through one block, and a new one is put behind the others.
+    // The oldest first, back to back, so that a look-up goes through one block, and a new one is appended.
     runs: Vec<Run<V, A>, A>,
     entries: EntryBounds,
     newest_runs: NewestRuns,
@@ -40,12 +40,12 @@ impl<V, A: Allocator> Model for Chain<V, A> {
     ghost invariant = { λ c. IsCounted (record { runs = reverse c.runs.items; base = c.base }) c.entries.fewest c.entries.most c.newest_runs.numbers };
 }
 
-/// What is known of how many entries a page has, without a look at them.
+/// Bounds on how many entries a page has, known without reading them.
 #[derive(Clone, Copy)]
 pub struct EntryBounds {
-    /// It has as many, or more.
+    /// It has at least this many.
     pub fewest: usize,
-    /// It has as many, or fewer. The greatest `usize` says nothing.
+    /// It has at most this many. The greatest `usize` is no bound.
     pub most: usize,
 }
 
@@ -67,7 +67,7 @@ impl<'a, V, A: Allocator> Model for ChainRef<'a, V, A> {
 }
 
 impl EntryBounds {
-    // What is known once so many changes were made, or taken back: each of them adds one entry at most, or takes one away.
+    // The bounds after `count` changes were made, or taken back: each adds one entry at most, or takes one away.
     fn with_changes(self, count: usize) -> EntryBounds
         ensures fewest { result.fewest ≡ self.fewest - count }
         ensures most { result.most ≡ min (self.most + count) usize.MAX }
@@ -174,8 +174,8 @@ impl<V, A: Allocator + Copy> Chain<V, A> {
         named_by(&self.runs)
     }
 
-    /// How many entries the page has at least and at most, which is had without a look at any of them: what a base alone has, give or
-    /// take as many as each run names that is put in front or taken off, unless `bound` has told more.
+    /// How many entries the page has at least and at most, kept without reading them: the base's count, give or take the length of each run
+    /// that is put in front or taken off, unless `bound` has set nearer ones.
     pub fn bounds(&self) -> EntryBounds
         ensures fewest { result.fewest ≤ length (entries_of self.now) }
         ensures most { min (length (entries_of self.now)) usize.MAX ≤ result.most }
@@ -190,7 +190,7 @@ impl<V, A: Allocator + Copy> Chain<V, A> {
         self.entries.fewest
     }
 
-    /// Tells the chain what the caller knows of how many entries the page has. A base alone knows how many it has.
+    /// Narrows the bounds by these.
     pub fn bound(&mut self, known: EntryBounds)
         requires fewest { known.fewest ≤ length (entries_of self.old) }
         requires most { min (length (entries_of self.old)) usize.MAX ≤ known.most }
@@ -202,7 +202,7 @@ impl<V, A: Allocator + Copy> Chain<V, A> {
         };
     }
 
-    /// The runs and the base, to be gone down through from the newest run.
+    /// The runs and the base, to be searched from the newest run down.
     pub fn lent(&self) -> ChainRef<'_, V, A>
         ensures { result ≡ self.now }
     {
@@ -212,7 +212,7 @@ impl<V, A: Allocator + Copy> Chain<V, A> {
         }
     }
 
-    // The oldest runs, so many of them, and the base.
+    // The oldest `count` runs, and the base.
     pub(crate) fn oldest(&self, count: usize) -> ChainRef<'_, V, A>
         requires { count ≤ length self.now.runs }
         ensures { result ≡ record { runs = drop (length self.now.runs - count) self.now.runs; base = self.now.base } }
@@ -223,7 +223,7 @@ impl<V, A: Allocator + Copy> Chain<V, A> {
         }
     }
 
-    // The runs but for so many of the oldest, and the base.
+    // The runs but for the oldest `count`, and the base.
     pub(crate) fn newest_above(&self, count: usize) -> ChainRef<'_, V, A>
         requires { count ≤ length self.now.runs }
         ensures { result ≡ record { runs = take (length self.now.runs - count) self.now.runs; base = self.now.base } }
@@ -234,8 +234,7 @@ impl<V, A: Allocator + Copy> Chain<V, A> {
         }
     }
 
-    /// The runs and the base without the newest runs of which the page knows, with no look at them, that they don't name the key: it holds the
-    /// same at the key.
+    /// The runs and the base without the newest runs that, by their fingerprints, cannot name the key: it holds the same at the key.
     pub fn lent_for(&self, key: &[u8]) -> ChainRef<'_, V, A>
         ensures { holds result key.now ≡ holds self.now key.now }
     {
@@ -290,7 +289,7 @@ impl<V: Drop, A: Allocator + Copy> Chain<V, A> {
     }
 
     /// Lets a cell and the one that the page holds at the key stand in each other's place. That one stands in the newest run that names
-    /// the key, or in the base, where it is looked for at the place `guess` first; that is the place behind it afterwards. Where the page
+    /// the key, or in the base, where it is looked for at the place `guess` first; `guess` is the place after it afterwards. Where the page
     /// holds none, both stay as they are.
     pub fn swap_cell(&mut self, key: &KeyRef<'_>, cell: &mut V, guess: &mut usize)
         ensures cell { cell.new ≡ unwrap_or (holds self.old key.now) cell.old }
@@ -352,8 +351,8 @@ fn make_room<V: Drop, A: Allocator + Copy>(runs: &mut Vec<Run<V, A>, A>) -> Resu
     Ok(())
 }
 
-// Lets the cell and the one that the newest of these runs that names the key has, if it has one, stand in each other's place, and
-// says whether one names the key. The runs are given the oldest first.
+// Lets the cell and the one that the newest of these runs that names the key has, if it has one, stand in each other's place, and returns
+// whether one names the key. The runs are given the oldest first.
 fn swap_in_runs<V: Drop, A: Allocator + Copy>(
     runs: &mut [Run<V, A>],
     key: &KeyRef<'_>,

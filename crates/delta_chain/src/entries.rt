@@ -135,7 +135,7 @@ impl<T, A: Allocator + Copy> Entries<T, A> {
         }
     }
 
-    // Whether the key is above the last one, so that an entry under it may be put behind the others.
+    // Whether the key is above the last one, so that an entry under it may be appended.
     pub(crate) fn takes(&self, key: &[u8]) -> bool
         ensures { result ≡ goes_last key.now self.now }
     {
@@ -172,7 +172,7 @@ impl<T, A: Allocator + Copy> KeptEntries<T, A> {
 }
 
 impl<T: Drop, A: Allocator + Copy> Entries<T, A> {
-    // Puts the entry behind the others. Where memory is refused they stay as they are.
+    // Appends the entry. Where memory is refused the entries stay as they are.
     pub(crate) fn push(&mut self, key: Key<A>, item: T) -> Result<(), AllocError>
         requires { goes_last key self.old ≡ true }
         ensures ok { OnOk result (self.new ≡ self.old ++ (key, item) ∷ []) }

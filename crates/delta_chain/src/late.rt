@@ -17,7 +17,7 @@ use std::marker::Model;
 #[derive(Drop)]
 pub struct LateChain<V, A: Allocator> {
     chain: Chain<V, A>,
-    // So many of the oldest runs count as merged.
+    // How many of the oldest runs count as merged.
     settled: usize,
 }
 
@@ -70,7 +70,7 @@ impl<V, A: Allocator + Copy> LateChain<V, A> {
         self.chain.oldest(self.settled)
     }
 
-    /// The page's runs, to be gone down through from the newest one, over the base in memory, which needn't be the page's.
+    /// The page's runs, to be searched from the newest one down, over the base in memory, which needn't be the page's.
     pub fn open_lent(&self) -> ChainRef<'_, V, A>
         ensures { result ≡ record { runs = (seen self.now).runs; base = self.now.chain.base } }
     {
@@ -125,7 +125,7 @@ impl<V: Drop, A: Allocator + Copy> LateChain<V, A> {
         self.settled = self.chain.run_count();
     }
 
-    /// From now on so many of the oldest runs count as merged. This undoes `settle`.
+    /// From now on the oldest `settled` runs count as merged. This undoes `settle`.
     pub fn unsettle(&mut self, settled: usize)
         requires { settled ≤ length self.old.chain.runs }
         ensures { self.new ≡ record { chain = self.old.chain; settled = settled } }
@@ -133,7 +133,7 @@ impl<V: Drop, A: Allocator + Copy> LateChain<V, A> {
         self.settled = settled;
     }
 
-    /// Tells the chain what the caller knows of how many entries the page has.
+    /// Narrows the chain's bounds on the number of entries by these.
     pub fn bound(&mut self, known: EntryBounds)
         requires fewest { known.fewest ≤ length (entries_of self.old.chain) }
         requires most { min (length (entries_of self.old.chain)) usize.MAX ≤ known.most }

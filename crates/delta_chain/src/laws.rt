@@ -6,7 +6,7 @@ ghost use Rattle.keys.specs.OrderedMap.{value_at};
 ghost use Rattle.delta_chain.specs.Late.{Late, seen};
 ghost use Rattle.delta_chain.specs.Layers.{Layers, said_or, holds, with_run, entries_of, IsInOrder};
 
-/// Entries with a run applied have at each key what the run says of it, else what they had, and they rise.
+/// Entries with a run applied have at each key the run's change, else what they had, and they rise.
 pub fn a_run_says_or_leaves<V>()
     ensures holds { (m : Pairs V) (run : Changes V) (k : Bytes) → IsRising m → IsRising run →
         value_at k (with_run m run) ≡ said_or (value_at k run) (value_at k m) }

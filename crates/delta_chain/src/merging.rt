@@ -45,9 +45,9 @@ fn lent_run<V, A: Allocator + Copy>(
     Ok(Pairs::of_list(lent))
 }
 
-/// What these runs say together, lent: the keys that they name, each with what the newest run that names it says. The runs are given the
-/// oldest first. Each half of them is merged by itself first: a page that was read from a disk may have as many runs as the disk has room
-/// for, and n of them cost n * log n. So the calls go no deeper than the logarithm of their number.
+/// The changes of these runs joined, lent: each key that they name, with the change of the newest run that names it. The runs are given
+/// the oldest first. Each half of them is merged by itself first: a page that was read from a disk may have as many runs as the disk has
+/// room for, and n of them cost n * log n. So the calls go no deeper than the logarithm of their number.
 pub(crate) fn merged<'a, V, A: Allocator + Copy>(
     alloc: A,
     runs: &'a [Run<V, A>],
@@ -139,7 +139,7 @@ pub(crate) fn with_run<'a, V, A: Allocator + Copy>(
     Ok(Pairs::of_list(lent))
 }
 
-// How the pair at this place stands to the key; behind the last pair, as one above every key.
+// How the key of the pair at this place compares to this key; after the last pair, as one above every key.
 fn order_at<V, A: Allocator + Copy>(pairs: &Pairs<'_, V, A>, at: usize, key: &[u8]) -> Ordering
     ensures { result ≡ first_order (drop at pairs.now) key.now }
 {
@@ -150,7 +150,7 @@ fn order_at<V, A: Allocator + Copy>(pairs: &Pairs<'_, V, A>, at: usize, key: &[u
     }
 }
 
-// Puts the key with its cell behind the others, where the change has one. There is room for it.
+// Appends the key with its cell, where the change has one. There is room for it.
 fn push_change<'a, V, A: Allocator + Copy>(
     lent: &mut Vec<(&'a [u8], &'a V), A>,
     key: &'a [u8],
@@ -166,7 +166,7 @@ fn push_change<'a, V, A: Allocator + Copy>(
     }
 }
 
-// Puts the lower pairs from this place on behind the others. There is room for them.
+// Appends the lower pairs from this place on. There is room for them.
 fn push_rest<'a, V, A: Allocator + Copy>(
     lent: &mut Vec<(&'a [u8], &'a V), A>,
     under: &Pairs<'a, V, A>,

@@ -11,7 +11,7 @@ use std::alloc::Allocator;
 const ALL: u8 = 255;
 
 /// For each fingerprint the number of the newest run that has named a key with it, where the oldest run has the number 1, and 0 where none
-/// has. So a look-up leaves out the runs that are newer, without a look at them.
+/// has. So a look-up skips the runs that are newer, without reading them.
 #[derive(Drop)]
 pub(crate) struct NewestRuns {
     numbers: [u8; 64],
@@ -25,7 +25,7 @@ impl NewestRuns {
         }
     }
 
-    /// How many of so many runs, from the oldest on, may name the key.
+    /// How many of the oldest of these `runs` runs may name the key.
     pub(crate) fn reach(&self, key: &[u8], runs: usize) -> usize
         ensures within { result ≤ runs }
         ensures reached { ((newest_for self.now.numbers key.now ≤ result) × (newest_for self.now.numbers key.now < 255)) ⊎ (result ≡ runs) }

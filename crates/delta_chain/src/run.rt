@@ -72,7 +72,7 @@ impl<V, A: Allocator + Copy> Run<V, A> {
         self.changes.key_ref(at)
     }
 
-    /// What the key at this place has: its cell, or none where it is absent.
+    /// The change at this place: a cell, or none where the key is absent.
     pub fn change(&self, at: usize) -> Option<&V>
         requires { at < length self.now }
         ensures { slice_get (values_of self.now) at ≡ Some (option_copied result) }
@@ -80,7 +80,7 @@ impl<V, A: Allocator + Copy> Run<V, A> {
         self.changes.item(at).as_ref()
     }
 
-    // What the key at this place has, as it is kept.
+    // The change at this place, as it is kept.
     pub(crate) fn item(&self, at: usize) -> &Option<V>
         requires { at < length self.now }
         ensures { slice_get (values_of self.now) at ≡ Some result.now }
@@ -135,8 +135,8 @@ impl<V: Drop, A: Allocator + Copy> Run<V, A> {
         }
     }
 
-    /// Adds a change behind the others. An `Err` drops the change and leaves the run as it was: `OutOfOrder`
-    /// exactly where the key is not above the last one, and else `NoMemory`.
+    /// Appends a change. An `Err` drops the change and leaves the run as it was: `OutOfOrder` exactly where the key is not
+    /// above the last one, and else `NoMemory`.
     pub fn push(&mut self, key: Key<A>, change: Option<V>) -> Result<(), PushError>
         ensures ok { OnOk result (self.new ≡ self.old ++ (key, change) ∷ []) }
         ensures order { IsErrOf result PushError.OutOfOrder ↔ (goes_last key self.old ≡ false) }
@@ -149,9 +149,8 @@ impl<V: Drop, A: Allocator + Copy> Run<V, A> {
         Ok(())
     }
 
-    /// Adds a change behind the others, under a key that is above the last one. Where memory is
-    /// refused the change is dropped and the run stays as it was. `push` is for a key of which that
-    /// isn't known.
+    /// Appends a change, under a key that is above the last one. Where memory is refused the change is dropped and the run
+    /// stays as it was. For a key that may not be above it there is `push`.
     pub fn push_next(&mut self, key: Key<A>, change: Option<V>) -> Result<(), AllocError>
         requires { goes_last key self.old ≡ true }
         ensures ok { OnOk result (self.new ≡ self.old ++ (key, change) ∷ []) }
@@ -160,8 +159,8 @@ impl<V: Drop, A: Allocator + Copy> Run<V, A> {
         self.changes.push(key, change)
     }
 
-    /// Sets what the run says of the key: in the place of what it said before, or else where the key goes, so that the
-    /// keys may come in any order. Where memory is refused the change is dropped and the run stays as it was.
+    /// Sets the run's change of the key: in the place of the one that it has, or else where the key goes, so that the keys
+    /// may come in any order. Where memory is refused the change is dropped and the run stays as it was.
     pub fn set(&mut self, key: Key<A>, change: Option<V>) -> Result<(), AllocError>
         ensures ok { OnOk result (self.new ≡ with_pair self.old key change) }
         ensures err { OnErr result (self.new ≡ self.old) }

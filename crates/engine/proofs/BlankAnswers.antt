@@ -1,4 +1,4 @@
--- Answers of which some blank ones to commands on ranges are missing: they answer rightly too, and make the same replies.
+-- Answers without some blank ones to commands on ranges: they answer rightly too, and make the same replies.
 use Rattle.std.specs.Prelude.{◌≡◌, ℕ, ◌+◌, ◌==◌, min, Bool, true, false, cond, List, [], ◌∷◌, ◌++◌, flat_map, take, length, slice_get, Option, Some, None}
 use Rattle.std.proofs.Common.{refl, sym, ap, ◌∙◌, subst, arith, inl, inr, eqb-true}
 use Rattle.std.specs.List.{All, AllByRecursion, sum_by}

@@ -8,7 +8,7 @@ use Rattle.routing.specs.Routes.{goes_to, places_from, places_within}
 use Rattle.routing.proofs.RouteLemmas.{places_from-suc}
 
 module _ {A : Type 0} where
-  -- behind one more command, each of the others has the next place
+  -- after one more command, each of the others has the next place
   commands_at-suc : (c : Command A) (cs : List (Command A)) (places : List ℕ) → commands_at (c ∷ cs) (map suc places) ≡ commands_at cs places
   commands_at-suc c cs [] = refl
   commands_at-suc c cs (p ∷ ps) = ap (λ (ds : List (Command A)). option_to_list (slice_get cs p) ++ ds) (commands_at-suc c cs ps)

@@ -83,7 +83,7 @@ read_earlier a b file kept same read = record {
   honest = λ honest. read.honest (subst IsTrue (sym kept.honest) honest) ∙ same honest;
 }
 
--- behind a call that changes nothing
+-- after a call that changes nothing
 pub leaves_still : (a b c : View) (step : Bytes → Bytes → Type 0) → Leaves a b step → Same b c → Leaves a c step
 leaves_still a b c step run same = record {
   time = record {

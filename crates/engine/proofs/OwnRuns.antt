@@ -118,7 +118,7 @@ module _ {A : Type 0} (m : Pairs) (cs : List (Command A)) (rising : IsRising m) 
       ∙ ap (λ (o : Option (Option (List ℕ))). cond (is_below k q.page.low) o None) (l.says k)
       ∙ first_part_by (is_below k p.page.low) (is_below k q.page.low) (value_at k (net_run m cs)))
 
--- what is left behind the first page is so from the next one on
+-- what is left after the first page is so from the next one on
 pub later_part : (m : Pairs) (run : Changes) (p q : Placed (List ℕ)) (qs : List (Placed (List ℕ))) (left : Changes) → Tiled (p ∷ q ∷ qs) None → IsLeft m run p (q ∷ qs) left → IsLeft m run q qs (part_from q.page.low left)
 later_part m run p q qs left t l = record {
   rising = rising-filter (λ c. not (is_below c.0 q.page.low)) left l.rising;

@@ -81,7 +81,7 @@ most_left (e ∷ es) k = most_left_by (is_eq (order k e.0)) e es (without es k) 
 -- ---- lists
 
 module _ {X : Type 0} where
-  -- the first of what is left behind a number of items stands at that place
+  -- the first of what is left after a number of items stands at that place
   stands_first : (n : ℕ) (xs : List X) (y : X) (ys : List X) → drop n xs ≡ y ∷ ys → (slice_get xs n ≡ Some y) × (drop (suc n) xs ≡ ys)
   stands_first zero [] y ys h = absurd (cc)
   stands_first (suc n) [] y ys h = absurd (cc)
@@ -297,7 +297,7 @@ module _ {A : Type 0} where
     plain_joined : (m : Pairs) (c : Command A) → IsRising m → is_ranged c ≡ false → joined_replies c (all_own m c (ranges level)) ≡ Some (reply_to m c)
     plain_joined m c rising plain = joined_replies-lone c (all_own m c (ranges level)) plain ∙ ap (λ (rs : List (Reply A)). lone rs) (one_reply m c rising plain level first tiled)
 
-    -- what the pages answer to a command makes the reply of the whole map, of which the number of pairs is one that a reply can have
+    -- what the pages answer to a command makes the reply of the whole map, where the number of pairs is one that a reply can have
     joined_own : (m : Pairs) (c : Command A) → IsRising m → length m ≤ most_counted → joined_replies c (all_own m c (ranges level)) ≡ Some (reply_to m c)
     joined_own m (Get k) r few = plain_joined m (Get k) r refl
     joined_own m (Put k v) r few = plain_joined m (Put k v) r refl
@@ -334,6 +334,6 @@ module _ {A : Type 0} where
         once = λ i h plain. sym (length-map (pieces_at answers i) (λ p. p.reply)) ∙ ap (λ (rs : List (Reply A)). length rs) (all_answers_at m cs i (ranges level)) ∙ one_at m cs i rising h plain;
       }
 
-      -- and the replies that their answers make are those of the whole map, of which no number of pairs is too great for a reply
+      -- and the replies that their answers make are those of the whole map, where no number of pairs is too great for a reply
       pub answers_make_the_replies : length m + length cs ≤ most_counted → (rs : List (Reply A)) → ((i : ℕ) → slice_get rs i ≡ reply_at cs answers i) → rs ≡ replies_to m cs
       answers_make_the_replies few rs made = same_at_each rs (replies_to m cs) (λ i. made i ∙ ap (joined_replies_at (slice_get cs i)) (all_answers_at m cs i (ranges level)) ∙ joined_all m cs i rising few)

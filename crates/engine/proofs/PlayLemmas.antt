@@ -129,7 +129,7 @@ module _ {A : Type 0} (b : Batching A) (s : Settings) where
 
     -- ---- a play
 
-    -- what stands after n steps, of which this one is the first
+    -- what stands after n steps, from this one on
     abbrev StandsBehind : Store → List ℕ → List ℕ → Step A → List (Step A) → Stepped A → Type 0
     StandsBehind st file c x xs r =
         (n : ℕ) × (n ≤ length (played_on st file r (λ now bytes. plays b s now bytes xs)).answers) × (store_of_disk c ≡ store_of_disk (plays b s st file (take n (x ∷ xs))).bytes)

@@ -28,7 +28,7 @@ one_taken xs i x h is =
     ∙ map-append step_of (take i xs) (get_or xs i x ∷ [])
     ∙ ap (λ (y : code_step.Step). map step_of (take i xs) ++ step_of y ∷ []) (sym is)
 
--- and the one behind those that were taken
+-- and the one after those that were taken
 pub one_behind : (xs : List code_step.Step) (i : ℕ) (x : code_step.Step) → i < length xs → x ≡ get_or xs i x → drop i xs ≡ x ∷ drop (i + 1) xs
 one_behind xs i x h is = drop_more xs i x h ∙ ap (λ (y : code_step.Step). y ∷ drop (i + 1) xs) (sym is)
 
@@ -177,7 +177,7 @@ module _ {D : Type 0} (view : D → View) (failures : D → ℕ) (lawful : (disk
         (stands-last (batching s) s old.store (view old.disk).seen (view old.disk).seen [] refl);
   }
 
-  -- a step behind these
+  -- a step after these
   module _ (xs : List (Step Global)) (said : List code_answer.Answer) (cur : State D) (turn : IsTurn view failures old xs said cur) (next : State D) where
     abbrev first : List ℕ
     first = (view old.disk).seen

@@ -110,7 +110,7 @@ module _ (s : Settings) (m : TreeInMemory) (cs : List (Command Global)) (sound :
   abbrev ended : List (Command Global)
   ended = with_ends cs routed.0
 
-  -- all routes of these, of which those here lack some commands that find nothing
+  -- all routes of these; those here lack some commands that find nothing
   abbrev here : List Route
   here = routes_here m ended
 

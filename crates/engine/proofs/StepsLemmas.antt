@@ -56,7 +56,7 @@ module _ {A : Type 0} (b : Batching A) (s : Settings) (keeps : KeepsStores s b) 
   PlaysOn xs = (st on_disk : Store) (file : List ℕ) → store_of_disk file ≡ Ok (s, on_disk) → IsStoreOf s st file → HaveWords b s st file xs
       → ArePlayed b s st.tree on_disk.tree xs (plays b s st file xs)
 
-  -- the numbers of this step and of those behind it
+  -- the numbers of this step and of those after it
   abbrev WordsOn : Store → List (Step A) → Step A → Stepped A → Type 0
   WordsOn st xs x r = here_and_on r (HasWords b s st x) (λ now bytes. HaveWords b s now bytes xs)
 

@@ -5,7 +5,7 @@ use Rattle.keys.specs.declared.fault.Fault.{Fault}
 use Rattle.keys.specs.declared.fault.Fault.TheVariants.{NoMemory}
 use Rattle.verify.specs.Report.{IsFaultOf}
 
--- where nothing is found, the checker is refused only for want of memory
+-- where nothing is found, the checker is refused only for lack of memory
 pub refused_for_memory : {T : Type 0} (r : Result T Fault) (o : Option Finding) → o ≡ None → IfErr r (IsFaultOf o) → IfErr r (λ fault. fault ≡ NoMemory)
 refused_for_memory r None e h = h
 refused_for_memory r (Some f) e h = absurd (cc)

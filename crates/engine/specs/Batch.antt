@@ -11,7 +11,7 @@ use Rattle.climb_plan.specs.declared.refused.Refused.TheVariants as refusals
 use Rattle.climb_plan.specs.Plan.{planned_tree}
 use Rattle.engine.specs.Refusal.{refusal}
 
--- for want of memory, or since the planned tree would have more levels than a tree may have
+-- for lack of memory, or because the planned tree would have more levels than a tree may have
 abbrev pub IsLaterFault : {A : Type 0} → Settings → Tree → List (Command A) → Fault → Type 0
 IsLaterFault s t cs fault = (fault ≡ NoMemory) ⊎ ((fault ≡ Spent) × (most_levels < (planned_tree s t cs).height))
 
@@ -20,10 +20,10 @@ abbrev pub fault_by : Refused → Fault
 fault_by refusals.NoMemory = NoMemory
 fault_by refusals.TooHigh = Spent
 
--- what is wrong with a tree of so many levels
+-- what is wrong with a tree of `height` levels
 abbrev pub height_fault : ℕ → Option Fault
 height_fault height = if nat_lt most_levels height then Some Spent else None
 
--- why a batch is refused but for want of memory: its own fault, or else that the planned tree would have too many levels
+-- why a batch is refused but for lack of memory: its own fault, or else that the planned tree would have too many levels
 abbrev pub refusal_by : {A : Type 0} → Settings → Tree → List (Command A) → Option Fault
 refusal_by s t cs = option_or (refusal s cs) (height_fault (planned_tree s t cs).height)

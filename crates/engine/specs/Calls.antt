@@ -35,7 +35,7 @@ IsToWrite Upgrade st = st.version ≡ One
 abbrev pub WouldWrite : Text → Settings → Store → Bytes → Type 0
 WouldWrite text s st file = IsToWrite text st × (now : Store) × (bytes : Bytes) × (after_writing text s st file ≡ Ok (now, bytes))
 
--- It is refused, though not by its right: for want of memory, where something is to be written; or since a call of the disk failed,
+-- It is refused, though not by its right: for lack of memory, where something is to be written; or because a call of the disk failed,
 -- where it would have been done.
 abbrev pub IsLateInWriting : Text → Settings → Store → Bytes → ℕ → ℕ → Fault → Type 0
 IsLateInWriting text s st file old new fault =

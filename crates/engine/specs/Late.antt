@@ -13,7 +13,7 @@ use Rattle.flush_log.specs.Segments.{disk_size}
 pub use Rattle.recovery.specs.Recovered.{IsLate}
 use Rattle.recovery.specs.StoreOfDisk.{first_store}
 
--- why no store is made on a disk of so many bytes: a field of the settings is bad, or the disk has no room for all segments
+-- why no store is made on a disk of a given size: a field of the settings is bad, or the disk has no room for all segments
 abbrev pub field_fault : Option Field → Option Fault
 field_fault None = None
 field_fault (Some field) = Some (BadSettings field)

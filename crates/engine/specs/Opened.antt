@@ -11,7 +11,7 @@ abbrev pub disk_left : {D : Type 0} → Result (State D) (Fault × D) → D
 disk_left (Ok x) = x.disk
 disk_left (Err e) = e.1
 
--- of these bytes the store that they stand for, or exactly their fault, or a late one, of a disk of which so many calls had failed
+-- of these bytes the store that they stand for, or exactly their fault, or a late one, of a disk on which `old` calls had failed
 abbrev pub IsOpened : {D : Type 0} → (D → ℕ) → Bytes → ℕ → Result (State D) (Fault × D) → Type 0
 IsOpened failed file old result = MatchResult result
     (λ x. store_of_disk file ≡ Ok (x.settings, x.store))

@@ -48,7 +48,7 @@ abbrev pub tried : Fault → ℕ → ℕ
 tried Device n = n + 1
 tried _ n = n
 
--- the steps of which a crash may leave something
+-- the steps that a crash may leave something of
 abbrev pub reached : {X Y : Type 0} → Result X (ℕ × Y × Fault) → List code_step.Step → List (Step Global)
 reached (Ok answered) xs = map step_of xs
 reached (Err e) xs = map step_of (take (tried e.2 e.0) xs)
@@ -83,8 +83,8 @@ IsPlayed honest s st left (x ∷ xs) said now =
 
 -- ---- what is refused
 
--- A step that isn't refused by its right is refused so: for want of memory; or since a call of the disk failed. A clean is so only
--- where more than one segment is in use, an upgrade only where the log has version 1.
+-- A step that isn't refused by its right is refused so: for lack of memory; or because a call of the disk failed. A clean is so
+-- only where more than one segment is in use, an upgrade only where the log has version 1.
 abbrev pub IsLateInStep : Settings → Store → Bytes → ℕ → ℕ → Step Global → Fault → Type 0
 IsLateInStep s st file old new (Batch cs) fault = (fault ≡ NoMemory) × (refusal s cs ≡ None)
 IsLateInStep s st file old new Flush fault = IsLateInWriting (texts.Flush st.version) s st file old new fault
@@ -95,7 +95,7 @@ IsLateInStep s st file old new Upgrade fault = IsLateInWriting texts.Upgrade s s
 abbrev pub IsStepFault : Settings → Store → Bytes → ℕ → ℕ → Step Global → Fault → Type 0
 IsStepFault s st file old new x fault = (after_step (batching s) s st file x ≡ Err fault) ⊎ IsLateInStep s st file old new x fault
 
--- why the step behind those that are played is refused, on the store that they left; or there was no memory for the list of answers
+-- why the step after those that are played is refused, on the store that they left; or there was no memory for the list of answers
 abbrev pub IsPlayFault : Settings → Store → Bytes → ℕ → ℕ → List code_step.Step → ℕ → Fault → Type 0
 IsPlayFault s now file old new xs place fault =
     ((place ≡ 0) × (fault ≡ NoMemory))

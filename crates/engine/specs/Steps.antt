@@ -45,7 +45,7 @@ batching s = record { refusal = λ t cs. refusal_by s t cs; planned = λ t cs. p
 
 -- ---- what they leave
 
--- what a step leaves of a store and of the bytes of its disk, behind its answer; or why it is refused
+-- what a step leaves of a store and of the bytes of its disk, after its answer; or why it is refused
 abbrev pub Stepped : Type 0 → Type 0
 Stepped A = Result (Answer A × (Store × Bytes)) Fault
 
@@ -67,7 +67,7 @@ pub record Played (A : Type 0) : Type 0 where
   pub bytes : Bytes
   pub fault : Option Fault
 
--- the same behind another answer
+-- the same after another answer
 abbrev pub behind_answer : {A : Type 0} → Answer A → Played A → Played A
 behind_answer a p = record { answers = a ∷ p.answers; store = p.store; bytes = p.bytes; fault = p.fault }
 
@@ -124,7 +124,7 @@ HasWords b s st Flush = HasFrames s (texts.Flush st.version) st.tree
 HasWords b s st Clean = ⊤
 HasWords b s st Upgrade = HasFrames s texts.Upgrade st.tree
 
--- what is so of a step, and of those behind it; nothing of one that is refused
+-- what is so of a step, and of those after it; nothing of one that is refused
 abbrev pub here_and_on : {A : Type 0} → Stepped A → Type 0 → (Store → Bytes → Type 0) → Type 0
 here_and_on (Ok p) here next = here × next p.1.0 p.1.1
 here_and_on (Err fault) here next = ⊤

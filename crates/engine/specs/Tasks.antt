@@ -46,7 +46,7 @@ abbrev pub task_held : LeafTask → TaskHeld
 task_held (Read r) = Reads r
 task_held (Change j) = Changes (leaf_held_of j)
 
--- what the task held of which this was made
+-- what the task held that this was made of
 abbrev pub done_held : TaskDone → TaskHeld
 done_held (WasRead d) = Reads d.route
 done_held (WasChanged d) = Changes d.held

@@ -36,8 +36,8 @@ use scan::scan_ends;
 use std::alloc::{AllocError, Global};
 use std::thread::Threads;
 
-/// Executes the commands on the tree: the replies, and the tree is the plan's; or, for want of memory or since the tree would have
-/// more than 64 levels, the tree is as it was.
+/// Executes the commands on the tree: the replies, and the tree is the plan's; or, for lack of memory or because the tree would have more
+/// than 64 levels, the tree is as it was.
 pub(crate) fn execute(
     rt: &(impl Threads + Sync),
     crew: Crew,
@@ -73,7 +73,7 @@ pub(crate) fn execute(
     execute_routed(rt, crew, gate, &work, tree, page_runs)
 }
 
-// Which leaves the commands go to. A scan is led along the leaves from its lower bound only as far as it needs for its rows.
+// Which leaves the commands go to. A scan follows the leaves from its lower bound only as far as it needs for its rows.
 fn routes_to_leaves(
     rt: &(impl Threads + Sync),
     crew: Crew,
@@ -99,7 +99,7 @@ fn routes_to_leaves(
     )
 }
 
-// The same of the commands of this work, whose leaves are known.
+// `execute`, once the commands are routed to their leaves.
 fn execute_routed(
     rt: &(impl Threads + Sync),
     crew: Crew,
@@ -135,7 +135,7 @@ fn execute_routed(
     }
 }
 
-// The same of commands that only look: their leaves stay in the tree.
+// `execute_routed` for commands that only look: their leaves stay in the tree.
 fn read_routed(
     rt: &(impl Threads + Sync),
     crew: Crew,

@@ -35,8 +35,8 @@ use routing::PageRun;
 use std::alloc::{AllocError, Global};
 use std::thread::Threads;
 
-/// Executes a batch of this one command, which is on one key. All is as of `execute`. The gate is told of one piece, as of a round of one
-/// leaf, and then of those of the climb, where the leaf was replaced.
+/// Executes a batch of this one command, which is on one key. It does as `execute` does. The gate is called for one piece, as in a round of
+/// one leaf, and then for those of the climb, where the leaf was replaced.
 pub(crate) fn execute_one(
     rt: &(impl Threads + Sync),
     crew: Crew,

@@ -145,7 +145,7 @@ impl<D: Disk> Store<D> {
     }
 
     /// Executes the commands in the order of their places, and returns the reply to each at its place. The crew works the pages, and
-    /// the gate is told of each piece of them; neither changes anything that can be seen.
+    /// the gate is called for each piece of them; neither changes anything that can be seen.
     ///
     /// A store that has failed is `Fault::Failed`, and then a crew out of range `Fault::BadCrew`. A batch of more than 65,535 commands
     /// is `Fault::BatchTooLong`. Else the first command with a key that is too long is `Fault::KeyTooLong`, and with a value that is
@@ -167,7 +167,7 @@ impl<D: Disk> Store<D> {
         ensures contents { OnOk result (contents self.new.store.tree ≡ map_after_all (contents self.old.store.tree) commands.now) }
         ensures rest { (self.new.settings ≡ self.old.settings) × (self.new.disk ≡ self.old.disk) × (self.new.has_failed ≡ self.old.has_failed) }
 
-        // Which fault, and that there is no other but for want of memory and for the height.
+        // Which fault, and that there is no other but for lack of memory and for the height.
         ensures failed { self.old.has_failed ≡ true → result ≡ Err Fault.Failed }
         ensures bad_crew { self.old.has_failed ≡ false → is_crew crew ≡ false → result ≡ Err Fault.BadCrew }
         ensures refused { self.old.has_failed ≡ false → IsTrue (is_crew crew) → MatchOption (refusal self.old.settings commands.now)
@@ -201,7 +201,7 @@ impl<D: Disk> Store<D> {
     }
 
     /// Looks at every page, whether the tree is proper. It always is, so the answer is the report: how many pages the tree
-    /// has, how many levels, and how many pairs. It is refused only for want of memory, with `Fault::NoMemory`.
+    /// has, how many levels, and how many pairs. It is refused only for lack of memory, with `Fault::NoMemory`.
     pub fn verify(&self, rt: &(impl Threads + Sync)) -> Result<Report, Fault>
         ensures ok { IfOk result (λ told. told ≡ report self.now.store.tree) }
         ensures err { IfErr result (λ fault. fault ≡ NoMemory) }

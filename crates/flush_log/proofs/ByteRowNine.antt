@@ -1,4 +1,4 @@
--- Byte row 9: three frames of which the last one is put into the next segment, and their reading.
+-- Byte row 9: three frames, the last one in the next segment, and their reading.
 use Rattle.std.specs.Prelude.{◌≡◌, ℕ, List, [], ◌∷◌, ◌++◌, map, replicate, take, drop, codes, Some, Ok, Err}
 use Rattle.std.proofs.Common.{refl}
 use Rattle.keys.specs.declared.fault.Fault.TheVariants.{BadFrame}
@@ -24,7 +24,7 @@ begun = hex "42575347 00000000 0000000000000001" ++ hex "03 00000021 00000000000
 two_spans : spans S 179 text_of_row_4 ≡ record { segment = 0; offset = 179; bytes = leaves ++ replicate 12 0 } ∷ record { segment = 1; offset = 0; bytes = begun } ∷ []
 two_spans = refl
 
--- segments 0 and 1 with those spans behind a frame of 163 bytes, as the log of row 10 has them behind others; what lies behind
+-- segments 0 and 1 with those spans after a frame of 163 bytes, as the log of row 10 has them after others; what lies after
 -- the tail is no zero
 abbrev long : List Frame
 long = frame 0 (DeltaLeaf (map (λ k. (k ∷ codes "123456789abcdef", Some (codes "0123456789abcdef"))) (codes "0123"))) ∷ []

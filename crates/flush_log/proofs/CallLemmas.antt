@@ -8,7 +8,7 @@ use Rattle.flush_log.specs.Commit.{Call, seen_after, MayLeave, IsBesideSpans}
 use Rattle.flush_log.specs.Commit.Call.{Write, Sync}
 use Rattle.flush_log.proofs.OverlayLemmas.{agree_same, agree_then, agree_less}
 
--- what a crash may leave after so many of the calls
+-- what a crash may leave after some of the calls
 abbrev pub During : List Call → List ℕ → (List ℕ → Type 0) → List ℕ → Type 0
 During calls seen might c = (k : ℕ) × MayLeave (take k calls) seen might c
 
@@ -26,7 +26,7 @@ leave-append [] ys seen might c h = h
 leave-append (Write at bytes ∷ xs) ys seen might c h = leave-append xs ys (overlay seen at bytes) (TornFrom might at bytes) c h
 leave-append (Sync ∷ xs) ys seen might c h = leave-append xs ys seen (λ e. e ≡ seen) c h
 
--- a crash comes during the first calls, or during those behind them
+-- a crash comes during the first calls, or during those after them
 pub during-append : (xs ys : List Call) (seen : List ℕ) (might : List ℕ → Type 0) (c : List ℕ) → During (xs ++ ys) seen might c
     → During xs seen might c ⊎ During ys (seen_after xs seen) (MayLeave xs seen might) c
 during-append [] ys seen might c h = inr h

@@ -18,7 +18,7 @@ pub slot_low : (n : ℕ) → slot_place n + 64 ≤ 256
 slot_low n = let two : n % 2 < 2 = mod-lt n (omega arith) in omega arith
 
 module _ (s : Settings) where
-  -- spans stand behind the first 512
+  -- spans stand after the first 512
   pub span_high : (r : Span) → 512 ≤ place_of_span s r
   span_high r = omega arith
 
@@ -162,7 +162,7 @@ module _ (s : Settings) (file : List ℕ) (spans : List Span) (t : Slot) (long :
     pub mid_shut : is_open t.sequence mid ≡ false
     mid_shut = ap (λ (n : ℕ). n == 1) (mid_same.same place gate_beside) ∙ shut_gate
 
-    -- the slot behind its gate was changed alone
+    -- the slot after its gate was changed alone
     half : (c : List ℕ) → AgreeAt (IsBeside (place + 1) 63) mid c → Before c
     half c same = inr (
       ap (λ (n : ℕ). n == 1) (same.same place (inl (omega arith))) ∙ mid_shut,

@@ -41,7 +41,7 @@ pub some_text : (images : List (List (List ℕ))) (size : ℕ) → (length image
 some_text [] size some either = absurd (cc)
 some_text (image ∷ images) size some either = ⊎_elim (λ none. absurd (cc)) (λ text. text) either
 
--- ---- the first half: the gate is closed, the spans are written, and both are made to last
+-- ---- the first half: the gate is closed, the spans are written, and both are synced
 
 module _ (s : Settings) (n : ℕ) (b : Bool) (spans : List Span) (old : View) (settled : IsSettled old) (long : 512 ≤ length old.seen) (fit : AreWithin s (length old.seen) spans) (was : b ≡ is_open n old.seen) where
   abbrev Before : List ℕ → Type 0

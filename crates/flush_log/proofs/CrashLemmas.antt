@@ -1,4 +1,4 @@
--- What a crash leaves of a disk for tests: it is one of what may be left, and the bytes as of the last sync tell it.
+-- What a crash leaves of a disk for tests: it is one of what may be left, and follows from the bytes as of the last sync.
 use Rattle.std.proofs.Common.{◌≡◌, inr, ℕ, ◌+◌, ◌-◌, ◌<◌, ◌≤◌, List, [], ◌∷◌, ◌++◌, length, get_or, take, drop, replicate, refl, sym, ap, subst, ◌∙◌, arith, length-append, Result, Ok, Err, IfOk, OnOk, OnErr}
 use Rattle.std.proofs.lemmas.List.{length-map, length-replicate, take-append-drop, drop-append-le, drop_all, drop-map, take_rest, append-nil}
 use Rattle.index_page.proofs.ListLemmas.{all_apart}
@@ -68,7 +68,7 @@ front_call cs at c l is =
     ∙ ap (λ xs. calls_of xs) (front_item cs at c l is)
     ∙ ap (λ (xs : List Call). call_of c ∷ xs) (sym (drop-map call_of (at + 1) cs))
 
--- those behind a place of a record that was lent
+-- those from a place on of a record that was lent
 pub calls_behind : {A : Type 0} (cs held : List (RecordedCall A)) (since : ℕ) → held ≡ cs → calls_of (take (length held - since) (drop since held)) ≡ drop since (calls_of cs)
 calls_behind cs held since is = ap (λ xs. calls_of xs) (take_rest held since) ∙ sym (drop-map call_of since held) ∙ ap (λ xs. drop since (calls_of xs)) is
 

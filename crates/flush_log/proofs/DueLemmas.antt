@@ -168,7 +168,7 @@ old_keys : (c : Bool) (l : ℕ × Logged) (ls : List (ℕ × Logged)) → keys_o
 old_keys true l ls = refl
 old_keys false l ls = refl
 
--- a pid of which the log has `Old` is among those of which it has
+-- a pid that is `Old` in the log is among those that are
 among_olds : (ls : List (ℕ × Logged)) (n : ℕ) → or_no (lookup (is_same_pid n) ls) ≡ Old → is_among n (keys_of (filter (λ l. is_old l.1) ls)) ≡ true
 among_olds [] n h = absurd (cc)
 among_olds (l ∷ ls) n h =
@@ -183,7 +183,7 @@ not_there version None Old h old = absurd (old refl)
 not_there version None (Upto k) h old = refl
 
 module _ (version : Version) (t : TreeInMemory) (home : AreAllHome t) (proper : IsOfStore (tree_of t)) where
-  -- nothing is written of a pid of which the log has what it would have then
+  -- nothing is written of a pid where the log has what it would have then
   none_due : (pid : ℕ) → IsInLog t.table pid → pid_text (Flush version) (tree_of t) pid ≡ []
   none_due pid h =
       let page : at_home (place_of t.table pid) ≡ page_at (tree_of t).pages pid = page-home t.table.places pid home in

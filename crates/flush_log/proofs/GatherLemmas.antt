@@ -15,7 +15,7 @@ use Rattle.flush_log.proofs.LayoutLemmas.{opened-segment, opened-end, goes_on_sp
 use Rattle.flush_log.proofs.ReachLemmas.{frames-are, start-is, text_tail}
 use borrow.Rule.Slice.PartMut.{put_mid}
 
--- bytes that are put behind those that are gathered up to a place
+-- bytes that are put after those that are gathered up to a place
 pub put_behind : (buffer new : Bytes) (from at size end : ℕ) → from ≤ at → at + size ≡ end → end ≤ length buffer → length new ≡ size
     → slice_range (put_mid at size buffer new) from end ≡ slice_range buffer from at ++ new
 put_behind buffer new from at size end rising is within long = same_lists _ _ (grind (arith, places)) (λ k d h. grind (arith, places))

@@ -125,7 +125,7 @@ module _ (s : Settings) (start : Span) (frames : List Bytes) (old : View) where
           crash = going-leaves;
         }
 
-  -- what is still gathered is written behind the last frame, or the last call failed
+  -- what is still gathered is written after the last frame, or the last call failed
   abbrev pub all_spans : List Span
   all_spans = left_by s start frames ++ open_after s start frames ∷ []
 

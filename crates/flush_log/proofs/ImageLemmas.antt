@@ -84,7 +84,7 @@ cut_more from bytes more (f ∷ ends) end h e =
     ap (λ (x : List ℕ). x ∷ cut_at f (bytes ++ more) (ends ++ end ∷ [])) (part_stays bytes more from f h.0 upto)
     ∙ ap (λ (xs : List (List ℕ)). slice_range bytes from f ∷ xs) (cut_more f bytes more ends end h.1 e)
 
--- the bytes and the ends with a frame behind them, as they are held then
+-- the bytes and the ends with a frame after them, as they are held then
 pub record IsLonger (old : List Bytes) (bytes : Bytes) (ends : List ℕ) (frame : Bytes) : Type 0 where
   pub cut : AreEnds 0 ends (length bytes)
   pub shown : cut_at 0 bytes ends ≡ old ++ frame ∷ []

@@ -12,7 +12,7 @@ use Rattle.flush_log.specs.Reading.{Found}
 use Rattle.flush_log.specs.Segments.{position, last_segment, bytes_in_use}
 use Rattle.flush_log.specs.Layout.{PlacedFrame, offset_behind, placed_from, placed, behind_header, tail_behind, tail_after, Span, longer, filled, begun, spans_from, end_of, opened}
 
--- the segment and the offset behind the last of some frames
+-- the segment and the offset after the last of some frames
 abbrev pub end_point : ℕ → ℕ → List PlacedFrame → ℕ × ℕ
 end_point n offset [] = (n, offset)
 end_point n offset (p ∷ ps) = end_point p.segment (offset_behind p) ps
@@ -75,7 +75,7 @@ module _ (s : Settings) where
       (λ n offset f fs ps room later low high all. later (omega arith) room all.1)
       (λ n offset f fs ps later low high all. later (omega arith) (let fit = all.0 in omega (arith, fit)) all.1)
 
-  -- a text's end as its tail tells it
+  -- a text's end as its tail gives it
   pub last-is : (n offset : ℕ) → 1 ≤ offset → offset ≤ s.seg_size → last_segment s (position s n offset) ≡ n
   last-is n offset low high =
       let one_less : n * s.seg_size + offset - 1 ≡ n * s.seg_size + (offset - 1) = omega arith in

@@ -17,7 +17,7 @@ use Rattle.flush_log.proofs.ReadBackLemmas.{all_fit}
 use Rattle.flush_log.proofs.SlotLemmas.{IsSlot, is-slot}
 
 module _ (s : Settings) where
-  -- a tail that lies behind a byte of a segment's frames, of the segment q
+  -- a tail that lies after a byte of a segment's frames, of the segment q
   pub record EndsIn (tail q used : ℕ) : Type 0 where
     pub is : tail ≡ position s q used
     pub low : 16 < used
@@ -43,7 +43,7 @@ module _ (s : Settings) where
       let start = starts s (last_segment s t.tail) (bytes_in_use s t.tail) t.tail split.is split.high (omega arith) in
       record { is = split.is; low = used_low (last_segment s t.tail) (bytes_in_use s t.tail) (t.tail / s.seg_size) (t.tail % s.seg_size) start size split.low f.ends; high = split.high }
 
-  -- a text's frames end behind the header of a segment
+  -- a text's frames end after the header of a segment
   ends_high : (n offset : ℕ) (fs : List Frame) → 16 ≤ offset → (16 < offset) ⊎ (1 ≤ length fs) → 16 < (end_point n offset (placed_from s n offset fs)).1
   ends_high =
       by_places s (λ n offset fs ps. 16 ≤ offset → (16 < offset) ⊎ (1 ≤ length fs) → 16 < (end_point n offset ps).1)
@@ -55,7 +55,7 @@ module _ (s : Settings) where
   header_low zero is = omega arith
   header_low (suc at) is = ⊎_elim (λ zero_is. absurd (let e = eqb-true (suc at) 0 zero_is in omega arith)) (λ above. let h = ltb-true 16 (suc at) above in omega arith) (or_cases (suc at == 0) (nat_lt 16 (suc at)) is)
 
-  -- the tail behind a text, and its segment, which is that of the tail before or a later one
+  -- the tail after a text, and its segment, which is that of the tail before or a later one
   record NewEnd (tail new : ℕ) : Type 0 where
     ends : EndsIn new (last_segment s new) (bytes_in_use s new)
     rises : last_segment s tail ≤ last_segment s new

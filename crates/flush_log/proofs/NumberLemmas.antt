@@ -44,7 +44,7 @@ module _ (s : Settings) (head tail : ℕ) (good : first_bad_field s ≡ None) (b
       let parts : (head + s.segments) * s.seg_size ≡ head * s.seg_size + s.segments * s.seg_size = omega arith in
       omega arith
 
--- a text of so many frames moves the tail by 2^62 at the most
+-- a text of 2^41 frames at the most moves the tail by 2^62 at the most
 pub tail_small : (g : Format) (tail : ℕ) (text : List Frame) → first_bad_field g.settings ≡ None → tail ≤ greatest → AllByRecursion (λ f. is_frame g f ≡ true) text → length text ≤ 2 ^ 41 → tail_after g.settings tail text < 2 ^ 63
 tail_small g tail text good small within few =
     let most = (are_sized g.settings good).most_size in
@@ -53,7 +53,7 @@ tail_small g tail text good small within few =
     let all : (length text + 1) * g.settings.seg_size ≤ (2 ^ 41 + 1) * 1048576 = mul-le-mul count most in
     omega arith
 
--- whether a tail lies behind a head, of any two machine numbers
+-- whether a tail lies after a head, of any two machine numbers
 pub head_test : (s : Settings) (head tail : ℕ) → first_bad_field s ≡ None → (head * s.seg_size + 16 < tail) ↔ ((16 < tail) × (head ≤ (tail - 17) / s.seg_size))
 head_test s head tail good =
     let least = (are_sized s good).least_size in

@@ -109,7 +109,7 @@ module _ (s : Settings) (file : List ℕ) (spans : List Span) (u : Slot) (long :
       slot-back s u.sequence u after some good (overlay-part (with_spans s file spans) (slot_place u.sequence) (slot_bytes u) slot_fits) in
       store_slot-next s after t u (kept ∙ store_slot-read s file t is) (ap (λ (n : ℕ). read_slot s n after) (sym next) ∙ new) (omega arith)
 
-  -- what lies behind the first 512 bytes is what the spans left
+  -- what lies after the first 512 bytes is what the spans left
   pub after-behind : AgreeAt (λ i. 512 ≤ i) (with_spans s file spans) after
   after-behind =
       let low = slot_low u.sequence in
@@ -160,7 +160,7 @@ module _ (g : Format) (file : List ℕ) (t : Slot) (text : List Frame) (h : HasR
       (λ i in_log. (inr (let high = (in-segments g.settings t.head t.tail i (omega arith) in_log).0 in omega arith), text-beside g h.good t.head t.tail text (omega arith) h.within h.free i in_log))
       (all_but g.settings (suc t.sequence) (spans g.settings t.tail text) file c (let all = h.whole in omega arith) before))
 
-  -- the text is read behind what was there
+  -- the text is read after what was there
   pub after-text : (u : Slot) (found : List Found) → log_between g file t.head t.tail ≡ Ok found → log_between g (committed g.settings file (spans g.settings t.tail text) u) t.head (tail_after g.settings t.tail text) ≡ Ok (found ++ found_in_text g.settings t.tail text)
   after-text u found read =
       let behind = slot_good.behind in

@@ -1,4 +1,4 @@
--- Where the frames of the worked rows stand, and the tails behind them.
+-- Where the frames of the worked rows stand, and the tails after them.
 use Rattle.std.specs.Prelude.{◌≡◌, ℕ, true, false, List, [], ◌∷◌, ◌++◌, flat_map, replicate, map, codes}
 use Prim.Native.String.{String}
 use Rattle.std.proofs.Common.{refl}
@@ -10,7 +10,7 @@ use Rattle.flush_log.specs.Layout.{placed, tail_after, spans, is_full_for_flush,
 use Rattle.flush_log.specs.Segments.{segment_header, position}
 use Rattle.flush_log.proofs.Literals.{pair, set, gone, frame, base_0, base_1, base_2, text_of_row_4, shared_text_of_row_4, ones, sixteen, run, base, three}
 
--- the positions of the frames of a text, and the tail behind it
+-- the positions of the frames of a text, and the tail after it
 abbrev laid : ℕ → List Frame → List ℕ × ℕ
 laid tail text = (map (λ p. position S p.segment p.offset) (placed S tail text), tail_after S tail text)
 
@@ -25,14 +25,14 @@ row_1 = refl
 row_3 : laid 33 (frame 0 (DeltaLeaf (set "a" "1" ∷ [])) ∷ []) ≡ (33 ∷ [], 55)
 row_3 = refl
 
--- row 4, and row 10 where the root doesn't fit behind the second leaf
+-- row 4, and row 10 where the root doesn't fit after the second leaf
 row_4 : laid 33 text_of_row_4 ≡ (33 ∷ 62 ∷ 98 ∷ [], 136)
 row_4 = refl
 
 row_10 : laid 179 text_of_row_4 ≡ (179 ∷ 208 ∷ 272 ∷ [], 310)
 row_10 = refl
 
--- an upgrade behind row 4: frames of 29, 35 and 38 bytes
+-- an upgrade after row 4: frames of 29, 35 and 38 bytes
 row_4_upgraded : laid 136 shared_text_of_row_4 ≡ (136 ∷ 165 ∷ 200 ∷ [], 238)
 row_4_upgraded = refl
 

@@ -10,7 +10,7 @@ put_between before part behind new at size a b =
     ap₂ (λ (front back : Bytes). front ++ (new ++ back)) (take_at before (part ++ behind) at a)
     (ap (drop size) (drop_at before (part ++ behind) at a) ∙ drop_at part behind size b)
 
--- three parts behind a first one: the second with zeros before it, the third with zeros before it, and one to the end
+-- three parts after a first one: the second with zeros before it, the third with zeros before it, and one to the end
 pub put_in_zeros : (a y b z h f old_b old_h old_f : Bytes) (at size to_h size_h to_f size_f : ℕ)
     → length a + length y ≡ at → length old_b ≡ size → at + length b + length z ≡ to_h → length old_h ≡ size_h → to_h + length h ≡ to_f → length old_f ≡ size_f
     → put_mid to_f size_f (put_mid to_h size_h (put_mid at size (a ++ (y ++ (old_b ++ (z ++ (old_h ++ old_f))))) b) h) f ≡ a ++ (y ++ (b ++ (z ++ (h ++ f))))

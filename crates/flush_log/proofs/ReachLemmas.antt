@@ -134,7 +134,7 @@ module _ (s : Settings) where
       let same : r ≡ behind_frames s start frames = ap (behind_frames s r) (sym none) ∙ w.walked in
       sym (ap (told r) (le-ltb greatest r.tail w.room)) ∙ ap unless_spent same
 
-  -- what a walk over some of the frames tells
+  -- what a walk over some of the frames finds
   pub told_none : (q : Reached) → None ≡ unless_spent q → greatest < q.tail
   told_none q = of (nat_lt greatest q.tail) refl
     where

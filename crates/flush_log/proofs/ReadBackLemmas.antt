@@ -1,4 +1,4 @@
--- A text that is written from the tail on is read again, behind what was read before.
+-- A text that is written from the tail on is read again, after what was read before.
 use Rattle.std.specs.Prelude.{◌≡◌, ℕ, zero, suc, ◌+◌, ◌-◌, ◌*◌, ◌%◌, ◌/◌, ◌≤◌, ◌<◌, true, List, [], ◌∷◌, ◌++◌, length, map, take, drop, replicate, None, Result, Ok, Err}
 use Rattle.std.specs.List.{AllByRecursion}
 use Rattle.std.proofs.Common.{refl, sym, ap, ◌∙◌, arith, subst, append_assoc, append-nil, length-append}
@@ -18,7 +18,7 @@ use Rattle.flush_log.proofs.PlaceLemmas.{remainders_differ, whole-written, segme
 use Rattle.flush_log.proofs.LayoutLemmas.{end_point, found_at, by_places, AllFit, split-tail, Start, starts, opened-segment, opened-end, opened-inside, text-last, goes_on_span, next_span, filled-end}
 use Rattle.flush_log.proofs.LayoutLemmas.Start.{Inside, Behind}
 
--- ---- files of which some parts are the same
+-- ---- files with some parts the same
 
 pub segment-short : (s : Settings) (file : List ℕ) (n : ℕ) → length (segment_bytes s file n) ≤ s.seg_size
 segment-short s file n = let e = length-take s.seg_size (drop (place_of_segment s n) file) in grind (arith, e)
@@ -45,7 +45,7 @@ followed_by-ok (Ok before) (Err fault) found h = absurd (cc)
 followed_by-ok (Err fault) y found h = absurd (cc)
 
 module _ (g : Format) (good : first_bad_field g.settings ≡ None) where
-  -- a disk whose log reads as this once a span, in the segment k behind the head, is written too
+  -- a disk whose log reads as this once a span, in the segment k after the head, is written too
   pub record Stands (file : List ℕ) (head k : ℕ) (r : Span) (found : List Found) : Type 0 where
     pub before : List Found
     pub here : List Frame
@@ -101,7 +101,7 @@ module _ (g : Format) (good : first_bad_field g.settings ≡ None) where
     free = h.free;
   }
 
-  -- a segment that is begun behind one that is filled
+  -- a segment that is begun after one that is filled
   stands-filled : (file : List ℕ) (head k : ℕ) (r : Span) (found : List Found) → suc k < g.settings.segments → Stands file head k r found → Stands (written file (filled g.settings r)) head (suc k) (begun (suc r.segment) []) found
   stands-filled file head k r found free h =
       let full : Span = filled g.settings r in
@@ -135,9 +135,9 @@ module _ (g : Format) (good : first_bad_field g.settings ≡ None) where
         free = free;
       }
 
-  -- ---- a text behind it
+  -- ---- a text after it
 
-  -- with the spans of these frames written, the log up to their end reads as they do, behind what was found
+  -- with the spans of these frames written, the log up to their end reads as they do, after what was found
   abbrev pub Leaves : List ℕ → ℕ → List Found → ℕ → ℕ → Span → List PlacedFrame → Type 0
   Leaves file head found n offset r ps = (j : ℕ) → (end_point n offset ps).0 ≡ head + j → j < g.settings.segments →
       read_log g (with_spans g.settings file (spans_from g.settings r ps)) head j (end_point n offset ps).1 ≡ ok (found ++ map found_at ps)

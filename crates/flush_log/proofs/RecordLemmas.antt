@@ -22,7 +22,7 @@ in_bytes n end within = let long : length {A = ℕ} (replicate n 0) ≡ n = leng
 pub written_length : (old new : List ℕ) (at : ℕ) (bytes : List ℕ) → new ≡ overlay old at bytes → at + length bytes ≤ length old → length new ≡ length old
 written_length old new at bytes is within = ap length is ∙ length-overlay old at bytes within
 
--- ---- a file of n bytes, of which the first are kept and all others are zeros
+-- ---- a file of n bytes: the first are kept, and all others are zeros
 
 pub zeros-whole : (n : ℕ) (kept : List ℕ) → length kept ≤ n → length (with_zeros n kept) ≡ n
 zeros-whole n kept short =
@@ -53,7 +53,7 @@ zeros-longer n end kept now short within is =
     ∙ ap (λ (xs : List ℕ). kept ++ xs) (replicate-append-replicate (end - length kept) (n - end) 0)
     ∙ ap (λ (k : ℕ). kept ++ replicate k 0) (let k : (end - length kept) + (n - end) ≡ n - length kept = omega (arith, short, within) in k)
 
--- what a read gives: first what is kept there, and behind it zeros
+-- what a read gives: first what is kept there, and then zeros
 pub zeros-read : (n : ℕ) (kept : List ℕ) (at long from here : ℕ) → length kept ≤ n → at + long ≤ n → from ≡ min at (length kept) → here ≡ min long (length kept - from)
     → take here (drop from kept) ++ drop here (replicate long 0) ≡ take long (drop at (with_zeros n kept))
 zeros-read n kept at long from here short within start count = elim (cases_lt (length kept) at) [

@@ -61,7 +61,7 @@ module _ (g : Format) where
 
   -- ---- what has been read goes on
 
-  -- bytes that are these frames, with whatever frames and end behind them
+  -- bytes that are these frames, with whatever frames and end after them
   abbrev pub GoesOn : List ℕ → List Frame → Type 0
   GoesOn bs fs = (is_end : List ℕ → Bool) → IsEnd is_end → (more : List ℕ) (gs : List Frame) → Reads is_end more gs → Reads is_end (bs ++ more) (fs ++ gs)
 
@@ -107,7 +107,7 @@ module _ (g : Format) where
 
   -- ---- a whole segment
 
-  -- bytes of segment n from its header on, which are these frames with whatever frames and end behind them
+  -- bytes of segment n from its header on, which are these frames with whatever frames and end after them
   pub record Holds (n : ℕ) (bytes : List ℕ) (fs : List Frame) : Type 0 where
     pub behind : List ℕ
     pub headed : bytes ≡ segment_header n ++ behind
@@ -133,7 +133,7 @@ module _ (g : Format) where
     on = frame-goes_on good h.behind fs f within h.on;
   }
 
-  -- with an end behind them
+  -- with an end after them
   pub holds-read : (is_end : List ℕ → Bool) → IsEnd is_end → (n : ℕ) (bytes rest : List ℕ) (fs : List Frame) → Holds n bytes fs → is_end rest ≡ true → read_segment g is_end n (bytes ++ rest) ≡ Ok (all_in n fs)
   holds-read is_end marks n bytes rest fs h end =
       let all : Reads is_end (h.behind ++ rest) fs = rw (sym (append-nil fs)) (h.on is_end marks rest [] (reads-end is_end rest end)) in

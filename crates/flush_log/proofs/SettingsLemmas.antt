@@ -24,7 +24,7 @@ same_settings s t a b c d e f =
     ∙ ap (λ x. made t.fan t.chain t.max_key t.max_value t.seg_size x) f
 
 module _ (s : Settings) where
-  -- what stands behind each number of the block
+  -- what stands after each number of the block
   abbrev behind_segments : List ℕ
   behind_segments = replicate 40 0
 

@@ -97,7 +97,7 @@ version_small One = omega arith
 version_small Two = omega arith
 
 module _ (s : Settings) (n : ℕ) (t : Slot) (some : 0 < s.seg_size) where
-  -- what stands behind each number of the slot
+  -- what stands after each number of the slot
   abbrev behind_version : List ℕ
   behind_version = replicate 16 0
 

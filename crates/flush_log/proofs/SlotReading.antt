@@ -1,4 +1,4 @@
--- What a slot's 64 bytes say, as a reading of them tells it step by step.
+-- What a slot's 64 bytes say, as a reading of them finds it step by step.
 use Rattle.std.proofs.Common.{◌≡◌, ◌≢◌, ℕ, ◌+◌, ◌*◌, ◌%◌, ◌^◌, ◌<◌, Bool, true, false, ◌&&◌, ◌==◌, nat_lt, nat_le, lt-ltb, refl, if◌then◌else◌, get_or, take, drop, None, Ok, Err, bytes_eq, sym, ap, ap₂, ◌∙◌}
 use Rattle.std.proofs.lemmas.Bool.{eq-eqb, ne_eqb}
 use Rattle.keys.specs.Bytes.{Bytes}

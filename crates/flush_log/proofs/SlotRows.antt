@@ -86,7 +86,7 @@ tail_of_51 = refl
 both_closed : store_slot S (overlay (overlay (with_slot slot_of_row_7 (new_bytes S)) 128 (hex "00")) 192 (hex "00")) ≡ Err NoSlot
 both_closed = refl
 
--- an open slot that is not well formed is refused beside one that is; what is behind a closed gate is not looked at
+-- an open slot that is not well formed is refused beside one that is; what is after a closed gate is not looked at
 byte_of_zeros : store_slot S (overlay (with_slot slot_of_row_7 (new_bytes S)) 135 (hex "01")) ≡ Err NoSlot
 byte_of_zeros = refl
 

@@ -1,4 +1,4 @@
--- What may be left while a slot is written behind its gate.
+-- What may be left while a slot is written with its gate closed.
 use Rattle.std.proofs.Common.{◌≡◌, ◌⊎◌, inl, inr, ⊎_elim, ℕ, zero, suc, ◌+◌, ◌*◌, ◌<◌, ◌≤◌, false, ◌==◌, List, [], ◌∷◌, length, get_or, take, drop, refl, sym, ap, subst, ◌∙◌, arith, eqb-true}
 use Rattle.std.proofs.lemmas.Bool.{cases_Bool}
 use Rattle.keys.specs.declared.settings.Settings.{Settings}
@@ -37,7 +37,7 @@ module _ (t : Slot) (file : List ℕ) (long : 512 ≤ length file) where
   of_gate : (c d : List ℕ) → AgreeAt (IsBeside place 1) c d → AgreeAt (IsBeside place 64) c d
   of_gate c d same = agree_less (IsBeside place 1) (IsBeside place 64) c d (λ i out. ⊎_elim (λ low. inl low) (λ high. inr (omega (arith, high))) out) same
 
-  -- the gate is closed while the bytes behind it are written
+  -- the gate is closed while the bytes after it are written
   body_torn : is_open t.sequence file ≡ false → (c : List ℕ) → Torn (place + 1) 63 file c → IsBehindGate t.sequence file c
   body_torn shut c torn = (ap (λ (n : ℕ). n == 1) (torn.same place (inl (omega arith))) ∙ shut, of_body file c torn)
 
@@ -77,7 +77,7 @@ has_slots v law long = let whole = law.whole in omega (arith, whole, long)
 pub all_within : (s : Settings) (spans : List Span) (v : View) → Lawful v → AreWithin s v.size spans → AreWithin s (length v.seen) spans
 all_within s spans v law within = subst (λ (n : ℕ). AreWithin s n spans) (sym law.whole) within
 
--- the two writes of a slot: first the bytes behind the gate, and then the gate
+-- the two writes of a slot: first the bytes after the gate, and then the gate
 module _ (t : Slot) (gate : ℕ) (bytes : List ℕ) (at : gate ≡ slot_place t.sequence) (is : bytes ≡ slot_bytes t) where
   body_seen : (file mid : List ℕ) → mid ≡ overlay file (gate + 1) (take 63 (drop 1 bytes)) → mid ≡ overlay file (slot_place t.sequence + 1) (slot_body t)
   body_seen file mid wrote = wrote ∙ ap (λ (n : ℕ). overlay file (n + 1) (take 63 (drop 1 bytes))) at ∙ ap (λ (bs : List ℕ). overlay file (slot_place t.sequence + 1) (take 63 (drop 1 bs))) is

@@ -1,4 +1,4 @@
--- A segment is read as it stands: what is found is spelled there, and where something is wrong, it is wrong at the offset told.
+-- A segment is read as it stands: what is found is spelled there, and where something is wrong, it is wrong at the offset reported.
 use Rattle.std.specs.Prelude.{◌≡◌, ◌⊎◌, ℕ, zero, suc, ◌+◌, ◌-◌, ◌*◌, ◌≤◌, ◌<◌, Bool, true, false, nat_eq, if◌then◌else◌, List, [], ◌∷◌, ◌++◌, length, flat_map, take, drop, replicate, Option, Some, None, Result, Ok, Err}
 use Rattle.std.specs.List.{AllByRecursion, starts_with}
 use Rattle.std.proofs.Common.{refl, sym, ap, ◌∙◌, arith, append_assoc, append-nil, length-append, subst, inl, inr}
@@ -29,7 +29,7 @@ tail-empty [] h = refl
 tail-empty (b ∷ bs) h = absurd (cc)
 
 module _ (g : Format) where
-  -- frames and an end behind them; or frames and neither a frame nor an end
+  -- frames and an end after them; or frames and neither a frame nor an end
   record AreSpelled (is_end : List ℕ → Bool) (bs : List ℕ) (fs : List Frame) : Type 0 where
     behind : List ℕ
     within : AllByRecursion (λ f. is_frame g f ≡ true) fs
@@ -98,7 +98,7 @@ module _ (g : Format) where
 
     -- ---- a segment
 
-    -- what is found in segment n, behind its header and up to the end
+    -- what is found in segment n, after its header and up to the end
     record IsFound (n : ℕ) (bytes : List ℕ) (found : List Found) : Type 0 where
       frames : List Frame
       all : found ≡ all_in n frames
@@ -145,7 +145,7 @@ module _ (g : Format) where
         of true starts h = found-of n bytes found (read_frames g is_end (length bytes) (drop 16 bytes)) (after_header n bytes are starts) (header-behind n bytes starts) h
         of false starts h = absurd (cc)
 
-    -- and what is no frame stands where the fault tells
+    -- and what is no frame stands where the fault says
     pub segment-broken : (n : ℕ) (bytes : List ℕ) (m offset : ℕ) → AreBytes bytes → read_segment g is_end n bytes ≡ Err (BadFrame m offset) → (m ≡ n) × IsBrokenAt g is_end n offset bytes
     segment-broken n bytes m offset are = of (starts_with nat_eq bytes (segment_header n)) refl
       where

@@ -95,7 +95,7 @@ known Two = refl
 abbrev IsFit : Format → Content → Type 0
 IsFit g c = (is_readable g.version c ≡ true) × (has_sizes g.settings c ≡ true)
 
--- frames that fit so, of which the words are known
+-- frames that fit so, whose words are known
 frames_by : (g : Format) (fs : List Frame) → AllByRecursion (λ f. IsFit g f.content) fs → AllByRecursion HasWords fs → AllByRecursion (λ f. is_frame g f ≡ true) fs
 frames_by g [] a w = tt
 frames_by g (f ∷ fs) a w = (w.0 g a.0.0 a.0.1, frames_by g fs a.1 w.1)
@@ -216,7 +216,7 @@ none_left : (fs gs : List Frame) → fs ++ gs ≡ [] → fs ≡ []
 none_left [] gs e = refl
 none_left (f ∷ fs) gs e = absurd (cc)
 
--- a job of which the test says that something is to be written
+-- a job where the test says that something is to be written
 pub some_due : (text : Text) (t : Tree) (pid : ℕ) (page : Option PageOfKind) (l : Logged) (b : Bool) → page ≡ page_at t.pages pid → l ≡ taken text (logged_of t pid)
     → ((spelling : Spelling) → IsWritten spelling page l b) → b ≡ false → pid_text text t pid ≢ []
 some_due text t pid page l b p e is fails none =
@@ -231,7 +231,7 @@ not_all_written text t pid left from all e h some none =
     let is : pid_text text t pid ++ flat_map (pid_text text t) left ≡ [] = ap (λ (ns : List ℕ). flat_map (pid_text text t) ns) (sym e) ∙ h ∙ none in
     some (none_left (pid_text text t pid) (flat_map (pid_text text t) left) is)
 
--- and one of which it says that nothing is
+-- and one where it says that nothing is
 pub written-skip : (text : Text) (t : Tree) (pid : ℕ) (left from : List ℕ) (all : List Frame) (page : Option PageOfKind) (l : Logged) (b : Bool) → from ≡ pid ∷ left → flat_map (pid_text text t) from ≡ all
     → page ≡ page_at t.pages pid → l ≡ taken text (logged_of t pid) → ((spelling : Spelling) → IsWritten spelling page l b) → b ≡ true → flat_map (pid_text text t) left ≡ all
 written-skip text t pid left from all page l b e h p q is holds =
@@ -256,7 +256,7 @@ jobs-push text t js ks j pid from left all e h l is =
     ap (λ (hs : List ImageHeld). text_with text t hs left) (held-push text t js ks j pid e h)
     ∙ text-push text t (map job_held js) pid left all (ap (λ (ns : List ℕ). text_with text t (map job_held js) ns) (sym l) ∙ is)
 
--- and one of which nothing is to be written
+-- and one with nothing to be written
 pub jobs-skip : (text : Text) (t : Tree) (hs : List ImageHeld) (pid : ℕ) (from left : List ℕ) (all : List Frame) (page : Option PageOfKind) (l : Logged) (b : Bool) → from ≡ pid ∷ left → text_with text t hs from ≡ all
     → page ≡ page_at t.pages pid → l ≡ taken text (logged_of t pid) → ((spelling : Spelling) → IsWritten spelling page l b) → b ≡ true → text_with text t hs left ≡ all
 jobs-skip text t hs pid from left all page l b e h p q is holds =

@@ -78,7 +78,7 @@ row_4_shared = refl
 row_4_upgraded : upgrade_text (tree pages_of_row_4 2 2 ((0, Upto 0) ∷ (1, Upto 0) ∷ (2, Upto 0) ∷ [])) ≡ shared_text_of_row_4
 row_4_upgraded = refl
 
--- a run is written again behind its base, and what the log has of a page that is gone is taken back
+-- a run is written again after its base, and what the log has of a page that is gone is taken back
 runs_upgraded : upgrade_text (tree (leaf 0 "" ((set "a" "2" ∷ []) ∷ (set "a" "1" ∷ []) ∷ []) [] ∷ []) 0 1 ((0, Upto 1) ∷ (3, Old) ∷ []))
     ≡ frame 0 (FullLeaf Shared [] []) ∷ frame 0 (DeltaLeaf (set "a" "1" ∷ [])) ∷ frame 0 (DeltaLeaf (set "a" "2" ∷ [])) ∷ frame 3 Free ∷ []
 runs_upgraded = refl

@@ -1,4 +1,4 @@
--- The text of an upgrade is that of a flush of version 2, as if the log had another page of each pid of which it has one.
+-- The text of an upgrade is that of a flush of version 2, as if each page that the log has were another one.
 use Rattle.std.specs.Prelude.{◌≡◌, ◌≢◌, ℕ, Bool, true, false, ◌||◌, nat_eq, if◌then◌else◌, List, [], ◌∷◌, ◌++◌, flat_map, Option, Some, None}
 use Rattle.std.specs.List.{AllByRecursion, filter}
 use Rattle.std.specs.Map.{keys_of}
@@ -46,7 +46,7 @@ stays_among m (k ∷ ks) ns h = of (stays_among m ks ns h) (is_among k (with_num
     of rest false = among-with_number m k (with_numbers ks ns) ∙ ap (λ (b : Bool). nat_eq m k || b) rest ∙ or_true_right (nat_eq m k)
 
 module _ (ps : List (ℕ × PageOfKind)) where
-  -- a pid of which the log has a page's base is in use
+  -- a pid is in use where the log has its page's base
   in_use : (n k : ℕ) (o : Option PageOfKind) → page_at ps n ≡ o → IsTrueOf o (Upto k) → is_among n (keys_of ps) ≡ true
   in_use n k None e is = absurd (is)
   in_use n k (Some p) e is = holds_where_found (λ m. is_among m (keys_of ps) ≡ true) ps n p (all_among (keys_of ps)) e

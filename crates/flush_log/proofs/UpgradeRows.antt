@@ -1,4 +1,4 @@
--- The upgrade of a store of two leaves under an index page, whose keys are a to e: its slot, and what is read of the log behind it.
+-- The upgrade of a store of two leaves under an index page, whose keys are a to e: its slot, and what is read of the log after it.
 use Rattle.std.specs.Prelude.{◌≡◌, ℕ, List, [], ◌∷◌, ◌++◌, replicate, Ok, Err}
 use Rattle.std.proofs.Common.{refl}
 use Rattle.keys.specs.declared.fault.Fault.TheVariants.{BadFrame, AlreadyUpgraded}
@@ -57,11 +57,11 @@ before = record { segment = 0; frame = first_frame } ∷ found_in_text S 33 text
 found : log_between (in_version S Two) upgraded_file 0 238 ≡ Ok (before ++ found_in_text S 136 shared_text_of_row_4)
 found = refl
 
--- the slot from before the upgrade still tells the log from before
+-- the slot from before the upgrade still gives the log from before
 found_before : log_between (in_version S One) upgraded_file 0 136 ≡ Ok before
 found_before = refl
 
--- the rest of the key d set to c, so that more is shared with the key before than is told
+-- the rest of the key d set to c, so that more is shared with the key before than is written
 key_twice : log_between (in_version S Two) (overlay upgraded_file 702 (hex "63")) 0 238 ≡ Err (BadFrame 0 165)
 key_twice = refl
 

@@ -10,7 +10,7 @@ use Rattle.frame_codec.specs.Sized.{HasWords}
 use Rattle.flush_log.specs.FlushText.{frames_of}
 use Rattle.flush_log.specs.ImageWork.{AreWritten}
 
--- ---- frames behind frames
+-- ---- frames after frames
 
 pub written-none : (pid : ℕ) (old : List Bytes) → AreWritten pid [] old old
 written-none pid old = record { bytes = sym (append-nil old); words = tt }

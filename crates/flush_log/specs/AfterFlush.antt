@@ -13,7 +13,7 @@ use Rattle.flush_log.specs.FlushText.{flush_text, upgrade_text, flushed}
 use Rattle.flush_log.specs.Layout.{Span, tail_after, spans, is_full_for_flush}
 use Rattle.flush_log.specs.Slot.{Slot, greatest}
 
--- what a slot says of a store
+-- the slot of a store
 abbrev pub slot_of : Store → Slot
 slot_of st = record { sequence = st.sequence; head = st.head; tail = st.tail; root = st.tree.root; height = st.tree.height; version = st.version }
 

@@ -14,7 +14,7 @@ use Rattle.flush_log.specs.Slot.{Slot, slot_size, slot_place, slot_body, slot_by
 
 -- ---- calls of a disk
 
--- a call that changes a disk: bytes are written from a place on, or all that was written is made to last
+-- a call that changes a disk: bytes are written from a place on, or all that was written is synced
 pub data Call : Type 0 where
   Write : ℕ → Bytes → Call
   Sync : Call
@@ -39,7 +39,7 @@ LeftDuring calls file c = (k : ℕ) × MayLeave (take k calls) file (λ d. d ≡
 
 -- ---- the calls of the commit of slot t
 
--- each span lies within a file of so many bytes
+-- each span lies within a file of `long` bytes
 abbrev pub AreWithin : Settings → ℕ → List Span → Type 0
 AreWithin s long spans = AllByRecursion (λ r. place_of_span s r + length r.bytes ≤ long) spans
 
@@ -53,7 +53,7 @@ abbrev pub IsClosing : Bool → ℕ → Bytes → Bytes → Type 0
 IsClosing true place file c = Torn place 1 file c
 IsClosing false place file c = c ≡ file
 
--- steps 1 to 5: the gate is closed, the spans are written, and then the slot behind its gate
+-- steps 1 to 5: the gate is closed, the spans are written, and then the slot's bytes after its gate
 abbrev pub prepare : Settings → Bytes → List Span → Slot → List Call
 prepare s file spans t =
     close_gate (is_open t.sequence file) (slot_place t.sequence)
@@ -72,7 +72,7 @@ commit_calls s file spans t = prepare s file spans t ++ open_gate t
 abbrev pub committed : Settings → Bytes → List Span → Slot → Bytes
 committed s file spans t = overlay (with_spans s file spans) (slot_place t.sequence) (slot_bytes t)
 
--- a text of frames of this format finds room behind the tail of a disk's slot, on a disk that has room for all segments
+-- a text of frames of this format finds room after the tail of a disk's slot, on a disk that has room for all segments
 pub record HasRoom (g : Format) (file : Bytes) (t : Slot) (text : List Frame) : Type 0 where
   pub good : first_bad_field g.settings ≡ None
   pub whole : HasSegments g.settings file
@@ -82,7 +82,7 @@ pub record HasRoom (g : Format) (file : Bytes) (t : Slot) (text : List Frame) : 
 
 -- ---- what may be left of it
 
--- what may be left while slot n is written behind its closed gate: it is closed still, and all else is as it was
+-- what may be left while slot n is written with its gate closed: it is closed still, and all else is as it was
 abbrev pub IsBehindGate : ℕ → Bytes → Bytes → Type 0
 IsBehindGate n file c = (is_open n c ≡ false) × AgreeAt (IsBeside (slot_place n) slot_size) file c
 
@@ -94,7 +94,7 @@ IsBesideSpans s spans place = AllByRecursion (λ r. IsBeside (place_of_span s r)
 abbrev pub IsBesideSlot : Settings → ℕ → List Span → ℕ → Type 0
 IsBesideSlot s n spans place = IsBeside (slot_place n) slot_size place × IsBesideSpans s spans place
 
--- what may be left of a commit that is not done: slot n is as it was, or closed with any bytes behind its gate, and all
+-- what may be left of a commit that is not done: slot n is as it was, or closed with any bytes after its gate, and all
 -- else is as it was but for these spans
 abbrev pub IsUncommitted : Settings → ℕ → List Span → Bytes → Bytes → Type 0
 IsUncommitted s n spans file c = AgreeAt (IsBesideSpans s spans) file c ⊎ ((is_open n c ≡ false) × AgreeAt (IsBesideSlot s n spans) file c)

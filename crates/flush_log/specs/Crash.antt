@@ -14,7 +14,7 @@ torn_by Before at bytes file = file
 torn_by Written at bytes file = overlay file at bytes
 torn_by (Byte b) at bytes file = overlay file at (replicate (length bytes) b)
 
--- what is left so after these calls, where before them a read gave `seen` and a crash left `left`: a sync makes what a read gives last
+-- what is left so after these calls, where before them a read gave `seen` and a crash left `left`: a sync makes what a read gives durable
 abbrev pub left_with : Fill → List Call → Bytes → Bytes → Bytes
 left_with fill [] seen left = left
 left_with fill (Write at bytes ∷ calls) seen left = left_with fill calls (overlay seen at bytes) (torn_by fill at bytes left)

@@ -7,7 +7,7 @@ use Rattle.flush_log.specs.Segments.{last_segment}
 use Rattle.flush_log.specs.Slot.{Slot, greatest}
 use Rattle.flush_log.specs.declared.slot.LogEnds.{LogEnds}
 
--- as a slot says it
+-- as a slot has it
 abbrev pub ends_in : Slot → LogEnds
 ends_in t = record { sequence = t.sequence; head = t.head; tail = t.tail }
 

@@ -70,7 +70,7 @@ taken Upgrade l = outdate l
 abbrev pub pid_text : Text → Tree → ℕ → List Frame
 pid_text text t pid = frames_of pid (lacking (spelling_of (version_with text)) (page_at t.pages pid) (taken text (logged_of t pid)))
 
--- by rising number the pids that are in use, or of which the log has `Old`
+-- by rising number the pids that are in use, or `Old` in the log
 abbrev pub pids_to_write : Tree → List ℕ
 pids_to_write t = with_numbers (keys_of (filter (λ l. is_old l.1) t.logged)) (keys_of t.pages)
 
@@ -86,14 +86,14 @@ flush_text version t = text_of (Flush version) t
 abbrev pub upgrade_text : Tree → List Frame
 upgrade_text t = text_of Upgrade t
 
--- what the log has of each pid, as if it had another page of each of which it has one; and the tree with that
+-- what the log has of each pid, as if each page that it has were another one; and the tree with that
 abbrev pub all_outdated : List (ℕ × Logged) → List (ℕ × Logged)
 all_outdated ls = map (λ l. (l.0, outdate l.1)) ls
 
 abbrev pub outdated : Tree → Tree
 outdated t = record { pages = t.pages; root = t.root; height = t.height; logged = all_outdated t.logged }
 
--- by what the frames of a text are read
+-- the format by which the frames of a text are read
 abbrev pub format_with : Settings → Text → Format
 format_with s text = record { settings = s; version = version_with text }
 
@@ -107,7 +107,7 @@ HasFrames s text t = AllByRecursion (λ f. is_frame (format_with s text) f ≡ t
 abbrev pub logged_whole : List (ℕ × PageOfKind) → List (ℕ × Logged)
 logged_whole ps = map (λ p. (p.0, Upto (page_depth p.1))) ps
 
--- the tree of these pages, of which a log has every one as it is and nothing of any other pid
+-- the tree of these pages, where a log has every one as it is and nothing of any other pid
 abbrev pub tree_in_log : List (ℕ × PageOfKind) → ℕ → ℕ → Tree
 tree_in_log ps root height = record { pages = ps; root = root; height = height; logged = logged_whole ps }
 

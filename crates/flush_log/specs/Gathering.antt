@@ -5,7 +5,7 @@ use Rattle.keys.specs.declared.settings.Settings.{Settings}
 use Rattle.flush_log.specs.Layout.{Span, end_of, longer, filled, begun}
 use Rattle.flush_log.specs.declared.write.Part.{Part}
 
--- the spans that these frames leave, of which one is being gathered: each is filled where a frame doesn't fit in any more
+-- the spans that these frames leave, one of them being gathered: each is filled where a frame doesn't fit in any more
 abbrev pub left_by : Settings → Span → List Bytes → List Span
 left_by s r [] = []
 left_by s r (bytes ∷ frames) =
@@ -13,7 +13,7 @@ left_by s r (bytes ∷ frames) =
     then left_by s (longer r bytes) frames
     else (filled s r ∷ left_by s (begun (suc r.segment) bytes) frames)
 
--- the span that is being gathered behind them
+-- the span that is being gathered after them
 abbrev pub open_after : Settings → Span → List Bytes → Span
 open_after s r [] = r
 open_after s r (bytes ∷ frames) =

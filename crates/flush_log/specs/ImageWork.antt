@@ -57,17 +57,17 @@ pub record CanBeWritten (h : ImageHeld) : Type 0 where
   pub sized : AllByRecursion IsSized (lacking h.spelling h.page h.logged)
   pub few : HasFewRuns h.page
 
--- such a job of which something is to be written
+-- such a job with something to be written
 abbrev pub IsDue : ImageHeld → Type 0
 IsDue h = CanBeWritten h × (held_text h ≢ [])
 
--- the contents that are to be written of a page of which these are the base and the runs, the oldest first
+-- the contents that are to be written of a page with this base and these runs, the oldest first
 abbrev pub lacking_by : Logged → Content → List Content → List Content
 lacking_by No base runs = base ∷ runs
 lacking_by Old base runs = base ∷ runs
 lacking_by (Upto k) base runs = drop k runs
 
--- these contents were written behind what was there, as frames of one pid, and each page id in them is of 64 bits
+-- these contents were written after what was there, as frames of one pid, and each page id in them is of 64 bits
 pub record AreWritten (pid : ℕ) (cs : List Content) (old new : List Bytes) : Type 0 where
   pub bytes : new ≡ old ++ map (λ f. bytes_of f) (frames_of pid cs)
   pub words : AllByRecursion HasWords (frames_of pid cs)

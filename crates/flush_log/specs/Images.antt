@@ -29,13 +29,13 @@ frames_in (image ∷ images) = image ++ frames_in images
 abbrev pub AreOfText : List (List Bytes) → List Frame → Type 0
 AreOfText images text = frames_in images ≡ map (λ f. bytes_of f) text
 
--- each of these fits into a segment, behind its header
+-- each of these fits into a segment, after its header
 abbrev pub FitSegments : Settings → List Bytes → Type 0
 FitSegments s frames = AllByRecursion (λ bytes. segment_header_size + length bytes ≤ s.seg_size) frames
 
 -- ---- the end of a log
 
--- the segment and the offset where the next frame stands if it fits in there, and the position behind the last one
+-- the segment and the offset where the next frame stands if it fits in there, and the position after the last one
 pub record Reached : Type 0 where
   pub segment : ℕ
   pub offset : ℕ
@@ -45,23 +45,23 @@ pub record Reached : Type 0 where
 abbrev pub from_tail : Settings → ℕ → Reached
 from_tail s tail = record { segment = tail / s.seg_size; offset = behind_header (tail % s.seg_size); tail = tail }
 
--- behind an offset of a segment
+-- after an offset of a segment
 abbrev pub reached : Settings → ℕ → ℕ → Reached
 reached s n offset = record { segment = n; offset = offset; tail = position s n offset }
 
--- behind one more frame of so many bytes
+-- after one more frame of `size` bytes
 abbrev pub behind_frame : Settings → Reached → ℕ → Reached
 behind_frame s r size =
     if nat_le (r.offset + size) s.seg_size
     then reached s r.segment (r.offset + size)
     else reached s (suc r.segment) (segment_header_size + size)
 
--- behind all of these
+-- after all of these
 abbrev pub behind_frames : Settings → Reached → List Bytes → Reached
 behind_frames s r [] = r
 behind_frames s r (bytes ∷ frames) = behind_frames s (behind_frame s r (length bytes)) frames
 
--- the end lies in its segment, and the position behind the last frame from the segment's start up to it
+-- the end lies in its segment, and the position after the last frame from the segment's start up to it
 pub record IsReached (s : Settings) (r : Reached) : Type 0 where
   pub within : r.offset ≤ s.seg_size
   pub above : r.segment * s.seg_size ≤ r.tail

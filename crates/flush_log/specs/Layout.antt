@@ -1,4 +1,4 @@
--- Where the frames of a text stand behind a tail, the bytes that are written for them, and when they are too many.
+-- Where the frames of a text stand after a tail, the bytes that are written for them, and when they are too many.
 use Rattle.std.specs.Prelude.{ℕ, zero, suc, ◌+◌, ◌-◌, ◌/◌, ◌%◌, Bool, ◌==◌, nat_le, if◌then◌else◌, List, [], ◌∷◌, ◌++◌, length, map, replicate}
 use Rattle.keys.specs.Bytes.{Bytes}
 use Rattle.keys.specs.Sizes.{segment_header_size}
@@ -16,11 +16,11 @@ pub record PlacedFrame : Type 0 where
   pub offset : ℕ
   pub frame : Frame
 
--- the offset behind a frame
+-- the offset after a frame
 abbrev pub offset_behind : PlacedFrame → ℕ
 offset_behind p = p.offset + length (bytes_of p.frame)
 
--- each frame of a text, from an offset of segment n on: where it fits in there, else behind the header of the next segment
+-- each frame of a text, from an offset of segment n on: where it fits in there, else after the header of the next segment
 abbrev pub placed_from : Settings → ℕ → ℕ → List Frame → List PlacedFrame
 placed_from s n offset [] = []
 placed_from s n offset (f ∷ fs) =
@@ -37,7 +37,7 @@ behind_header (suc offset) = suc offset
 abbrev pub placed : Settings → ℕ → List Frame → List PlacedFrame
 placed s tail text = placed_from s (tail / s.seg_size) (behind_header (tail % s.seg_size)) text
 
--- the position behind the last of these frames
+-- the position after the last of these frames
 abbrev pub tail_behind : Settings → ℕ → List PlacedFrame → ℕ
 tail_behind s tail [] = tail
 tail_behind s tail (p ∷ ps) = tail_behind s (position s p.segment (offset_behind p)) ps
@@ -66,7 +66,7 @@ pub record Span : Type 0 where
   pub offset : ℕ
   pub bytes : Bytes
 
--- the offset behind them
+-- the offset after them
 abbrev pub end_of : Span → ℕ
 end_of r = r.offset + length r.bytes
 
@@ -87,7 +87,7 @@ abbrev pub opened : ℕ → ℕ → Span
 opened n zero = begun n []
 opened n (suc offset) = record { segment = n; offset = suc offset; bytes = [] }
 
--- the spans of these frames, of which this one is being written: each segment that is left is filled, the next one is begun
+-- the spans of these frames, this one being written: each segment that is left is filled, the next one is begun
 abbrev pub spans_from : Settings → Span → List PlacedFrame → List Span
 spans_from s r [] = r ∷ []
 spans_from s r (p ∷ ps) =

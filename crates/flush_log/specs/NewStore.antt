@@ -15,7 +15,7 @@ use Rattle.flush_log.specs.Slot.{Slot, slot_size, slot_place, slot_bytes}
 abbrev pub first_frame : Frame
 first_frame = record { pid = 0; content = FullLeaf Whole [] [] }
 
--- where the log ends: behind the header of segment 0 and that frame (16 + 17)
+-- where the log ends: after the header of segment 0 and that frame (16 + 17)
 abbrev pub first_tail : ℕ
 first_tail = 33
 

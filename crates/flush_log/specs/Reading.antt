@@ -35,12 +35,13 @@ abbrev pub with_first : Frame → Result (List Frame) ℕ → Result (List Frame
 with_first f (Ok fs) = Ok (f ∷ fs)
 with_first f (Err left) = Err left
 
--- the frame that was read, and what is read behind it; where none was, how many bytes are left
+-- the frame that was read, and what is read after it; where none was, how many bytes are left
 abbrev pub read_then : ℕ → Option (Frame × Bytes) → (Bytes → Result (List Frame) ℕ) → Result (List Frame) ℕ
 read_then left None next = Err left
 read_then left (Some read) next = with_first read.0 (next read.1)
 
--- the frames, at most so many, that bytes are up to their end; or how many bytes are left where there is neither a frame nor the end
+-- the frames, up to a number of them, that bytes are up to their end; or how many bytes are left where there is neither a frame
+-- nor the end
 abbrev pub read_frames : Format → (Bytes → Bool) → ℕ → Bytes → Result (List Frame) ℕ
 read_frames g is_end zero bytes = if is_end bytes then Ok [] else Err (length bytes)
 read_frames g is_end (suc most) bytes =
@@ -50,12 +51,12 @@ read_frames g is_end (suc most) bytes =
 abbrev pub all_in : ℕ → List Frame → List Found
 all_in n fs = map (λ f. record { segment = n; frame = f }) fs
 
--- frames of segment n, which has so many bytes; or the fault, at the offset behind which so many of them are left
+-- frames of segment n, which has `long` bytes; or the fault, at the offset after which `left` bytes follow
 abbrev pub in_segment : ℕ → ℕ → Result (List Frame) ℕ → Result (List Found) Fault
 in_segment n long (Ok fs) = Ok (all_in n fs)
 in_segment n long (Err left) = Err (BadFrame n (long - left))
 
--- what these bytes of segment n hold: the frames behind its header, up to their end
+-- what these bytes of segment n hold: the frames after its header, up to their end
 abbrev pub read_segment : Format → (Bytes → Bool) → ℕ → Bytes → Result (List Found) Fault
 read_segment g is_end n bytes =
     if starts_with nat_eq bytes (segment_header n)
@@ -70,7 +71,7 @@ followed_by (Ok found) (Ok more) = Ok (found ++ more)
 followed_by (Ok found) (Err fault) = Err fault
 followed_by (Err fault) next = Err fault
 
--- what k segments hold from the head on, behind each of which is another
+-- what k segments hold from the head on, each of them followed by another
 abbrev pub read_earlier : Format → Bytes → ℕ → ℕ → Result (List Found) Fault
 read_earlier g file head zero = Ok []
 read_earlier g file head (suc k) = followed_by (read_earlier g file head k) (read_segment g is_padding (head + k) (segment_bytes g.settings file (head + k)))

@@ -1,4 +1,4 @@
--- A disk of which a record is kept: the bytes that it had at first, and the calls that were made since, in their order.
+-- A disk with a record: the bytes that it had at first, and the calls that were made since, in their order.
 use Rattle.std.specs.Prelude.{◌≡◌, ◌⊎◌, ℕ, ◌+◌, ◌-◌, ◌<◌, ◌≤◌, true, List, ◌++◌, length, map, take, replicate}
 use Rattle.std.specs.List.{AllByRecursion}
 use Rattle.keys.specs.Bytes.{Bytes}
@@ -27,12 +27,12 @@ view_of file calls = record {
   left_since = λ t c. LeftNow file calls c ⊎ LeftEarlier file calls t c;
 }
 
--- the place behind the last byte that a call writes
+-- the place after the last byte that a call writes
 abbrev pub end_of_call : Call → ℕ
 end_of_call (Write at bytes) = at + length bytes
 end_of_call Sync = 0
 
--- each write lies within so many bytes
+-- each write lies within n bytes
 abbrev pub AreCalls : ℕ → List Call → Type 0
 AreCalls n calls = AllByRecursion (λ call. end_of_call call ≤ n) calls
 
@@ -44,6 +44,6 @@ call_of recorded.Sync = Sync
 abbrev pub calls_of : {A : Type 0} → List (RecordedCall A) → List Call
 calls_of calls = map call_of calls
 
--- a file of n bytes, of which these are the first and all others are zeros
+-- a file of n bytes: these are the first, and all others are zeros
 abbrev pub with_zeros : ℕ → Bytes → Bytes
 with_zeros n first = first ++ replicate (n - length first) 0

@@ -13,7 +13,7 @@ segment_magic = codes "BWSG"
 abbrev pub segment_header : ℕ → Bytes
 segment_header n = segment_magic ++ ((number 4).spell 0 ++ (number 8).spell n)
 
--- where the segments begin in a file: behind the settings block and the slots
+-- where the segments begin in a file: after the settings block and the slots
 abbrev pub segments_begin : ℕ
 segments_begin = 512
 

@@ -17,7 +17,7 @@ use Rattle.frame_codec.specs.Frame.{is_pid}
 use Rattle.flush_log.specs.Segments.{last_segment}
 use Rattle.flush_log.specs.SettingsBlock.{number_at}
 
--- what a slot says of the store: how often it was committed, the first segment of the log, the position where the log ends,
+-- what a slot holds of the store: how often it was committed, the first segment of the log, the position where the log ends,
 -- the root, how many levels there are, and the version of the log
 pub record Slot : Type 0 where
   pub sequence : ℕ
@@ -27,18 +27,18 @@ pub record Slot : Type 0 where
   pub height : ℕ
   pub version : Version
 
--- by what the frames of a log with this slot are read
+-- the format by which the frames of a log with this slot are read
 abbrev pub format_of : Settings → Slot → Format
 format_of s t = record { settings = s; version = t.version }
 
 -- ---- bytes
 
--- the number by which a slot tells the version
+-- the number of the version, as a slot has it
 abbrev pub version_number : Version → ℕ
 version_number One = 0
 version_number Two = 2
 
--- the version whose number this is. Any other number is read as the first one's, and so isn't spelled by what is read.
+-- the version with this number. Any other number decodes to the first one, which doesn't encode to it.
 abbrev pub version_in : ℕ → Version
 version_in n = if n == 2 then Two else One
 
@@ -58,7 +58,7 @@ slots_begin = 128
 abbrev pub slot_place : ℕ → ℕ
 slot_place n = slots_begin + slot_size * (n % 2)
 
--- the bytes behind the gate: zeros, the numbers, and zeros
+-- the bytes after the gate: zeros, the numbers, and zeros
 abbrev pub slot_body : Slot → Bytes
 slot_body t =
     replicate 7 0
@@ -83,11 +83,11 @@ slot_in bytes = record {
 
 -- ---- a slot that a store with these settings may have
 
--- a position at which a log may end: at a segment's end, or behind a byte of a frame
+-- a position at which a log may end: at a segment's end, or after a byte of a frame
 abbrev pub is_tail : Settings → ℕ → Bool
 is_tail s tail = tail % s.seg_size == 0 || nat_lt segment_header_size (tail % s.seg_size)
 
--- slot n may say this
+-- a store may have this as slot n
 abbrev pub is_slot : Settings → ℕ → Slot → Bool
 is_slot s n t =
     is_in_limits 1 greatest t.sequence && t.sequence % 2 == n % 2
@@ -101,18 +101,18 @@ is_slot s n t =
 abbrev pub is_open : ℕ → Bytes → Bool
 is_open n disk = slice_index disk (slot_place n) == 1
 
--- the slot that these bytes of an open slot n spell, byte for byte, where they are one that it may say
+-- the slot that these bytes of an open slot n spell, byte for byte, where a store may have it there
 abbrev pub read_open : Settings → ℕ → Bytes → Result (Option Slot) Fault
 read_open s n bytes =
     if bytes_eq (slot_bytes (slot_in bytes)) bytes && is_slot s n (slot_in bytes)
     then Ok (Some (slot_in bytes))
     else Err NoSlot
 
--- what slot n of a disk says: nothing where it is closed
+-- slot n of a disk, decoded: nothing where it is closed
 abbrev pub read_slot : Settings → ℕ → Bytes → Result (Option Slot) Fault
 read_slot s n disk = if is_open n disk then read_open s n (take slot_size (drop (slot_place n) disk)) else Ok None
 
--- of what two slots say, what that with the greater sequence number does
+-- of two slots the one with the greater sequence number
 abbrev pub newer : Result (Option Slot) Fault → Result (Option Slot) Fault → Result Slot Fault
 newer (Err fault) other = Err fault
 newer (Ok said) (Err fault) = Err fault

@@ -10,7 +10,7 @@ use Rattle.frame_codec.specs.Reading.{read_frame}
 use Rattle.flush_log.specs.Reading.{Found, is_at_tail, is_padding, read_segment, read_earlier}
 use Rattle.flush_log.specs.Segments.{segment_header, segment_bytes, last_segment, bytes_in_use}
 
--- the bytes are the header of segment n, these frames and so many zeros
+-- the bytes are the header of segment n, these frames and `zeros` zeros
 pub record AreFrames (g : Format) (n : ℕ) (fs : List Frame) (zeros : ℕ) (bytes : Bytes) : Type 0 where
   pub within : AllByRecursion (λ f. is_frame g f ≡ true) fs
   pub spelled : bytes ≡ segment_header n ++ (flat_map bytes_of fs ++ replicate zeros 0)
@@ -26,7 +26,7 @@ pub record IsBrokenAt (g : Format) (is_end : Bytes → Bool) (n offset : ℕ) (b
   pub no_frame : read_frame g behind ≡ None
 
 -- the segments from the head up to n hold this, and segment n has the fault; it is the last one, which is read up to the tail, or has
--- another one behind it
+-- another one after it
 pub record IsFirstFault (g : Format) (file : Bytes) (head tail n : ℕ) (fault : Fault) : Type 0 where
   pub before : List Found
   pub from_head : head ≤ n

@@ -40,7 +40,7 @@ pub fn is_gate_open<D: Disk>(disk: &mut D, sequence: u64) -> Result<bool, DiskFa
     Ok(gate[0] == 1)
 }
 
-/// One write, made to last.
+/// A write and a sync.
 pub fn write_through<D: Disk>(disk: &mut D, at: u64, bytes: &[u8]) -> Result<(), DiskFault>
     requires { at + length bytes.now ≤ (D.view disk.old).size }
     ensures kept { Kept (D.view disk.old) (D.view disk.new) }
@@ -72,7 +72,7 @@ pub fn close_gate<D: Disk>(disk: &mut D, sequence: u64, is_open: bool) -> Result
     Ok(())
 }
 
-/// Writes a slot behind its closed gate, and then opens the gate. A crash leaves the slot closed, or all of it.
+/// Writes a slot while its gate is closed, and then opens the gate. A crash leaves the slot closed, or all of it.
 pub fn write_slot<D: Disk>(disk: &mut D, slot: &Slot) -> Result<(), DiskFault>
     requires { segments_begin ≤ (D.view disk.old).size }
     ensures kept { Kept (D.view disk.old) (D.view disk.new) }
@@ -90,7 +90,7 @@ pub fn write_slot<D: Disk>(disk: &mut D, slot: &Slot) -> Result<(), DiskFault>
     write_through(disk, gate, &bytes[..1])
 }
 
-// Writes the frames of a text behind the tail of a log, as `write_text` does, and nothing where there are none.
+// Writes the frames of a text after the tail of a log, as `write_text` does, and nothing where there are none.
 fn write_images<D: Disk>(
     disk: &mut D,
     settings: &Settings,
@@ -118,7 +118,7 @@ fn write_images<D: Disk>(
     write_text(disk, settings, tail, images, buffer)
 }
 
-// The first half of a commit: the gate is closed, and the text is written and made to last.
+// The first half of a commit: the gate is closed, and the text is written and synced.
 fn write_hidden<D: Disk>(
     disk: &mut D,
     settings: &Settings,
@@ -150,8 +150,8 @@ fn write_hidden<D: Disk>(
     disk.sync()
 }
 
-/// Writes the frames of a text behind the tail of a log, and then makes a slot the store's: the slot's gate is closed where it
-/// stands open, the frames are written and made to last, then the slot's other bytes, and then its gate is opened. `is_open` says
+/// Writes the frames of a text after the tail of a log, and then makes a slot the store's: the slot's gate is closed where it
+/// stands open, the frames are written and synced, then the slot's other bytes, and then its gate is opened. `is_open` says
 /// whether the gate stands open; `buffer` is where a segment's bytes are gathered. Where a call fails the rest is not made.
 ///
 /// It serves a flush and a clean. The text of a clean may be empty: then nothing is written but the slot.

@@ -93,9 +93,9 @@ pub fn a_new_store_is_one_empty_leaf()
         (log s (disk_of_new s disk) first_slot ≡ Ok (record { segment = 0; frame = first_frame } ∷ [])) }
 {}
 
-/// Machine numbers of 64 bits suffice for a log: with a head and a tail that a slot may have, all that is computed on the way
-/// stays below 2^63, the tail behind a text of up to 2^41 frames too, and a place in the file below 2^37. Whether they are such is
-/// told by numbers that don't pass 2^64 either, be the head as great as it may.
+/// Machine numbers of 64 bits suffice for a log: with a head and a tail that a slot may have, all that is computed on the way stays
+/// below 2^63, the tail after a text of up to 2^41 frames too, and a place in the file below 2^37. The check that they are such
+/// doesn't pass 2^64 either, however great the head is.
 pub fn a_log_has_room_for_its_positions()
     ensures test { (s : Settings) (head tail : ℕ) → first_bad_field s ≡ None →
         (head * s.seg_size + segment_header_size < tail) ↔

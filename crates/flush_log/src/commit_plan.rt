@@ -37,7 +37,7 @@ impl Model for Commit {
     ghost view = { λ m. record { images = m.images.items; tail = m.tail; slot = m.slot; room = length m.buffer.items } };
 }
 
-// So many zeros. They are copied block by block, since it takes many times as long to push them one by one.
+// `len` zeros. They are copied block by block, since it takes many times as long to push them one by one.
 fn zeros(alloc: Global, len: usize) -> Result<Vec<u8>, AllocError>
     ensures { IfOk result (λ zeros. length zeros.items ≡ len) }
 {

@@ -152,7 +152,7 @@ impl<A: Allocator + Copy> CrashDisk<A> {
     }
 }
 
-// Counts a write or a sync, and says where it lies.
+// Counts a write or a sync, and returns where it lies.
 fn next_moment(stops_at: Option<u64>, calls: &mut u64) -> Moment
     ensures counted { calls.new ≡ min (calls.old + 1) (2 ^ 64 - 1) }
     ensures moment { result ≡ moment_at stops_at calls.new }

@@ -26,7 +26,7 @@ pub(crate) fn count_failure(failures: &mut u64) -> DiskFault
     DiskFault
 }
 
-// What is answered for this answer of the disk below: its failures are counted here.
+// Passes on the answer of the disk below, and counts its failures here.
 pub(crate) fn counted(failures: &mut u64, answer: Result<(), DiskFault>) -> Result<(), DiskFault>
     ensures same { result ≡ answer }
     ensures failed { CountsFailure result failures.old failures.new }
@@ -39,7 +39,7 @@ pub(crate) fn counted(failures: &mut u64, answer: Result<(), DiskFault>) -> Resu
 
 /// A disk of a fixed length. Its calls want memory, time and luck, so each may fail.
 ///
-/// Whether a disk is honest is a fact of the value, which no call changes: what is said of bytes and of crashes holds of an
+/// Whether a disk is honest is a fact of the value, which no call changes: the clauses on bytes and on crashes hold of an
 /// honest disk. Any disk keeps its length and counts its failures.
 pub trait Disk {
     // What the disk is now.
@@ -79,7 +79,7 @@ pub trait Disk {
         ensures crash { IsTrue (view self.old).is_honest →
             Leaves (view self.old) (view self.new) (Torn at (length bytes.now)) };
 
-    /// Makes all that was written last: a crash then leaves what a read gives. What a read gives stays, and an `Err`
+    /// Makes all that was written durable: a crash then leaves what a read gives. What a read gives stays, and an `Err`
     /// settles nothing.
     fn sync(&mut self) -> Result<(), DiskFault>
         ensures kept { Kept (view self.old) (view self.new) }

@@ -1,4 +1,4 @@
-//! A disk for tests of which calls fail.
+//! A disk for tests, on which calls fail.
 ghost use Rattle.std.specs.Prelude.{◌≡◌, ◌⊎◌, ℕ, ◌+◌, ◌-◌, ◌^◌, ◌≤◌, ◌++◌, min, true, false, IsTrue, Ok, length, take, drop, replicate, refl, OnOk, OnErr};
 ghost use Rattle.std.proofs.Common.{inl, ⊎_elim, sym, ap, ◌∙◌, arith, length-append};
 ghost use Rattle.std.proofs.lemmas.List.{length-replicate};
@@ -21,7 +21,7 @@ pub enum Failing {
     From(u64),
 }
 
-/// A disk in memory of which calls fail as is wanted: for tests of what a store answers and leaves then. A write that fails so has
+/// A disk in memory whose calls fail as is wanted: for tests of what a store answers and leaves then. A write that fails so has
 /// written its first bytes, as many as `new` was given; a sync that fails does nothing. Where memory is refused, a call fails that was
 /// not wanted to, and nothing is written. The disk is honest, so all that is promised of a store on an honest disk holds on it.
 ///
@@ -50,7 +50,7 @@ pub struct FaultDisk<A: Allocator + Copy> {
 }
 
 impl<A: Allocator + Copy> FaultDisk<A> {
-    /// This disk, of which such calls fail; a write that does has written its first `written` bytes, or all of them if there are fewer.
+    /// This disk, whose calls fail so; a write that fails has written its first `written` bytes, or all of them if there are fewer.
     pub fn new(disk: MemDisk<A>, failing: Failing, written: usize) -> Self
         ensures same { Same (⟦<MemDisk<A> as Disk>⟧.view disk) (⟦<FaultDisk<A> as Disk>⟧.view result) }
         ensures kept { Kept (⟦<MemDisk<A> as Disk>⟧.view disk) (⟦<FaultDisk<A> as Disk>⟧.view result) }
@@ -85,7 +85,7 @@ impl<A: Allocator + Copy> FaultDisk<A> {
     }
 }
 
-// Counts a write or a sync, and says whether it is one that fails.
+// Counts a write or a sync, and returns whether it is one that fails.
 fn is_to_fail(failing: Failing, calls: &mut u64) -> bool
     ensures counted { calls.new ≡ min (calls.old + 1) (2 ^ 64 - 1) }
     ensures wanted { result ≡ is_wanted failing calls.new }

@@ -34,7 +34,7 @@ impl Model for Image {
 }
 
 impl Image {
-    // An image without frames, with room for the ends of so many.
+    // An image without frames, with room for the ends of `frames` of them.
     pub(crate) fn with_capacity(alloc: Global, frames: usize) -> Result<Self, AllocError>
         ensures { IfOk result (λ image. image ≡ []) }
     {
@@ -55,7 +55,7 @@ impl Image {
         }
     }
 
-    /// Appends a frame that is spelled already, as where a clean carries one on. `Err` where memory was refused.
+    /// Appends an encoded frame, as where a clean carries one on. `Err` where memory was refused.
     pub fn push(&mut self, frame: &[u8]) -> Result<(), AllocError>
         ensures ok { OnOk result (self.new ≡ self.old ++ frame.now ∷ []) }
     {
@@ -99,7 +99,7 @@ impl Image {
         Ok(())
     }
 
-    // Appends the frame that says that there is no such page.
+    // Appends the frame of a page id without a page.
     pub(crate) fn push_free(&mut self, pid: Pid) -> Result<(), AllocError>
         ensures ok { OnOk result (self.new ≡ self.old ++ bytes_of (record { pid = pid; content = Free }) ∷ []) }
         ensures words { OnOk result (HasWords (record { pid = pid; content = Free })) }

@@ -269,7 +269,7 @@ fn whole_image<V: Kind<Global>>(
     Ok(image)
 }
 
-// The image of a page of which the log has the base and so many of the oldest runs: its other runs.
+// The image of a page whose base and oldest `kept` runs the log has: its other runs.
 fn newer_image<V: Kind<Global>>(
     alloc: Global,
     pid: Pid,
@@ -286,7 +286,7 @@ fn newer_image<V: Kind<Global>>(
     Ok(image)
 }
 
-// Appends the runs behind so many of the oldest, the oldest of them first.
+// Appends the runs after the oldest `kept`, the oldest of them first.
 fn push_runs<V: Kind<A>, A: Allocator + Copy>(
     image: &mut Image,
     pid: Pid,

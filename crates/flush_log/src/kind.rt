@@ -1,4 +1,4 @@
-//! The two kinds of page, by what their entries have: by which functions their frames are written.
+//! How the frames of the two kinds of page are written.
 use delta_chain::{Base, Run};
 use frame_codec::{
     Spelling, write_delta_index, write_delta_leaf, write_full_index, write_full_leaf,
@@ -14,7 +14,7 @@ pub(crate) trait Kind<A: Allocator>: Drop {
     ghost use Rattle.frame_codec.specs.Frame.{Content, bytes_of};
     ghost use Rattle.frame_codec.specs.Sized.{IsSized, HasWords};
 
-    // What a frame says of such a page: a base under a low key, with its keys spelled in one way or the other, and a run.
+    // The content of a frame of such a page: a base under a low key, with its keys spelled in one way or the other, and a run.
     ghost full: { spellings.Spelling → Bytes → Pairs Self → Content };
 
     ghost delta: { Changes Self → Content };

@@ -21,13 +21,13 @@ ghost use Rattle.flush_log.specs.Reading.{Found, all_in, is_at_tail, is_padding,
 ghost use Rattle.flush_log.specs.Segments.{segment_header, segments_begin, disk_size, segment_bytes, HasSegments, IsInLog, last_segment};
 ghost use Rattle.flush_log.specs.Standing.{AreFrames, IsBrokenAt, IsFirstFault};
 
-/// Each frame that a store may have fits into a segment, behind its header.
+/// Each frame that a store may have fits into a segment, after its header.
 pub fn a_frame_fits_into_a_segment()
     ensures { (g : Format) (f : Frame) → let s = g.settings in first_bad_field s ≡ None → is_frame g f ≡ true →
         segment_header_size + length (bytes_of f) ≤ s.seg_size }
 {}
 
-/// A text that is written from the tail on is found by the next reading, in its order, behind what was found before: where
+/// A text that is written from the tail on is found by the next reading, in its order, after what was found before: where
 /// it needs no more segments than there are. A clean may use them all, and a flush leaves one.
 pub fn a_text_is_read_back()
     ensures { (g : Format) (file : Bytes) (head tail : ℕ) (found : List Found) (text : List Frame) →
@@ -47,7 +47,7 @@ pub fn each_frame_stands_at_its_place()
         (placed s tail text) }
 {}
 
-/// Two files that agree at the places of the log have the same log, whatever else they hold: behind the tail, in segments that are
+/// Two files that agree at the places of the log have the same log, whatever else they hold: after the tail, in segments that are
 /// free, and before all segments.
 pub fn what_is_behind_the_tail_is_hidden()
     ensures hidden { (g : Format) (file other : Bytes) (head tail : ℕ) →
@@ -106,9 +106,9 @@ pub fn a_text_moves_the_tail()
         (is_full_for_clean s head (tail_after s tail text) ≡ true) × (is_full_for_flush s head (tail_after s tail text) ≡ true) }
 {}
 
-/// What is found in a segment stands there: its header, the frames, and zeros up to its end, or in the last one the tail. What
-/// stands so is found. Where a reading tells that a header or a frame is bad, the header isn't there, or neither a frame nor the
-/// end stands at that offset, behind good frames.
+/// What is found in a segment stands there: its header, the frames, and zeros up to its end, or in the last one the tail. What stands
+/// so is found. Where a reading reports a bad header or frame, the header isn't there, or neither a frame nor the end stands at that
+/// offset, after good frames.
 pub fn a_segment_is_read_as_it_stands()
     ensures earlier { (g : Format) (n : ℕ) (bytes : Bytes) (found : List Found) → AreBytes bytes →
         read_segment g is_padding n bytes ≡ Ok found →
@@ -127,7 +127,7 @@ pub fn a_segment_is_read_as_it_stands()
         read_segment g is_end n bytes ≡ Err (BadFrame m offset) → (m ≡ n) × IsBrokenAt g is_end n offset bytes }
 {}
 
-/// The fault that a reading answers is that of the first segment that has one.
+/// A reading reports the fault of the first segment that has one.
 pub fn the_first_fault_is_answered()
     ensures { (g : Format) (file : Bytes) (head tail : ℕ) (fault : Fault) →
         let s = g.settings in first_bad_field s ≡ None → head * s.seg_size < tail →
@@ -141,8 +141,8 @@ pub fn a_log_of_version_one_is_read_as_one_of_version_two()
         log_between (record { settings = s; version = Two }) file head tail ≡ Ok found }
 {}
 
-/// The text of an upgrade is that of a flush of version 2, as if the log had another page of each page id of which it has one, and it
-/// leaves the same tree. There is always something to write.
+/// The text of an upgrade is that of a flush of version 2, as if the log had another page under each page id that it has a page of,
+/// and it leaves the same tree. There is always something to write.
 pub fn an_upgrade_is_a_flush_of_outdated_pages()
     ensures text { (t : Tree) → AreLogsTrue t → upgrade_text t ≡ flush_text Two (outdated t) }
     ensures left { (t : Tree) → flushed (outdated t) ≡ flushed t }

@@ -15,7 +15,7 @@ use keys::{Fault, Settings};
 use std::marker::Model;
 
 // The end of a log: the segment, and the offset in it where the next frame stands if it fits in there, both with the header
-// of a segment that is to be begun; and the position behind the last frame.
+// of a segment that is to be begun; and the position after the last frame.
 #[derive(Clone, Copy)]
 struct Reached {
     segment: u64,
@@ -47,7 +47,7 @@ fn from_tail(settings: &Settings, tail: u64) -> Reached
     }
 }
 
-// The end behind one more frame of so many bytes.
+// The end after one more frame of `size` bytes.
 fn behind_frame(settings: &Settings, end: Reached, size: u64) -> Reached
     requires checked { first_bad_field settings.now ≡ None }
     requires fits { segment_header_size + size ≤ settings.now.seg_size }
@@ -69,7 +69,7 @@ fn behind_frame(settings: &Settings, end: Reached, size: u64) -> Reached
     }
 }
 
-// The end behind the frames of an image, or nothing where it is above the greatest position.
+// The end after the frames of an image, or nothing where it is above the greatest position.
 fn behind_image(settings: &Settings, end: Reached, image: &Image) -> Option<Reached>
     requires checked { first_bad_field settings.now ≡ None }
     requires fits { FitSegments settings.now image.now }

@@ -55,7 +55,7 @@ impl<A: Allocator + Copy> MemDisk<A> {
         })
     }
 
-    // A disk that these bytes were written to, and made to last.
+    // A disk that these bytes were written to, and synced.
     pub(crate) fn holding(alloc: A, bytes: Vec<u8, A>) -> Result<Self, AllocError>
         ensures len { IfOk result (λ disk. disk.len ≡ length bytes.items) }
         ensures kept { IfOk result (λ disk. disk.kept.items ≡ bytes.items) }
@@ -144,7 +144,7 @@ impl<A: Allocator + Copy> MemDisk<A> {
     }
 }
 
-// Reads from a place on, in a file of this length of which the first bytes are kept and all others are zeros.
+// Reads from a place on, in a file of this length whose first bytes are kept; all others are zeros.
 fn read_kept(kept: &[u8], len: usize, at: usize, buf: &mut [u8])
     requires short { length kept.now ≤ len }
     requires within { at + length buf.old ≤ len }

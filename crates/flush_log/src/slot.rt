@@ -29,7 +29,7 @@ pub struct LogEnds {
     pub tail: u64,
 }
 
-/// What a slot says of the store. Contracts see it as the definitions' slot.
+/// The fields of a slot. Contracts see it as the definitions' slot.
 #[derive(Clone, Copy, Debug, PartialEq, Eq)]
 pub struct Slot {
     /// The log.
@@ -64,7 +64,7 @@ impl Model for Slot {
     } };
 }
 
-// The number by which a slot tells the version.
+// The number of the version, as a slot has it.
 fn version_number(version: Version) -> u32
     ensures { result ≡ version_number version }
 {
@@ -74,7 +74,7 @@ fn version_number(version: Version) -> u32
     }
 }
 
-// The version whose number this is. Any other number is read as the first one's, and isn't spelled by what is read.
+// The version with this number. Any other number decodes to the first one, which doesn't encode to it.
 fn version_in(number: u32) -> Version
     ensures { result ≡ version_in number }
 {
@@ -85,7 +85,7 @@ fn version_in(number: u32) -> Version
     }
 }
 
-/// The bytes of the open slot that says this.
+/// Encodes this slot, open.
 pub fn slot_bytes(slot: &Slot) -> [u8; SLOT_SIZE]
     ensures { result ≡ slot_bytes slot.now }
 {
@@ -100,8 +100,7 @@ pub fn slot_bytes(slot: &Slot) -> [u8; SLOT_SIZE]
     bytes
 }
 
-/// The slot whose numbers stand at their places in these bytes, of which nothing is asked: `read_slot` tells whether they are
-/// those of a slot that a store may have.
+/// Decodes a slot's fields unchecked; `read_slot` checks that a store may have them.
 pub fn slot_in(bytes: &[u8]) -> Slot
     requires { length bytes.now ≡ slot_size }
     ensures said { result ≡ slot_in bytes.now }
@@ -119,7 +118,7 @@ pub fn slot_in(bytes: &[u8]) -> Slot
     }
 }
 
-// Whether the tail lies behind the head segment's header. The head may be any number, so it is told by a quotient.
+// Whether the tail lies after the head segment's header. `head` is unchecked, and `head * seg_size` could overflow, so it divides.
 fn is_behind(settings: &Settings, head: u64, tail: u64) -> bool
     requires { first_bad_field settings.now ≡ None }
     ensures { result ≡ nat_lt (head * settings.now.seg_size + segment_header_size) tail }
@@ -128,7 +127,7 @@ fn is_behind(settings: &Settings, head: u64, tail: u64) -> bool
         && head <= (tail - (SEGMENT_HEADER_SIZE + 1)) / u64::from(settings.seg_size)
 }
 
-// Whether a log may end at this position: at a segment's end, or behind a byte of a frame.
+// Whether a log may end at this position: at a segment's end, or after a byte of a frame.
 fn is_tail(settings: &Settings, tail: u64) -> bool
     requires { first_bad_field settings.now ≡ None }
     ensures { result ≡ is_tail settings.now tail }
@@ -166,14 +165,14 @@ fn is_sequence(n: u64, sequence: u64) -> bool
     1 <= sequence && sequence <= GREATEST && sequence % 2 == n % 2
 }
 
-// Whether a tree may have so many levels.
+// Whether a tree may have `height` levels.
 fn is_height(height: u32) -> bool
     ensures { result ≡ is_in_limits 1 most_levels height }
 {
     1 <= height && height <= 64
 }
 
-// Whether slot `n` of a store with these settings may say this.
+// Whether a store with these settings may have this as slot `n`.
 fn is_slot(settings: &Settings, n: u64, slot: &Slot) -> bool
     requires checked { first_bad_field settings.now ≡ None }
     requires root { slot.now.root < 2 ^ 64 }
@@ -184,7 +183,7 @@ fn is_slot(settings: &Settings, n: u64, slot: &Slot) -> bool
         && is_height(slot.height)
 }
 
-/// What slot `n` says by its 64 bytes: nothing where its gate is closed. Refuses an open one that is not well formed, with
+/// Decodes slot `n` from its 64 bytes: nothing where its gate is closed. Refuses an open one that is not well formed, with
 /// `Fault::NoSlot`.
 pub fn read_slot(settings: &Settings, n: u64, bytes: &[u8]) -> Result<Option<Slot>, Fault>
     requires checked { first_bad_field settings.now ≡ None }
@@ -203,8 +202,7 @@ pub fn read_slot(settings: &Settings, n: u64, bytes: &[u8]) -> Result<Option<Slo
     }
 }
 
-/// Of what the two slots say, what that with the greater sequence number does. The first fault is answered, and
-/// `Fault::NoSlot` where none is open.
+/// Of the two slots the one with the greater sequence number. Returns the first fault, and `Fault::NoSlot` where none is open.
 pub fn newer(
     first: Result<Option<Slot>, Fault>,
     second: Result<Option<Slot>, Fault>,

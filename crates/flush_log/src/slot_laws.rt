@@ -24,7 +24,7 @@ pub fn a_disk_has_the_settings_of_its_block()
 {}
 
 /// A slot that is well formed is read back from its 64 bytes, whatever else is on the disk; what is read of an open slot
-/// stands there and is well formed; and of a closed one nothing is read, whatever stands behind its gate.
+/// stands there and is well formed; and of a closed one nothing is read, whatever stands after its gate.
 pub fn a_slot_is_read_back()
     ensures length { (t : Slot) → length (slot_bytes t) ≡ slot_size }
     ensures read { (s : Settings) (n : ℕ) (t : Slot) (disk : Bytes) → first_bad_field s ≡ None → is_slot s n t ≡ true →

@@ -64,9 +64,9 @@ fn taken(text: Text, logged: Logged) -> Logged
     }
 }
 
-/// The text of a flush or of an upgrade: an image for each page id of which something is to be written, by rising number. With it, each
-/// page id in the text is known to be of 64 bits, so that its frames are such as a store may have. The crew makes the images; which crew
-/// it is changes nothing of what is answered.
+/// The text of a flush or of an upgrade: an image for each page id with something to be written, by rising number. With it, each page id
+/// in the text is known to be of 64 bits, so that its frames are such as a store may have. The crew makes the images; the answer is the
+/// same for every crew.
 pub fn images(
     rt: &(impl Threads + Sync),
     crew: Crew,
@@ -100,7 +100,7 @@ pub fn is_all_written(tree: &Tree<Global>) -> bool
     }
 }
 
-// Whether nothing is to be written of these page ids.
+// Whether these page ids have nothing to be written.
 fn are_written(tree: &Tree<Global>, pids: &[u64]) -> bool
     requires home { AreAllHome tree.now }
     requires proper { IsOfStore (tree_of tree.now) }
@@ -115,7 +115,7 @@ fn are_written(tree: &Tree<Global>, pids: &[u64]) -> bool
     true
 }
 
-// Whether nothing is to be written of any page id.
+// Whether no page id has anything to be written.
 fn are_all_written(tree: &Tree<Global>) -> bool
     requires home { AreAllHome tree.now }
     requires proper { IsOfStore (tree_of tree.now) }
@@ -130,7 +130,7 @@ fn are_all_written(tree: &Tree<Global>) -> bool
     true
 }
 
-// The jobs of all page ids of which something is to be written.
+// The jobs of all page ids with something to be written.
 fn due_jobs<'a>(
     alloc: Global,
     tree: &'a Tree<Global>,
@@ -162,7 +162,7 @@ fn rising(alloc: Global, numbers: &[u64]) -> Result<Vec<u64>, AllocError>
     Ok(rising)
 }
 
-// The jobs of these page ids of which something is to be written.
+// The jobs of those of these page ids with something to be written.
 fn jobs_of<'a>(
     alloc: Global,
     tree: &'a Tree<Global>,
@@ -185,7 +185,7 @@ fn jobs_of<'a>(
     Ok(jobs)
 }
 
-// The jobs of all page ids of which something is to be written.
+// The jobs of all page ids with something to be written.
 fn all_jobs<'a>(
     alloc: Global,
     tree: &'a Tree<Global>,

@@ -1,4 +1,4 @@
-//! The frames of a text written behind the tail of a log, one write for each segment.
+//! Writes the frames of a text after the tail of a log, with one write for each segment.
 ghost use Rattle.std.specs.Prelude.{◌≡◌, ℕ, ◌+◌, ◌-◌, ◌/◌, ◌%◌, ◌≤◌, List, ◌∷◌, [], ◌++◌, IsTrue, length, replicate, slice_range, None, IfOk, OnOk};
 ghost use Rattle.keys.specs.Limits.{first_bad_field};
 ghost use Rattle.keys.specs.Sizes.{segment_header_size};
@@ -29,7 +29,7 @@ struct Part {
     end: usize,
 }
 
-// Puts bytes behind what is gathered up to a place.
+// Puts bytes after what is gathered up to a place.
 fn put(buffer: &mut [u8], at: usize, bytes: &[u8])
     requires { at + length bytes.now ≤ length buffer.old }
     ensures { (from : ℕ) → from ≤ at →
@@ -38,7 +38,7 @@ fn put(buffer: &mut [u8], at: usize, bytes: &[u8])
     buffer[at..at + bytes.len()].copy_from_slice(bytes);
 }
 
-// Puts zeros behind what is gathered up to a place.
+// Puts zeros after what is gathered up to a place.
 fn pad(buffer: &mut [u8], at: usize, end: usize)
     requires rising { at ≤ end }
     requires within { end ≤ length buffer.old }
@@ -70,8 +70,8 @@ fn write_part<D: Disk>(
     disk.write_at(at, &buffer[part.from..part.end])
 }
 
-// Gathers a frame: behind what is gathered, where it fits into the segment. Else the segment is filled with zeros and written,
-// and the frame stands behind the header of the next one.
+// Gathers a frame: after what is gathered, where it fits into the segment. Else the segment is filled with zeros and written,
+// and the frame stands after the header of the next one.
 fn put_frame<D: Disk>(
     disk: &mut D,
     settings: &Settings,
@@ -173,7 +173,7 @@ fn begin_part(settings: &Settings, tail: u64, buffer: &mut [u8]) -> Part
     }
 }
 
-/// Writes the frames of a text behind the tail, one call for each segment: the header where a segment is begun, the frames,
+/// Writes the frames of a text after the tail, one call for each segment: the header where a segment is begun, the frames,
 /// and zeros to the end of a segment that is left. `buffer` is where a segment's bytes are gathered, and has room for one.
 /// Where a call fails the rest is not made.
 ///

@@ -39,7 +39,7 @@ turn-spelled {V = V} entry se (suc n) before bs es rest bytes h =
 
 -- ---- a base
 
--- the entries can be told, and their cells are read back
+-- the entries can be written, and their cells are read back
 abbrev pub AreReadBack : {V : Type 0} → Codec V → List (List ℕ × V) → Type 0
 AreReadBack cell es = AllByRecursion (λ e. (length e.0 < 256) × IsReadBack cell e.1) es
 

@@ -1,4 +1,4 @@
--- Entries read one behind the other: where reading has come to, and what comes of all.
+-- Entries read one after the other: where reading has come to, and what comes of all.
 use Rattle.std.proofs.Common.{◌≡◌, ℕ, zero, suc, ◌+◌, ◌<◌, ◌≤◌, Bool, true, false, ◌&&◌, nat_le, nat_lt, if◌then◌else◌, List, [], ◌∷◌, ◌++◌, length, Option, Some, None, refl, sym, ap, ◌∙◌, arith, append_assoc, length-append, le-leb, leb-true}
 use Rattle.std.proofs.lemmas.List.{append-nil}
 use Rattle.std.proofs.lemmas.Bool.{and_parts, lt-ltb}
@@ -35,7 +35,7 @@ module _ {X : Type 0} (ok : List X → Bool) where
   joined-bad built x None h = refl
   joined-bad built x (Some p) h = rw (h p.0) refl
 
-  -- where the next one, and those behind it, are read of these bytes
+  -- where the next one, and those after it, are read of these bytes
   module _ (built : List X) (here : Option (X × List ℕ)) (more : X → List ℕ → Option (List X × List ℕ)) where
     abbrev all_of : Option (X × List ℕ) → Option (List X × List ℕ)
     all_of o = read_on o (λ x rest. read_as (λ xs. x ∷ xs) (more x rest))
@@ -103,7 +103,7 @@ module _ {X : Type 0} (spelling : Spelling) (cell : Codec X) where
   base-long zero before bs es rest h = let e = (same_reading [] es bs rest (sym (base-none before bs) ∙ h)).0 in ap length (sym e)
   base-long (suc n) before bs es rest h = more_long n (base-long n) ((next_entry spelling cell before).read bs) es rest (sym (base-more before n bs) ∙ h)
 
--- two things that were read, one behind the other
+-- two things that were read, one after the other
 pub both-passed : {X Y : Type 0} (a : X → Bool) (b : Y → Bool) (c : Codec X) (d : Codec Y) (bs : List ℕ) (x : X) (behind : List ℕ) (y : Y) (rest : List ℕ)
     → read_where a (c.read bs) ≡ Some (x, behind) → read_where b (d.read behind) ≡ Some (y, rest) → read_where (λ (p : X × Y). a p.0 && b p.1) ((both c d).read bs) ≡ Some ((x, y), rest)
 both-passed {X = X} {Y = Y} a b c d bs x behind y rest h k =
@@ -166,7 +166,7 @@ module _ {X : Type 0} (s : Settings) (short : X → Bool) (spelling : Spelling) 
     abbrev pub read_entries : Option (List (List ℕ × X) × List ℕ)
     read_entries = read_where (are_entries s short) (read_base spelling cell low count start)
 
-    -- so many were read, and are within the settings; the rest stands in these bytes
+    -- the first `at` were read, and are within the settings; the rest stands in these bytes
     pub record IsReadUpTo (at : ℕ) (built : List (List ℕ × X)) (now : List ℕ) : Type 0 where
       pub left : ℕ
       pub all : at + left ≡ count
@@ -203,7 +203,7 @@ module _ {X : Type 0} (s : Settings) (short : X → Bool) (spelling : Spelling) 
       abbrev next_read : Option ((List ℕ × X) × List ℕ)
       next_read = (next_entry spelling cell before).read now
 
-      -- and behind an entry
+      -- and after an entry
       abbrev read_behind : ℕ → List ℕ × X → List ℕ → Option (List (List ℕ × X) × List ℕ)
       read_behind n e rest = read_base spelling cell e.0 n rest
 

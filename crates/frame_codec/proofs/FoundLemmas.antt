@@ -30,7 +30,7 @@ module _ (g : Format) (bs : List ℕ) (kind len pid : ℕ) (body : List ℕ) (by
   abbrev fits : Content → Bool
   fits c = len == 8 + length (content_bytes c)
 
-  -- what the code reads behind the header
+  -- what the code reads after the header
   abbrev pub read_allowed : Option (Frame × List ℕ)
   read_allowed = read_as made (read_where (is_allowed g) (read_content kind body))
 

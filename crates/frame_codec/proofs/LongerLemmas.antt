@@ -1,4 +1,4 @@
--- What is read of bytes is read of longer bytes too: a reader looks at no byte behind what it reads. And nothing is read where
+-- What is read of bytes is read of longer bytes too: a reader looks at no byte after what it reads. And nothing is read where
 -- a byte 0 stands.
 use Rattle.std.proofs.Common.{◌≡◌, ℕ, zero, suc, ◌+◌, ◌*◌, ◌^◌, ◌≤◌, Bool, true, false, ◌==◌, nat_le, if◌then◌else◌, List, [], ◌∷◌, ◌++◌, length, take, drop, Option, Some, None, refl, ap, ◌∙◌, arith, length-append, le-leb, leb-true}
 use Rattle.std.proofs.lemmas.List.{take-append-le, drop-append-le}

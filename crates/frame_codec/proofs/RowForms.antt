@@ -26,7 +26,7 @@ one = record { settings = S; version = One }
 abbrev pub two : Format
 two = record { settings = S; version = Two }
 
--- the frame's bytes are these, and it is read from them in each version, also with more behind them
+-- the frame's bytes are these, and it is read from them in each version, also with more after them
 abbrev pub IsSpelled : Frame → String → Type 0
 IsSpelled f text =
     (bytes_of f ≡ hex text)

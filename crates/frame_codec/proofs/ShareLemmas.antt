@@ -58,18 +58,18 @@ order-cut (suc n) (a ∷ xs) rest h = same_byte a (order xs (take n xs ++ rest))
 pub common-beyond : (n : ℕ) (j k : List ℕ) → length j < n → common j k ≡ n → ⊥
 common-beyond n j k h e = let most = (common-le j k).0 in absurd (omega arith)
 
--- two keys of which one begins with so many bytes of the other part there just where the rests have no first byte in common
+-- two keys, the one beginning with n bytes of the other, part there just where the rests have no first byte in common
 pub parts-there : (n : ℕ) (j rest : List ℕ) → n ≤ length j → common (drop n j) rest ≡ 0 → common j (rejoined j (n, rest)) ≡ n
 parts-there n j rest h e = let goes = common-cut n j rest h in omega arith
 
 pub parts-elsewhere : (n : ℕ) (j rest : List ℕ) → n ≤ length j → (common (drop n j) rest ≡ 0 → ⊥) → common j (rejoined j (n, rest)) ≡ n → ⊥
 parts-elsewhere n j rest h more e = let goes = common-cut n j rest h in more (omega arith)
 
--- all that stands behind so many bytes
+-- all that stands after n bytes
 pub all_behind : (n : ℕ) (j : List ℕ) → take (length j - n) (drop n j) ≡ drop n j
 all_behind n j = let left = length-drop n j in take_all (length j - n) (drop n j) (omega arith)
 
--- how a key stands to one that begins with so many bytes of it, told by what is behind these
+-- how a key compares to one that begins with n bytes of it, by what is after these
 pub parted-by : (o : Option Ordering) (n : ℕ) (j left rest : List ℕ) → n ≤ length j → left ≡ drop n j
     → MatchOption o (common left rest ≡ 0 → ⊥) (λ r. (common left rest ≡ 0) × (r ≡ order left rest))
     → MatchOption o (common j (rejoined j (n, rest)) ≡ n → ⊥) (λ r. (common j (rejoined j (n, rest)) ≡ n) × (r ≡ order j (rejoined j (n, rest))))
@@ -95,7 +95,7 @@ short-spelled bs xs rest bytes h =
     ∙ ap (λ (n : ℕ). (number 1).spell n ++ (xs ++ rest)) (sym long)
     ∙ sym (append_assoc ((number 1).spell (length xs)) xs rest)
 
--- whether so many are just what the key before and the rejoined one share
+-- whether that number is just what the key before and the rejoined one share
 abbrev pub is_exact : List ℕ → ℕ × List ℕ → Bool
 is_exact before p = common before (rejoined before p) == p.0
 
@@ -111,7 +111,7 @@ sharing-back before k few rest =
     ap (λ (o : Option ((ℕ × List ℕ) × List ℕ)). read_as (rejoined before) (read_where (is_exact before) o)) back
     ∙ rw exact (ap (λ (j : List ℕ). gave j rest) same)
 
--- what is behind the bytes that were taken of a key
+-- what is after the bytes that were taken of a key
 rest_of : (n : ℕ) (j rest : List ℕ) → n ≤ length j → drop n (take n j ++ rest) ≡ rest
 rest_of n j rest h = drop_at (take n j) rest n (length-take-le n j h)
 
@@ -160,7 +160,7 @@ sharing-refused s before bs n behind rest end first second exact long =
 pub sharing-size : (before k : List ℕ) → length ((sharing before).spell k) ≡ 2 + length (drop (common before k) k)
 sharing-size before k = omega arith
 
--- ---- only the first bytes of the key before matter, xs many xs a byte can tell
+-- ---- only the first bytes of the key before matter, as many as a byte can count
 
 taken : (n m : ℕ) (j : List ℕ) → m ≤ n → take m (take n j) ≡ take m j
 taken n zero j h = refl

@@ -18,7 +18,7 @@ root : IsShared (record { pid = 2; content = FullIndex Shared [] (([], 0) ∷ (c
     "07 00000021 0000000000000002 0000 0002 00 00 0000000000000000 00 01 63 0000000000000001"
 root = (refl, refl, refl)
 
--- keys of which each goes on where the one before ends, or parts from it before it ends
+-- keys that each go on where the one before ends, or part from it before it ends
 nested : IsShared (record { pid = 0; content = FullLeaf Shared (codes "ab") ((codes "abc", []) ∷ (codes "abcd", []) ∷ (codes "abd", []) ∷ []) })
     "06 0000001d 0000000000000000 0002 6162 0003 02 01 63 0000 03 01 64 0000 02 01 64 0000"
 nested = (refl, refl, refl)
@@ -28,7 +28,7 @@ below_low : IsShared (record { pid = 0; content = FullLeaf Shared (codes "ab") (
     "06 00000012 0000000000000000 0002 6162 0001 01 00 0000"
 below_low = (refl, refl, refl)
 
--- row 15.2: the rest of d is a c, so that the key shares one byte more than its frame tells
+-- row 15.2: the rest of d is a c, so that the key shares one byte more than its frame says
 shares_more : IsRefused "06 0000001e 0000000000000001 0001 63 0003 01 00 0001 33 00 01 63 0001 34 00 01 65 0001 35"
 shares_more = (refl, refl)
 

@@ -1,4 +1,4 @@
--- What the sizes of a content tell: how long its spelling is, and that it is a frame's where its cells are of their type.
+-- What follows from the sizes of a content: how long its spelling is, and that it is a frame's where its cells are of their type.
 use Rattle.std.proofs.Common.{◌≡◌, ℕ, ◌*◌, ◌^◌, ◌<◌, ◌≤◌, Bool, true, ◌&&◌, List, [], ◌∷◌, length, flat_map, Option, Some, None, refl, arith, length-append, leb-true}
 use Rattle.std.proofs.lemmas.Bool.{and_parts}
 use Rattle.std.specs.Cmp.Derive.{both_true}
@@ -135,7 +135,7 @@ index_run-words pid run p w g r h =
     let (some, entries) = and_parts _ _ h in
     both_true p (both_true r (both_true some (word_entries g.settings (Option ℕ) (of_cell is_any_pid) (of_cell is_pid) (of_cell is_pid) any_cell run entries w)))
 
--- ---- what a frame tells of its sizes
+-- ---- what a frame says of its sizes
 
 any_pids : (s : Settings) (es : List (List ℕ × ℕ)) → list_all (λ e. is_key s e.0 && is_pid e.1) es ≡ true → list_all (λ e. is_key s e.0 && is_any_pid e.1) es ≡ true
 any_pids s [] h = refl

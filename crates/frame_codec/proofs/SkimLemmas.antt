@@ -1,4 +1,4 @@
--- What is passed over and not kept: entries one behind the other, a base or a run of them, a content, and a frame.
+-- What is skipped and not kept: entries one after the other, a base or a run of them, a content, and a frame.
 use Rattle.std.proofs.Common.{◌≡◌, ℕ, zero, suc, ◌+◌, ◌<◌, ◌-◌, ◌≤◌, Bool, true, false, ◌&&◌, if◌then◌else◌, List, [], ◌∷◌, ◌++◌, length, take, drop, Option, Some, None, refl, sym, ap, ◌∙◌, arith, add-one, length-append}
 use Rattle.std.proofs.Math.Seq.{take-append_seam}
 use Rattle.keys.specs.Cells.{Codec, AreBytes, read_on, read_as, read_where, read_number, counted}
@@ -26,7 +26,7 @@ not_false : (b : Bool) → (b ≡ false → ⊥) → b ≡ true
 not_false true h = refl
 not_false false h = absurd (h refl)
 
--- behind an entry goes what is above its key
+-- after an entry goes what is above its key
 last-pushed : {X : Type 0} (built : List (List ℕ × X)) (j : List ℕ) (v : X) (k : List ℕ) → goes_last k (built ++ (j, v) ∷ []) ≡ is_above (Some j) k
 last-pushed [] j v k = refl
 last-pushed (e ∷ []) j v k = refl
@@ -37,7 +37,7 @@ module _ {X : Type 0} (s : Settings) (short : X → Bool) (spelling : Spelling) 
   abbrev pub next_within : List ℕ → List ℕ → Option ((List ℕ × X) × List ℕ)
   next_within before now = read_where (λ (e : List ℕ × X). is_key s e.0 && short e.1) ((next_entry spelling cell before).read now)
 
-  -- so many were passed over, up to this key; they are within the settings, their keys rise, and the next is spelled by that key
+  -- the first `at` were skipped, up to this key; they are within the settings, their keys rise, and the next is spelled by that key
   pub record IsPassedUpTo (at : ℕ) (last : Option (List ℕ)) (key : List ℕ) (now : List ℕ) : Type 0 where
     pub built : List (List ℕ × X)
     pub upto : IsReadUpTo s short spelling cell low count start at built now
@@ -85,7 +85,7 @@ module _ {X : Type 0} (s : Settings) (short : X → Bool) (spelling : Spelling) 
         let few : s.fan < count → ⊥ = λ many. nothing_read (es, end) (sym (read-many s short spelling cell low count start many) ∙ whole) in
         omega (arith, few)
 
-    -- and each goes behind those that were read before it
+    -- and each goes after those that were read before it
     pub whole-rises : (at : ℕ) (built : List (List ℕ × X)) (now : List ℕ) → IsReadUpTo s short spelling cell low count start at built now → (k : List ℕ) (v : X) (behind : List ℕ)
         → at < count → next_within (last_key low built) now ≡ Some ((k, v), behind) → goes_last k built ≡ true
     whole-rises at built now up k v behind more h =
@@ -161,7 +161,7 @@ module _ {V : Type 0} (s : Settings) (short : V → Bool) (spelling : Spelling) 
 
 -- ---- a content, and a frame
 
--- what was read, and is within the settings as the content of which it is
+-- what was read, and is within the settings as a part of its content
 pub made-passed : {Y Z : Type 0} (make : Y → Z) (test : Z → Bool) (o : Option (Y × List ℕ)) (y : Y) (rest : List ℕ)
     → read_where (λ y. test (make y)) o ≡ Some (y, rest) → read_where test (read_as make o) ≡ Some (make y, rest)
 made-passed {Y = Y} make test o y rest h =
@@ -173,7 +173,7 @@ abbrev pub with_content : ℕ → Content → Frame
 with_content pid c = record { pid = pid; content = c }
 
 module _ (g : Format) (bs : List ℕ) (number len pid : ℕ) (body : List ℕ) (bytes : AreBytes bs) (head : header.read bs ≡ Some (((number, len), pid), body)) where
-  -- there are no fewer bytes in all than behind the header
+  -- there are no fewer bytes in all than after the header
   pub body-within : length body ≤ length bs
   body-within =
       let long = ap length (header-spelled bs ((number, len), pid) body bytes head) ∙ length-append (header.spell ((number, len), pid)) body in

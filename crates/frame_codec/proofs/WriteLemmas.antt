@@ -1,4 +1,4 @@
--- Entries that are spelled one behind the other, by place.
+-- Entries that are spelled one after the other, by place.
 use Rattle.std.proofs.Common.{◌≡◌, ℕ, zero, suc, ◌+◌, ◌-◌, ◌<◌, ◌≤◌, Bool, true, ◌&&◌, List, [], ◌∷◌, ◌++◌, length, drop, flat_map, slice_get, Option, Some, Vec, refl, sym, ap, subst, ◌∙◌, arith, add-one, append_assoc, length-append}
 use Rattle.std.proofs.lemmas.List.{append-nil, drop_all, length-drop}
 use Rattle.std.proofs.Math.Nat.{mod-eq_of_lt}
@@ -17,7 +17,7 @@ use Rattle.frame_codec.specs.Sized.{framed}
 use Rattle.frame_codec.proofs.EachLemmas.{keyed}
 use Rattle.frame_codec.proofs.ShareLemmas.{common-le}
 
--- ---- bytes behind bytes
+-- ---- bytes after bytes
 
 module _ {Z : Type 0} where
   pub appended-none : (out : Vec ℕ Z) → IsAppended out out []
@@ -169,7 +169,7 @@ sharing-appended before k old one two new shared count rest few e r c first seco
 
 -- ---- frames
 
--- what stands behind the pid was appended to what stands before it
+-- what stands after the pid was appended to what stands before it
 pub framed-whole : {Z : Type 0} (old mid new : Vec ℕ Z) (kind pid n : ℕ) (bytes : List ℕ) → n ≡ length bytes
     → IsAppended old mid (header.spell ((kind, pid_size + n), pid)) → IsAppended mid new bytes → new.items ≡ old.items ++ framed kind pid bytes
 framed-whole old mid new kind pid n bytes e head behind =

@@ -4,7 +4,7 @@ use Rattle.std.specs.List.{common_prefix_len}
 use Rattle.keys.specs.Bytes.{Bytes, Pairs}
 use Rattle.keys.specs.Cells.{Codec, read_on, read_as, read_where, number, read_bytes}
 
--- two things, one behind the other
+-- two things, one after the other
 abbrev pub both : {X Y : Type 0} → Codec X → Codec Y → Codec (X × Y)
 both c d = record {
   spell = λ p. c.spell p.0 ++ d.spell p.1;
@@ -18,7 +18,7 @@ both_by c d = record {
   read = λ bs. read_on (c.read bs) (λ x rest. read_as (λ y. (x, y)) ((d x).read rest));
 }
 
--- n things, each behind the one before it
+-- n things, one after the other
 abbrev pub read_each : {X : Type 0} → Codec X → ℕ → Bytes → Option (List X × Bytes)
 read_each c zero bs = Some ([], bs)
 read_each c (suc n) bs = read_on (c.read bs) (λ x rest. read_as (λ xs. x ∷ xs) (read_each c n rest))
@@ -60,7 +60,7 @@ common = common_prefix_len nat_eq
 abbrev pub shared_and_rest : Codec (ℕ × Bytes)
 shared_and_rest = both (number 1) counted_short
 
--- the key that begins with so many bytes of the one before, and goes on with the rest
+-- the key that begins with a number of bytes of the one before, and goes on with the rest
 abbrev pub rejoined : Bytes → ℕ × Bytes → Bytes
 rejoined before p = take p.0 before ++ p.1
 

@@ -23,7 +23,7 @@ pub data Content : Type 0 where
   DeltaIndex : Changes ℕ → Content
   Free : Content
 
--- what is said of the page with this pid
+-- a frame: the pid of its page, and what it says of that
 pub record Frame : Type 0 where
   pub pid : ℕ
   pub content : Content
@@ -35,7 +35,7 @@ abbrev pub spell_base : {V : Type 0} → Spelling → Codec V → Bytes → Pair
 spell_base Whole cell low es = flat_map (both counted cell).spell es
 spell_base Shared cell low es = spell_in_turn (λ before. both (sharing before) cell) low es
 
--- so many of them as they are read
+-- a number of them as they are read
 abbrev pub read_base : {V : Type 0} → Spelling → Codec V → Bytes → ℕ → Bytes → Option (Pairs V × Bytes)
 read_base Whole cell low = read_each (both counted cell)
 read_base Shared cell low = read_in_turn (λ before. both (sharing before) cell) low
@@ -72,7 +72,7 @@ kind_of (FullIndex spelling low base) = index_kind spelling
 kind_of (DeltaIndex run) = 4
 kind_of Free = 5
 
--- the bytes behind the pid
+-- the bytes after the pid
 abbrev pub content_bytes : Content → Bytes
 content_bytes (FullLeaf spelling low base) = (full spelling value_cell).spell (low, base)
 content_bytes (DeltaLeaf run) = (delta value_cell).spell run

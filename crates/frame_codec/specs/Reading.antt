@@ -8,7 +8,7 @@ use Rattle.frame_codec.specs.declared.format.Spelling.TheVariants.{Whole, Shared
 use Rattle.frame_codec.specs.Frame.{Content, Frame, full, delta, content_bytes, header, bytes_of, is_frame}
 use Rattle.frame_codec.specs.Frame.Content.{FullLeaf, DeltaLeaf, FullIndex, DeltaIndex, Free}
 
--- the bytes begin with this frame, which a log of this format may have, and the rest stands behind it
+-- the bytes begin with this frame, which a log of this format may have, and the rest stands after it
 pub record BeginsWithFrame (format : Format) (bs : Bytes) (f : Frame) (rest : Bytes) : Type 0 where
   pub within : is_frame format f ≡ true
   pub bytes : bs ≡ bytes_of f ++ rest
@@ -24,7 +24,7 @@ read_content kind bs =
     (if kind == 6 then read_as (λ p. FullLeaf Shared p.0 p.1) ((full Shared value_cell).read bs) else
     (if kind == 7 then read_as (λ p. FullIndex Shared p.0 p.1) ((full Shared pid_cell).read bs) else None))))))
 
--- the frame whose header this is, where its content has just the length that the header tells
+-- the frame whose header this is, where its content has just the length that the header gives
 abbrev pub read_behind : (ℕ × ℕ) × ℕ → Bytes → Option (Frame × Bytes)
 read_behind h bs =
     read_as (λ c. record { pid = h.1; content = c })
@@ -34,6 +34,6 @@ read_behind h bs =
 abbrev pub read_any : Bytes → Option (Frame × Bytes)
 read_any bs = read_on (header.read bs) read_behind
 
--- the frame of this format that the bytes begin with, and the bytes behind it
+-- the frame of this format that the bytes begin with, and the bytes after it
 abbrev pub read_frame : Format → Bytes → Option (Frame × Bytes)
 read_frame format bs = read_where (is_frame format) (read_any bs)

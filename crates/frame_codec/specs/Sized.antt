@@ -25,6 +25,6 @@ IsSized c = (s : Settings) × (first_bad_field s ≡ None) × (has_sizes s c ≡
 abbrev pub HasWords : Frame → Type 0
 HasWords f = (g : Format) → is_readable g.version f.content ≡ true → has_sizes g.settings f.content ≡ true → is_frame g f ≡ true
 
--- a frame of this kind and pid, with these bytes behind the pid
+-- a frame of this kind and pid, with these bytes after the pid
 abbrev pub framed : ℕ → ℕ → Bytes → Bytes
 framed kind pid bytes = header.spell ((kind, pid_size + length bytes), pid) ++ bytes

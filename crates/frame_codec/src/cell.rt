@@ -11,7 +11,7 @@ use crate::parts::{append_byte, append_counted, append_pid, read_counted, read_p
 use keys::{Pid, Settings, Value};
 use std::alloc::{AllocError, Global};
 
-/// What frames have behind a key: a cell, or a change, which is a cell or its absence.
+/// What frames have after a key: a cell, or a change, which is a cell or its absence.
 pub(crate) trait Spelled {
     ghost use Rattle.std.specs.Prelude.{Bool};
     ghost use Rattle.keys.specs.Cells.{Codec};
@@ -22,7 +22,7 @@ pub(crate) trait Spelled {
 
     ghost is_short: { limits.Settings → Self → Bool };
 
-    /// The bytes behind what is at the front, if a frame may have that.
+    /// Skips what is at the front, if a frame may have it, and returns the bytes after it.
     fn skip<'a>(bytes: &'a [u8], settings: &Settings) -> Option<&'a [u8]>
         ensures { let read = read_where (is_short settings.now) (codec.read bytes.now) in
             MatchOption result (read ≡ None) (λ rest. (cell : Self) × (read ≡ Some (cell, rest.now))) };
@@ -33,12 +33,12 @@ pub(crate) trait FrameCell: Spelled + Drop {
     ghost use Rattle.std.specs.Prelude.{Bool, true};
     ghost use Rattle.keys.specs.declared.settings.Settings as limits;
 
-    // What of `is_short` can be known of a cell that nobody looked at, and what a look at it tells.
+    // The two halves of `is_short`: what is known of a cell unread, and what reading it shows.
     ghost has_size: { limits.Settings → Self → Bool };
 
     ghost is_word: { Self → Bool };
 
-    /// The cell at the front, if a frame may have it, with the bytes behind it.
+    /// The cell at the front, if a frame may have it, with the bytes after it.
     fn read<'a>(
         alloc: Global,
         bytes: &'a [u8],
@@ -193,7 +193,7 @@ impl<V: Spelled> Spelled for Option<V> {
     }
 }
 
-/// The flag at the front, and the cell behind a flag 1, if a frame may have it, with the bytes behind that.
+/// The flag at the front, and the cell after a flag 1, if a frame may have it, with the bytes after that.
 pub(crate) fn read_flagged<'a, V: FrameCell>(
     alloc: Global,
     bytes: &'a [u8],

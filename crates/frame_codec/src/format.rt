@@ -13,7 +13,7 @@ pub enum Spelling {
     Shared,
 }
 
-/// By what a log's frames are read.
+/// What a reader of a log's frames needs besides their bytes.
 #[derive(Clone, Copy, Debug, PartialEq, Eq)]
 pub struct Format {
     /// The settings of the store.

@@ -1,4 +1,4 @@
-//! The numbers by which frames tell their kinds.
+//! The numbers of the kinds of frames.
 ghost use Rattle.std.specs.Prelude.{◌≡◌};
 ghost use Rattle.frame_codec.specs.Frame.{leaf_kind, index_kind};
 

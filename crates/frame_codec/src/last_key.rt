@@ -11,7 +11,7 @@ use keys::Settings;
 use std::cmp::Ordering;
 use std::marker::Model;
 
-// As many bytes of the key before as one byte can tell, and as many behind them.
+// The most bytes that one byte can count as shared with the key before, and as many after them.
 const ROOM: usize = 510;
 
 /// A key, kept in place, of up to 510 bytes. Contracts see it as the list of these.
@@ -33,7 +33,7 @@ impl Model for LastKey {
     ghost invariant = { λ k. k.len ≤ 510 };
 }
 
-// How the one stands to the other, if they have no first byte in common.
+// How the one compares to the other, if they have no first byte in common.
 fn apart(one: &[u8], other: &[u8]) -> Option<Ordering>
     ensures { MatchOption result (common one.now other.now ≢ 0) (λ o. (common one.now other.now ≡ 0) × (o ≡ order one.now other.now)) }
 {
@@ -48,8 +48,8 @@ fn apart(one: &[u8], other: &[u8]) -> Option<Ordering>
     }
 }
 
-// How the key stands to the one that begins with so many bytes of it and goes on with the rest, if they part just there. Only
-// the bytes at that place need a look.
+// How the key compares to the one that begins with `shared` bytes of it and goes on with `rest`, if they part just there.
+// Only the bytes at that place need a look.
 fn parted(key: &[u8], shared: usize, rest: &[u8]) -> Option<Ordering>
     ensures { let next = rejoined key.now (shared, rest.now) in
         MatchOption result (common key.now next ≢ shared) (λ o. (common key.now next ≡ shared) × (o ≡ order key.now next)) }
@@ -72,7 +72,7 @@ impl LastKey {
         LastKey { len, places }
     }
 
-    /// The first bytes of the low key, by which the first key is read as it is by all of it.
+    /// The first bytes of the low key: the first key is read by them as by all of it.
     pub(crate) fn of_low(low: &[u8]) -> Self
         ensures { result ≡ take 510 low.now }
     {
@@ -93,7 +93,7 @@ impl LastKey {
         self.len
     }
 
-    // The rest now stands behind so many bytes of the key.
+    // Keeps `shared` bytes of the key, and appends `rest`.
     fn go_on(&mut self, shared: usize, rest: &[u8])
         requires shared { shared ≤ length self.old }
         requires room { shared + length rest.now ≤ 510 }
@@ -105,7 +105,7 @@ impl LastKey {
     }
 
     /// Becomes the key at the front, if that is no longer than settings allow: whether it is above the one before it, and the
-    /// bytes behind it. Where there is no such key, it stays.
+    /// bytes after it. Where there is no such key, it stays.
     pub(crate) fn read_next<'a>(
         &mut self,
         bytes: &'a [u8],

@@ -17,8 +17,8 @@ ghost use Rattle.frame_codec.specs.Frame.Content.{FullLeaf, DeltaLeaf, FullIndex
 ghost use Rattle.frame_codec.specs.Reading.{BeginsWithFrame, read_frame};
 ghost use Rattle.frame_codec.specs.Sizes.{size_of};
 
-/// A value of up to 65,535 bytes and a page id are read back from their cells, whatever stands behind them, and what is
-/// read of bytes stands there. No cell begins another.
+/// A value of up to 65,535 bytes and a page id are read back from their cells, whatever follows them, and what is read of
+/// bytes stands there. No cell begins another.
 pub fn a_cell_is_read_back()
     ensures value { (v : Bytes) → length v < 65536 → IsReadBack value_cell v }
     ensures pid { (p : ℕ) → p < 2 ^ 64 → IsReadBack pid_cell p }
@@ -30,7 +30,7 @@ pub fn a_cell_is_read_back()
         pid_cell.spell p ++ behind ≡ pid_cell.spell q ++ other → (p ≡ q) × (behind ≡ other) }
 {}
 
-/// A frame is read back from its bytes, whatever stands behind them.
+/// A frame is read back from its bytes, whatever follows them.
 pub fn a_frame_is_read_back()
     ensures { (g : Format) (f : Frame) (rest : Bytes) → first_bad_field g.settings ≡ None → is_frame g f ≡ true →
         read_frame g (bytes_of f ++ rest) ≡ Some (f, rest) }
@@ -65,7 +65,7 @@ pub fn version_two_knows_what_version_one_knows()
         read_frame (record { settings = s; version = Two }) bytes ≡ Some (f, rest) }
 {}
 
-/// A frame has as many bytes as its fields tell.
+/// A frame has as many bytes as its fields give.
 pub fn a_frame_has_its_size()
     ensures { (f : Frame) → length (bytes_of f) ≡ size_of f.content }
 {}

@@ -10,7 +10,7 @@ ghost use Rattle.frame_codec.specs.Frame.{header, is_pid, is_key};
 use byteorder::{BigEndian, ByteOrder};
 use keys::{Pid, Settings};
 
-/// The byte at the front, with the bytes behind it.
+/// The byte at the front, with the bytes after it.
 pub(crate) fn read_byte(bytes: &[u8]) -> Option<(u8, &[u8])>
     ensures { MatchOption result (read_number 1 bytes.now ≡ None) (λ p. read_number 1 bytes.now ≡ Some (p.0, p.1.now)) }
 {
@@ -18,7 +18,7 @@ pub(crate) fn read_byte(bytes: &[u8]) -> Option<(u8, &[u8])>
     Some((*first, rest))
 }
 
-/// The number of two bytes at the front, with the bytes behind it. So lengths and counts are spelled.
+/// The number of two bytes at the front, with the bytes after it. So lengths and counts are spelled.
 pub(crate) fn read_length(bytes: &[u8]) -> Option<(usize, &[u8])>
     ensures number { MatchOption result (read_number 2 bytes.now ≡ None) (λ p. read_number 2 bytes.now ≡ Some (p.0, p.1.now)) }
     ensures small { IfSome result (λ p. IsCount p.0) }
@@ -29,7 +29,7 @@ pub(crate) fn read_length(bytes: &[u8]) -> Option<(usize, &[u8])>
     Some((BigEndian::read_u16(bytes) as usize, &bytes[2..]))
 }
 
-/// The number of four bytes at the front, with the bytes behind it.
+/// The number of four bytes at the front, with the bytes after it.
 pub(crate) fn read_u32(bytes: &[u8]) -> Option<(u32, &[u8])>
     ensures { MatchOption result (read_number 4 bytes.now ≡ None) (λ p. read_number 4 bytes.now ≡ Some (p.0, p.1.now)) }
 {
@@ -39,7 +39,7 @@ pub(crate) fn read_u32(bytes: &[u8]) -> Option<(u32, &[u8])>
     Some((BigEndian::read_u32(bytes), &bytes[4..]))
 }
 
-/// The page id at the front, with the bytes behind it.
+/// The page id at the front, with the bytes after it.
 pub(crate) fn read_pid(bytes: &[u8]) -> Option<(Pid, &[u8])>
     ensures number { MatchOption result (pid_cell.read bytes.now ≡ None) (λ p. pid_cell.read bytes.now ≡ Some (p.0, p.1.now)) }
     ensures word { IfSome result (λ p. is_pid p.0 ≡ true) }
@@ -50,7 +50,7 @@ pub(crate) fn read_pid(bytes: &[u8]) -> Option<(Pid, &[u8])>
     Some((Pid(BigEndian::read_u64(bytes)), &bytes[8..]))
 }
 
-/// The key or the value at the front, with the bytes behind it.
+/// The key or the value at the front, with the bytes after it.
 pub(crate) fn read_counted(bytes: &[u8]) -> Option<(&[u8], &[u8])>
     ensures { MatchOption result (counted.read bytes.now ≡ None) (λ p. counted.read bytes.now ≡ Some (p.0.now, p.1.now)) }
 {
@@ -61,7 +61,7 @@ pub(crate) fn read_counted(bytes: &[u8]) -> Option<(&[u8], &[u8])>
     Some(rest.split_at(len))
 }
 
-/// The bytes at the front whose number stands before them in one byte, with the bytes behind them.
+/// The bytes at the front whose number stands before them in one byte, with the bytes after them.
 pub(crate) fn read_short(bytes: &[u8]) -> Option<(&[u8], &[u8])>
     ensures bytes { MatchOption result (counted_short.read bytes.now ≡ None) (λ p. counted_short.read bytes.now ≡ Some (p.0.now, p.1.now)) }
     ensures small { IfSome result (λ p. IsShortCount (length p.0.now)) }
@@ -74,7 +74,7 @@ pub(crate) fn read_short(bytes: &[u8]) -> Option<(&[u8], &[u8])>
     Some(rest.split_at(len))
 }
 
-/// The kind at the front, the length and the number that is the page id, with the bytes behind them.
+/// The kind at the front, the length and the number that is the page id, with the bytes after them.
 pub(crate) fn read_header(bytes: &[u8]) -> Option<(u8, u32, u64, &[u8])>
     ensures header { let read = header.read bytes.now in
         MatchOption result (read ≡ None) (λ p. read ≡ Some (((p.0, p.1), p.2), p.3.now)) }
@@ -88,7 +88,7 @@ pub(crate) fn read_header(bytes: &[u8]) -> Option<(u8, u32, u64, &[u8])>
     Some((kind, len, pid.0, rest))
 }
 
-/// The key at the front, if it is no longer than settings allow, with the bytes behind it.
+/// The key at the front, if it is no longer than settings allow, with the bytes after it.
 pub(crate) fn read_key<'a>(bytes: &'a [u8], settings: &Settings) -> Option<(&'a [u8], &'a [u8])>
     ensures { let read = read_where (is_key settings.now) (counted.read bytes.now) in
         MatchOption result (read ≡ None) (λ p. read ≡ Some (p.0.now, p.1.now)) }
@@ -114,7 +114,7 @@ pub(crate) fn frame_size(bytes: &[u8], len: u32, content: &[u8], rest: &[u8]) ->
     Some(bytes.len() - rest.len())
 }
 
-/// Appends the bytes. There is room for them, so that no memory is asked for.
+/// Appends the bytes. There is room for them, so that no memory is requested.
 pub(crate) fn append(out: &mut Vec<u8>, bytes: &[u8])
     requires { HasRoomFor out.old (length bytes.now) }
     ensures { IsAppended out.old out.new bytes.now }

@@ -23,7 +23,7 @@ use delta_chain::{Base, BaseBuilder, PushError, Run};
 use keys::{Key, Pid, Settings};
 use std::alloc::{AllocError, Global};
 
-// The entry of a base at the front, if a frame may have it, with the bytes behind it.
+// The entry of a base at the front, if a frame may have it, with the bytes after it.
 fn read_entry<'a, V: FrameCell>(
     alloc: Global,
     bytes: &'a [u8],
@@ -41,7 +41,7 @@ fn read_entry<'a, V: FrameCell>(
     Ok(Some((key, cell, rest)))
 }
 
-// The change of a run at the front, if a frame may have it, with the bytes behind it.
+// The change of a run at the front, if a frame may have it, with the bytes after it.
 fn read_change<'a, V: FrameCell>(
     alloc: Global,
     bytes: &'a [u8],
@@ -59,7 +59,7 @@ fn read_change<'a, V: FrameCell>(
     Ok(Some((key, change, rest)))
 }
 
-// As many entries as this, in a base of its own, with the bytes behind them.
+// As many entries as this, in a base of its own, with the bytes after them.
 fn read_whole<'a, V: FrameCell>(
     alloc: Global,
     count: usize,
@@ -137,7 +137,7 @@ fn read_shared<'a, V: FrameCell>(
     Ok(Some((base, rest)))
 }
 
-// As many entries as this under this low key, with their keys spelled so, in a base of its own, with the bytes behind them.
+// As many entries as this under this low key, with their keys spelled so, in a base of its own, with the bytes after them.
 fn read_base<'a, V: FrameCell>(
     alloc: Global,
     spelling: Spelling,
@@ -156,7 +156,7 @@ fn read_base<'a, V: FrameCell>(
     }
 }
 
-// As many changes as this, in a run of its own, with the bytes behind them.
+// As many changes as this, in a run of its own, with the bytes after them.
 fn read_run<'a, V: FrameCell>(
     alloc: Global,
     count: usize,
@@ -185,7 +185,7 @@ fn read_run<'a, V: FrameCell>(
     Ok(Some((run, rest)))
 }
 
-// The low key and the base at the front, if a frame may have them, with the bytes behind them.
+// The low key and the base at the front, if a frame may have them, with the bytes after them.
 fn read_full<'a, V: FrameCell>(
     alloc: Global,
     spelling: Spelling,
@@ -226,7 +226,7 @@ fn read_known<'a, V: FrameCell>(
     read_full(alloc, spelling, bytes, &format.settings)
 }
 
-// The run at the front, if a frame may have it, with the bytes behind it.
+// The run at the front, if a frame may have it, with the bytes after it.
 fn read_delta<'a, V: FrameCell>(
     alloc: Global,
     bytes: &'a [u8],
@@ -292,7 +292,7 @@ fn read_index<'a>(
     Ok(Some((frame, rest)))
 }
 
-// The frame of this kind and page id whose content is at the front, if a log may have it, with the bytes behind it.
+// The frame of this kind and page id whose content is at the front, if a log may have it, with the bytes after it.
 fn read_content<'a>(
     alloc: Global,
     kind: u8,
@@ -327,7 +327,7 @@ fn read_content<'a>(
 }
 
 /// The frame at the front of these bytes, if a log of this format may have it, and how many bytes it takes. They may be any
-/// bytes. Want of memory is the one error, and what was read by then is dropped.
+/// bytes. Lack of memory is the one error, and what was read by then is dropped.
 pub fn read_frame(
     alloc: Global,
     bytes: &[u8],

@@ -1,4 +1,4 @@
-//! Frames told without being kept: which one stands at the front of bytes, whatever these are. No memory is taken.
+//! Identifies the frame at the front of any bytes, without decoding it and without memory.
 ghost use Rattle.std.specs.Prelude.{◌≡◌, ◌≤◌, ◌&&◌, length, take, drop, None, Some, IfSome, MatchOption};
 ghost use Rattle.std.specs.Option.{option_copied};
 ghost use Rattle.keys.specs.Bytes.{Bytes, Pairs, Changes};
@@ -37,10 +37,10 @@ pub enum FrameKind {
     Free,
 }
 
-/// What is told of a frame of which nothing is kept.
+/// A frame that was identified and not decoded.
 #[derive(Clone, Copy, Debug, PartialEq, Eq)]
 pub struct Skimmed {
-    /// The page of which the frame says something.
+    /// The page that the frame is of.
     pub pid: Pid,
     /// What kind of frame it is.
     pub kind: FrameKind,
@@ -58,7 +58,7 @@ fn is_above(last: Option<&[u8]>, key: &[u8]) -> bool
     }
 }
 
-// The key of the entry of a base, or of the change of a run, at the front, if a frame may have it, with the bytes behind it.
+// The key of the entry of a base, or of the change of a run, at the front, if a frame may have it, with the bytes after it.
 fn skip_entry<'a, C: Spelled>(bytes: &'a [u8], settings: &Settings) -> Option<(&'a [u8], &'a [u8])>
     ensures { let read = read_where (λ e. is_key settings.now e.0 && C.is_short settings.now e.1) ((both counted C.codec).read bytes.now) in
         MatchOption result (read ≡ None) (λ p. (cell : C) × (read ≡ Some ((p.0.now, cell), p.1.now))) }
@@ -69,7 +69,7 @@ fn skip_entry<'a, C: Spelled>(bytes: &'a [u8], settings: &Settings) -> Option<(&
 }
 
 /// How many bytes the keys of as many entries as this, or changes, have together, if a frame may have these, with the bytes
-/// behind them. So the memory of a base is asked for once, and for no bytes in which none stands.
+/// after them. So the memory of a base is requested once, and only for bytes that have one.
 pub(crate) fn skim_entries<'a, C: Spelled>(
     count: usize,
     bytes: &'a [u8],
@@ -97,7 +97,7 @@ pub(crate) fn skim_entries<'a, C: Spelled>(
 }
 
 // As `skip_entry`, of an entry whose key is spelled by the last one and then is the last: whether it is above that, with the
-// bytes behind it. Where there is no such entry, the last key may be any.
+// bytes after it. Where there is no such entry, the last key may be any.
 fn skip_shared<'a, C: Spelled>(
     last: &mut LastKey,
     bytes: &'a [u8],
@@ -159,7 +159,7 @@ fn skim_base<'a, V: FrameCell>(
     }
 }
 
-// The bytes behind the low key and the base at the front, if a frame may have them.
+// The bytes after the low key and the base at the front, if a frame may have them.
 fn skim_full<'a, V: FrameCell>(
     spelling: Spelling,
     bytes: &'a [u8],
@@ -192,7 +192,7 @@ fn skim_known<'a, V: FrameCell>(
     skim_full::<V>(spelling, bytes, &format.settings)
 }
 
-// The bytes behind the run at the front, if a frame may have it.
+// The bytes after the run at the front, if a frame may have it.
 fn skim_run<'a, V: FrameCell>(bytes: &'a [u8], settings: &Settings) -> Option<&'a [u8]>
     ensures { let read = read_where (is_run settings.now (V.is_short settings.now)) ((delta V.codec).read bytes.now) in
         MatchOption result (read ≡ None) (λ rest. (run : Changes V) × (read ≡ Some (run, rest.now))) }
@@ -205,7 +205,7 @@ fn skim_run<'a, V: FrameCell>(bytes: &'a [u8], settings: &Settings) -> Option<&'
     Some(rest)
 }
 
-// The kind that this number names, with the bytes behind the content of that kind at the front, if a log may have it.
+// The kind that this number names, with the bytes after the content of that kind at the front, if a log may have it.
 fn skim_content<'a>(number: u8, bytes: &'a [u8], format: &Format) -> Option<(FrameKind, &'a [u8])>
     ensures { let read = read_where (is_allowed format.now) (read_content number bytes.now) in
         MatchOption result (read ≡ None) (λ p. (content : said.Content) × (read ≡ Some (content, p.1.now)) × (kind_of content ≡ p.0)) }
@@ -240,8 +240,8 @@ fn skim_content<'a>(number: u8, bytes: &'a [u8], format: &Format) -> Option<(Fra
     }
 }
 
-/// As `read_frame`, but of the frame at the front it is only told which it is, and no memory is taken. It is there for
-/// exactly the same bytes and formats.
+/// Like `read_frame`, but returns only the page, the kind and the size, and takes no memory. It finds a frame for exactly
+/// the same bytes and formats.
 pub fn skim_frame(bytes: &[u8], format: &Format) -> Option<Skimmed>
     ensures found { let read = read_frame format.now bytes.now in MatchOption result (read ≡ None)
         (λ k. (f : said.Frame) × (read ≡ Some (f, drop k.size bytes.now)) × IsSkimmed k f × (take k.size bytes.now ≡ bytes_of f)) }

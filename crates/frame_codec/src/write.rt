@@ -1,4 +1,4 @@
-//! Frames written from what a page holds. Each is appended to bytes whose memory is asked for once, by the frame's size.
+//! Frames written from what a page holds. Each is appended to bytes whose memory is requested once, by the frame's size.
 ghost use Rattle.std.specs.Prelude.{◌≡◌, ◌+◌, ◌<◌, ◌^◌, ◌++◌, true, length, flat_map, None, OnOk, OnErr};
 ghost use Rattle.std.specs.List.{list_all};
 ghost use Rattle.index_page.specs.Rules.{of_cell};
@@ -80,7 +80,7 @@ fn run_len<V: FrameCell>(run: &Run<V, Global>) -> usize
     len
 }
 
-// Appends the entries of a base, one behind the other, with whole keys. There is room for them.
+// Appends the entries of a base, one after the other, with whole keys. There is room for them.
 fn append_whole<V: FrameCell>(base: &Base<V, Global>, out: &mut Vec<u8>)
     requires small { AreSpellable V.codec base.now }
     requires room { HasRoomFor out.old (length (flat_map (both counted V.codec).spell base.now)) }
@@ -111,7 +111,7 @@ fn append_shared<V: FrameCell>(low: &[u8], base: &Base<V, Global>, out: &mut Vec
     }
 }
 
-// Appends the entries of a base, one behind the other, with their keys spelled so. There is room for them.
+// Appends the entries of a base, one after the other, with their keys spelled so. There is room for them.
 fn append_entries<V: FrameCell>(
     spelling: Spelling,
     low: &[u8],
@@ -129,7 +129,7 @@ fn append_entries<V: FrameCell>(
     }
 }
 
-// Appends the changes of a run, one behind the other. There is room for them.
+// Appends the changes of a run, one after the other. There is room for them.
 fn append_changes<V: FrameCell>(run: &Run<V, Global>, out: &mut Vec<u8>)
     requires small { AreSpellable (flagged V.codec) run.now }
     requires room { HasRoomFor out.old (length (flat_map (both counted (flagged V.codec)).spell run.now)) }
@@ -143,7 +143,7 @@ fn append_changes<V: FrameCell>(run: &Run<V, Global>, out: &mut Vec<u8>)
     }
 }
 
-// Asks for the memory of a whole frame with so many bytes behind the pid, and appends what stands before those. Where memory
+// Requests the memory of a whole frame with `len` bytes after the pid, and appends what stands before those. Where memory
 // is refused nothing is appended.
 fn begin_frame(kind: u8, pid: Pid, len: usize, out: &mut Vec<u8>) -> Result<(), AllocError>
     requires { len < 2 ^ 31 }

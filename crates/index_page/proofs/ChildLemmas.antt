@@ -67,7 +67,7 @@ count-children k e es end =
     ap (λ (x : List Place). count_by (is_place_for k) x) (children-cons e es end)
     ∙ sum_by-cons (λ (at : Place). cond (is_place_for k at) 1 0) (place_of e (next_key es end)) (children es end)
 
--- the first place has the key, or has it not, and of the others so many have
+-- the first place has the key, or has it not, and n of the others have
 counted : (b c : Bool) (n m : ℕ) → b ≡ c → n ≡ m → cond b 1 0 + n ≡ cond c 1 0 + m
 counted b c n m h e = rw (h, e) refl
 
@@ -91,7 +91,7 @@ none_behind k (e ∷ es) end h a =
     count-children k e es end
     ∙ counted (is_within e.0 (next_key es end) k) false (count_by (is_place_for k) (children es end)) 0 (not_within_behind e.0 (next_key es end) k r.0) (none_behind k es end h r.1)
 
--- the first range has the key, or one behind it has
+-- the first range has the key, or a later one has
 next_by : (c : Bool) (k : List ℕ) (e f : List ℕ × ℕ) (es : List (List ℕ × ℕ)) (end : Option (List ℕ)) → is_below k f.0 ≡ c → IsRising (f ∷ es) → is_below k e.0 ≡ false
     → (is_below k f.0 ≡ false → count_by (is_place_for k) (children (f ∷ es) end) ≡ 1) → count_by (is_place_for k) (children (e ∷ f ∷ es) end) ≡ 1
 unfolding IsStrictlySortedBy

@@ -75,7 +75,7 @@ module _ (k : List ℕ) where
   place_of_child [] r h end b = let none = h.0 in absurd (omega arith)
   place_of_child (e ∷ es) r h end b = place_from e es end r h.1 b
 
-  -- ---- it is told by the last entry whose key isn't above the key, and the first whose is
+  -- ---- it is found by the last entry whose key isn't above the key, and the first whose is
 
   abbrev key_of : Option (List ℕ × ℕ) → Option (List ℕ)
   key_of o = option_map (λ (e : List ℕ × ℕ). e.0) o
@@ -115,7 +115,7 @@ module _ (k : List ℕ) where
       place_of_child es r h end b
       ∙ ap {B = List (ℕ × Option (List ℕ))} (λ (x : ℕ × Option (List ℕ)). (x.0, option_or x.1 end) ∷ []) (sym (child_is_told es g o r h p q))
 
-  -- so the entry at a place tells it, where so many entries have keys that aren't above the key
+  -- so the entry at a place gives it, where n entries have keys that aren't above the key
   pub child_is_told-at : (es : List (List ℕ × ℕ)) (n at : ℕ) (g : List ℕ × ℕ) (o : Option (List ℕ)) → IsRising es → (0 < length es) × (is_below k (first_key es) ≡ false)
       → IsCountUpTo k es n → at + 1 ≡ n → slice_get es at ≡ Some g → o ≡ key_of (slice_get es n) → (g.1, o) ≡ With es
   child_is_told-at es n at g o r h c l p q = child_is_told es g o r h (sym (c.last at l ∙ p)) (q ∙ ap (λ (e : Option (List ℕ × ℕ)). key_of e) (sym c.next))
@@ -137,14 +137,14 @@ module _ (k : List ℕ) where
       ∙ ap (λ (x : List (ℕ × Option (List ℕ))). map (λ (y : ℕ × Option (List ℕ)). y.0) x) (place_of_child es r h end b)
       ∙ ap (λ (x : ℕ × Option (List ℕ)). x.0 ∷ []) (sym (child_is_told es g (key_of (above k es)) r h p refl))
 
--- ---- the entries behind a key
+-- ---- the entries after a key
 
 module _ (hi : Option (List ℕ)) where
   -- the entries before the end
   abbrev Before : List (List ℕ × ℕ) → List (List ℕ × ℕ)
   Before es = filter (λ (e : List ℕ × ℕ). is_before hi e.0) es
 
-  -- where all are above k, those behind k are all those before the end
+  -- where all are above k, those after k are all those before the end
   between-all : (k : List ℕ) (es : List (List ℕ × ℕ)) → IsBelowAll k (keys_of es) → entries_between k hi es ≡ Before es
   between-all k [] a = refl
   between-all k (e ∷ es) a =
@@ -154,7 +154,7 @@ module _ (hi : Option (List ℕ)) where
   between-skips : (k : List ℕ) (e : List ℕ × ℕ) (es : List (List ℕ × ℕ)) → is_below k e.0 ≡ false → entries_between k hi (e ∷ es) ≡ entries_between k hi es
   between-skips k e es h = rw h refl
 
--- none is before the end behind one that isn't
+-- none is before the end after one that isn't
 none_before : (hi : Option (List ℕ)) (k : List ℕ) (es : List (List ℕ × ℕ)) → is_before hi k ≡ false → IsBelowAll k (keys_of es) → Before hi es ≡ []
 none_before None k es h a = absurd (cc)
 none_before (Some end) k [] h a = refl
@@ -230,11 +230,11 @@ module _ (lo : List ℕ) (hi : Option (List ℕ)) where
       map_cond true = refl
       map_cond false = refl
 
-  -- a child behind lo meets the bounds where it begins before the end
+  -- a child after lo meets the bounds where it begins before the end
   meets_behind : (e : List ℕ × ℕ) (end : Option (List ℕ)) → is_below lo e.0 ≡ true → meets lo hi (place_of e end) ≡ is_before hi e.0
   meets_behind e end h = rw (not_within_below e.0 end lo h, h) refl
 
-  -- where all are behind lo: those before the end
+  -- where all are after lo: those before the end
   within-all : (es : List (List ℕ × ℕ)) → IsBelowAll lo (keys_of es) → children_within lo hi es ≡ Before hi es
   within-all [] a = refl
   within-all (e ∷ es) a =
@@ -282,7 +282,7 @@ module _ (lo : List ℕ) (hi : Option (List ℕ)) where
       absurd (cc)
   first_by false e g es b r p = b
 
-  -- they are the last one that begins not above lo, and those behind it and before the end
+  -- they are the last one that begins not above lo, and those after it and before the end
   pub within-start : (es : List (List ℕ × ℕ)) (g : List ℕ × ℕ) → IsRising es → Some g ≡ floor lo es → left_from (Some g) hi es ≡ children_within lo hi es
   within-start [] g r p = absurd (cc)
   within-start (e ∷ es) g r p = sym (start_from e g es r (first_by (is_below lo e.0) e g es refl r (sym p)) (sym p))

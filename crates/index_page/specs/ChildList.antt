@@ -10,8 +10,8 @@ abbrev pub IsListOf : Layers ℕ → Option Names → Type 0
 IsListOf p None = p.runs ≡ []
 IsListOf p (Some es) = es ≡ entries_of p
 
--- so many entries, the first ones, have keys that aren't above k: the last of them is the last such entry, and behind them stands the first
--- whose key is above
+-- the first n entries have keys that aren't above k: the last of them is the last such entry, and after them stands the first whose key is
+-- above
 pub record IsCountUpTo (k : Bytes) (es : Names) (n : ℕ) : Type 0 where
   pub within : n ≤ length es
   pub none : n ≡ 0 → floor k es ≡ None

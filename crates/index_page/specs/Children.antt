@@ -6,7 +6,7 @@ use Rattle.index_page.specs.Page.{PageOfKind, entries, first_key}
 use Rattle.index_page.specs.Page.PageOfKind.{Leaf, Index}
 use Rattle.index_page.specs.Range.{is_below, is_before, is_within}
 
--- what an entry of an index page says of a child: its pid, and the range from the entry's key to the next entry's
+-- a child as an entry of an index page names it: its pid, and the range from the entry's key to the next entry's
 pub record Place : Type 0 where
   pub pid : ℕ
   pub low : Bytes
@@ -37,11 +37,11 @@ child_with_end k [] = (0, None)
 child_with_end k (e ∷ []) = (e.1, None)
 child_with_end k (e ∷ f ∷ es) = if is_below k f.0 then (e.1, Some f.0) else child_with_end k (f ∷ es)
 
--- whether a key lies behind lo and before hi
+-- whether a key lies after lo and before hi
 abbrev pub is_between : Bytes → Option Bytes → Bytes → Bool
 is_between lo hi k = is_below lo k && is_before hi k
 
--- whether the range of the place meets the bounds, from lo on and before hi: lo lies in it, or it begins behind lo and before hi
+-- whether the range of the place meets the bounds, from lo on and before hi: lo lies in it, or it begins after lo and before hi
 abbrev pub meets : Bytes → Option Bytes → Place → Bool
 meets lo hi at = is_place_for lo at || is_between lo hi at.low
 
@@ -49,11 +49,11 @@ meets lo hi at = is_place_for lo at || is_between lo hi at.low
 abbrev pub children_within : Bytes → Option Bytes → Names → Names
 children_within lo hi es = map (λ at. (at.low, at.pid)) (filter (meets lo hi) (children es None))
 
--- the entries whose keys lie behind k and before hi
+-- the entries whose keys lie after k and before hi
 abbrev pub entries_between : Bytes → Option Bytes → Names → Names
 entries_between k hi es = filter (λ e. is_between k hi e.0) es
 
--- what is left of a walk over entries up to hi: the next one, where there is one, and those behind it
+-- what is left of a walk over entries up to hi: the next one, where there is one, and those after it
 abbrev pub left_from : Option (Bytes × ℕ) → Option Bytes → Names → Names
 left_from None hi es = []
 left_from (Some e) hi es = e ∷ entries_between e.0 hi es

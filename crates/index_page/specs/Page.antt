@@ -50,16 +50,16 @@ abbrev pub first_key : {V : Type 0} → Pairs V → Bytes
 first_key [] = []
 first_key (e ∷ es) = e.0
 
--- what pairs say, as changes: each key has its value
+-- pairs as changes: each key has its value
 abbrev pub as_changes : {V : Type 0} → Pairs V → Changes V
 as_changes es = map (λ e. (e.0, Some e.1)) es
 
--- what the runs say, newest first, and under them the base
+-- the changes of the runs, newest first, and under them the base's pairs
 abbrev pub said_under : {V : Type 0} → List (Changes V) → Pairs V → Changes V
 said_under [] base = as_changes base
 said_under (run ∷ runs) base = run ++ said_under runs base
 
--- all that the page says of any key
+-- all changes and pairs of the page
 abbrev pub said : {V : Type 0} → Page V → Changes V
 said p = said_under p.layers.runs p.layers.base
 

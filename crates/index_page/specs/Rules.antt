@@ -87,7 +87,7 @@ fits_depth s p = nat_le (length p.layers.runs) s.chain
 
 -- ---- its children
 
--- an index page has so many children at least, and the first one's key is its own low key
+-- an index page has at least `least` children, and the first one's key is its own low key
 pub record IsHeaded (least : ℕ) (p : Page ℕ) : Type 0 where
   pub some : least ≤ length (entries p)
   pub first : first_key (entries p) ≡ p.low

@@ -61,7 +61,7 @@ impl<A: Allocator + Copy> ChildList<A> {
         })
     }
 
-    // The children, of which this is the list.
+    // The children in one list: this one, or the base of a page without runs.
     pub(crate) fn children<'a>(&'a self, chain: &'a Chain<Pid, A>) -> &'a Base<Pid, A>
         requires { IsListOf chain.now self.now }
         ensures { result.now ≡ entries_of chain.now }

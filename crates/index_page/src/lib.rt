@@ -2,7 +2,7 @@
 //! the walk over the children whose ranges meet two bounds.
 //!
 //! `specs/` has what a page is, its children, and what is asked of a page. Laws: the tests by which a page is checked
-//! find exactly the pages of which the facts don't hold; the children's ranges tile that of their page; a range meets
+//! find exactly the pages where the facts don't hold; the children's ranges tile that of their page; a range meets
 //! bounds where they share a key.
 //! Other crates name items by this root, and laws by the public module `laws`.
 #![tactic(auto)]

@@ -8,7 +8,7 @@ use Rattle.keys.specs.Cells.{Codec, AreBytes, IsReadBack, ReadsSpellings, read_o
 
 -- ---- what was read, where the whole is known
 
--- something and the bytes behind it were read
+-- something and the bytes after it were read
 abbrev pub gave : {X : Type 0} → X → List ℕ → Option (X × List ℕ)
 gave x rest = Some (x, rest)
 
@@ -40,13 +40,13 @@ read_where-gave test (Some p) x rest h =
     let e = where_passed (test p.0) p.0 x p.1 rest h in
     (e.0, ap test (sym e.1) ∙ e.2)
 
--- ---- a reader that goes on behind a codec's
+-- ---- a reader that goes on after a codec's
 
 pub bytes_behind : (us vs : List ℕ) → AreBytes (us ++ vs) → AreBytes vs
 bytes_behind [] vs h = h
 bytes_behind (u ∷ us) vs h = bytes_behind us vs h.1
 
--- the value that was read first, whose spelling the bytes begin with, and what came of the bytes behind it
+-- the value that was read first, whose spelling the bytes begin with, and what came of the bytes after it
 pub record Went {X Y : Type 0} (c : Codec X) (bs : List ℕ) (next : X → List ℕ → Option (Y × List ℕ)) (y : Y) (rest : List ℕ) : Type 0 where
   pub first : X
   pub behind : List ℕ

@@ -65,7 +65,7 @@ below_all k j (i ∷ is) h a = (total.trans k j i h a.0, below_all k j is h a.1)
 module _ {V : Type 0} where
   -- ---- what is put
 
-  -- one step of setting a key, by how the key stands to the first pair's
+  -- one step of setting a key, by how the key compares to the first pair's
   abbrev Set : Ordering → List ℕ → V → List ℕ × V → List (List ℕ × V) → List (List ℕ × V) → List (List ℕ × V)
   Set o k v e es rest = match_ordering o ((k, v) ∷ e ∷ es) ((e.0, v) ∷ es) (e ∷ rest)
 
@@ -156,7 +156,7 @@ module _ {V : Type 0} where
   rest_by true e es q h r = lookup-none (λ j. is_eq (order q j)) es (none_past_head alike q e es (IsDistinct-from_sorted order (keys_of (e ∷ es)) r) h)
   rest_by false e es q h r = sym (lookup_tail (λ j. is_eq (order q j)) e es h)
 
-  -- behind the first pair the map has what it has, but nothing at the first key
+  -- after the first pair the map has what it has, but nothing at the first key
   pub value_at_rest : (e : List ℕ × V) (es : List (List ℕ × V)) (q : List ℕ) → IsRising (e ∷ es) → value_at q es ≡ cond (is_eq (order q e.0)) None (value_at q (e ∷ es))
   value_at_rest e es q r = rest_by (is_eq (order q e.0)) e es q refl r
 

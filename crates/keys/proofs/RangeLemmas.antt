@@ -106,7 +106,7 @@ module _ {V : Type 0} where
   held_rows m lo hi limit k v h =
       held_by (is_within lo hi k) (value_at k m) v (sym (value_at-in_range_by (is_within lo hi k) m lo hi k refl) ∙ value_at_taken limit (in_range lo hi m) k v h)
 
-  -- a pair is among the first so many, or there are so many and all are below it
+  -- a pair is among the first n, or there are n and all are below it
   abbrev IsTakenOrBehind : ℕ → List (List ℕ × V) → List ℕ → V → Type 0
   IsTakenOrBehind n es k v = (value_at k (take n es) ≡ Some v) ⊎ ((length (take n es) ≡ n) × AllByRecursion (λ j. is_below j k ≡ true) (keys_of (take n es)))
 

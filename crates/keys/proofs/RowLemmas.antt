@@ -73,14 +73,14 @@ all_parts bytes = rw (take-append-drop (first_len (drop 8 bytes)) (after_key byt
 parted-append : (l m key value x b : Bytes) → parted l m key value x ++ b ≡ parted l m key value (x ++ b)
 parted-append l m key value x b = rw (append_assoc l (m ++ (key ++ (value ++ x))) b, append_assoc m (key ++ (value ++ x)) b, append_assoc key (value ++ x) b, append_assoc value x b) refl
 
--- a row is read as before where more stands behind
+-- a row is read as before where more follows
 read-append : (bytes b : Bytes) → IsWhole bytes → IsRead (bytes ++ b) (first_key bytes) (first_value bytes) (after_row bytes ++ b)
 read-append bytes b h =
     let joined = sym (parted-append (take 8 bytes) (take 8 (drop 8 bytes)) (first_key bytes) (first_value bytes) (after_row bytes) b) ∙ ap (λ (y : Bytes). y ++ b) (all_parts bytes) in
     subst (λ (y : Bytes). IsRead y (first_key bytes) (first_value bytes) (after_row bytes ++ b)) joined
     (parts_are_read (take 8 bytes) (take 8 (drop 8 bytes)) (first_key bytes) (first_value bytes) (after_row bytes ++ b) (parts_of bytes h))
 
--- ---- rows, and others behind them
+-- ---- rows, and others after them
 
 pub AreRows-append : (n m : ℕ) (a b : Bytes) → AreRows n a → AreRows m b → AreRows (n + m) (a ++ b)
 AreRows-append zero m a b h k = let e : 0 + m ≡ m = omega arith in rw (e, h) k
@@ -223,7 +223,7 @@ pub first_of_rows : (n : ℕ) (bytes : Bytes) → AreRows n bytes → (n ≡ 0 �
 first_of_rows zero bytes h l = absurd (l refl)
 first_of_rows (suc n) bytes h l = h.0
 
--- ---- four pieces, put behind one another
+-- ---- four pieces, one after the other
 
 pub four_more : (old l m key value a b d e : Bytes) → a ≡ old ++ l → b ≡ a ++ m → d ≡ b ++ key → e ≡ d ++ value → e ≡ old ++ (l ++ (m ++ (key ++ value)))
 four_more old l m key value a b d e h i j k =

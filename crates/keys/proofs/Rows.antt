@@ -98,7 +98,7 @@ row_8_map = refl
 row_8_empty : replies row_8_pairs (Scan d (Some b) 10 ∷ Scan a None 0 ∷ Scan a (Some a) 5 ∷ []) ≡ Rows [] ∷ Rows [] ∷ Rows [] ∷ []
 row_8_empty = refl
 
--- row 16.1: a wipe between a put before it and a put behind it
+-- row 16.1: a wipe between a put before it and a put after it
 row_16_1_replies : replies row_8_pairs row_16_1 ≡ New ∷ Wiped 3 ∷ Missing ∷ New ∷ Rows ((a, 49 ∷ []) ∷ (c, 55 ∷ []) ∷ (d, 52 ∷ []) ∷ (e, 53 ∷ []) ∷ []) ∷ []
 row_16_1_replies = refl
 

@@ -1,4 +1,4 @@
--- Lemmas on pieces of which those without rows stand in a list of their own.
+-- Lemmas on pieces where those without rows stand in a list of their own.
 use Rattle.std.specs.Prelude.{◌≡◌, ℕ, suc, ◌+◌, ◌≤◌, List, [], ◌∷◌, ◌++◌, Option, Some, None, is_some, false, option_to_list, length, take, drop}
 use Rattle.std.proofs.Common.{refl, ap, sym, ◌∙◌, arith}
 use Rattle.std.proofs.lemmas.List.{append_assoc, length-append, take-append-drop, take-append-le, drop-append-le, take_all, drop_all}

@@ -1,4 +1,4 @@
--- Words that are compared as numbers, the greatest byte first, stand to each other as their bytes do.
+-- Words that are compared as numbers, the greatest byte first, compare as their bytes do.
 use Rattle.std.proofs.Common.{◌≡◌, ℕ, zero, suc, ◌+◌, ◌*◌, ◌<◌, ◌≤◌, List, [], ◌∷◌, length, take, drop, refl, sym, ap, ◌∙◌, arith, slice_index_or, subst}
 use Rattle.keys.specs.Words.{word_behind, IsWordOf}
 use Rattle.keys.proofs.MapLemmas.{flipped_less}
@@ -13,7 +13,7 @@ use Rattle.std.specs.Slice.Scan.{big_endian}
 use Rattle.keys.specs.Cells.{AreBytes}
 use Rattle.keys.specs.Order.{order}
 
--- ---- how numbers stand to each other
+-- ---- how numbers compare
 
 below : (x y : ℕ) → x < y → nat_cmp x y ≡ Less
 below x y l = sym (nat_cmp_is x y Less l)
@@ -26,14 +26,14 @@ above x y l = sym (nat_cmp_is x y Greater l)
 
 -- ---- digits
 
--- a smaller beginning keeps the number smaller, whatever bytes come behind it
+-- a smaller beginning keeps the number smaller, whatever bytes follow it
 rises : (a b : ℕ) (us vs : List ℕ) → length us ≡ length vs → AreBytes us → a < b → big_endian a us < big_endian b vs
 rises a b [] [] e h l = l
 rises a b [] (v ∷ vs) e h l = absurd (omega arith)
 rises a b (u ∷ us) [] e h l = absurd (omega arith)
 rises a b (u ∷ us) (v ∷ vs) e h l = rises (a * 256 + u) (b * 256 + v) us vs (omega arith) h.1 (omega (arith, h.0))
 
--- bytes behind the same beginning, and their numbers
+-- bytes after the same beginning, and their numbers
 pub stand_as_numbers : (a : ℕ) (us vs : List ℕ) → length us ≡ length vs → AreBytes us → AreBytes vs → nat_cmp (big_endian a us) (big_endian a vs) ≡ order us vs
 stand_as_numbers a [] [] e g h = level a a refl
 stand_as_numbers a [] (v ∷ vs) e g h = absurd (omega arith)
@@ -54,14 +54,14 @@ stand_as_numbers a (u ∷ us) (v ∷ vs) e g h = by (stand_as_numbers (a * 256 +
         ∙ behind
         ∙ sym (ap (λ o. ordering_then o (order us vs)) p)
 
--- ---- a word, and what is behind it
+-- ---- a word, and what is after it
 
 then_again : (o p q : Ordering) → ordering_then (ordering_then o p) q ≡ ordering_then o (ordering_then p q)
 then_again Less p q = refl
 then_again Equal p q = refl
 then_again Greater p q = refl
 
--- what is first decides, and else what is behind it
+-- what is first decides, and else what is after it
 parted : (n : ℕ) (xs ys : List ℕ) → n ≤ length xs → n ≤ length ys → ordering_then (order (take n xs) (take n ys)) (order (drop n xs) (drop n ys)) ≡ order xs ys
 parted zero xs ys g h = refl
 parted (suc n) [] ys g h = absurd (omega arith)
@@ -103,7 +103,7 @@ words_decide xs ys f g p q =
     ∙ stand_as_numbers 0 (take 8 xs) (take 8 ys) (omega arith) (first_are_bytes 8 xs f) (first_are_bytes 8 ys g))
     ∙ parted 8 xs ys p q
 
--- a byte string that is cut into a word and what is behind it
+-- a byte string that is cut into a word and what is after it
 pub record Cut (xs us ws : List ℕ) : Type 0 where
   pub fit : Fit xs
   pub word : us ≡ take 8 xs
@@ -136,7 +136,7 @@ words_apart xs us ws ys vs zs n m c d p q f = sym (decided (nat_cmp n m) (order 
 
 -- ---- first words
 
--- behind a smaller number the number stays smaller, whatever comes behind it
+-- after a smaller number the number stays smaller, whatever follows it
 behind_less : (k n m : ℕ) (us vs : List ℕ) → AreBytes us → n < m → word_behind k n us < word_behind k m vs
 behind_less zero n m us vs h l = l
 behind_less (suc k) n m [] [] h l = behind_less k (n * 256) (m * 256) [] [] h (omega arith)
@@ -144,13 +144,13 @@ behind_less (suc k) n m [] (v ∷ vs) h l = behind_less k (n * 256) (m * 256 + v
 behind_less (suc k) n m (u ∷ us) [] h l = behind_less k (n * 256 + u) (m * 256) us [] h.1 (omega (arith, h.0))
 behind_less (suc k) n m (u ∷ us) (v ∷ vs) h l = behind_less k (n * 256 + u) (m * 256 + v) us vs h.1 (omega (arith, h.0))
 
--- nothing behind it makes it least
+-- nothing after it makes it least
 behind_least : (k n m : ℕ) (vs : List ℕ) → n ≤ m → word_behind k n [] ≤ word_behind k m vs
 behind_least zero n m vs l = l
 behind_least (suc k) n m [] l = behind_least k (n * 256) (m * 256) [] (omega arith)
 behind_least (suc k) n m (v ∷ vs) l = behind_least k (n * 256) (m * 256 + v) vs (omega arith)
 
--- words tell no more than the bytes do
+-- words say no more than the bytes do
 pub words_tell_less : (k n : ℕ) (us vs : List ℕ) → AreBytes us → AreBytes vs → word_behind k n us < word_behind k n vs → order us vs ≡ Less
 words_tell_less zero n us vs g h l = absurd (omega arith)
 words_tell_less (suc k) n [] [] g h l = absurd (omega arith)

@@ -1,4 +1,4 @@
--- The types of which definitions and contracts speak. A list of numbers that stands without a name is one of page ids or of places.
+-- The types that definitions and contracts use. A list of numbers that stands without a name is one of page ids or of places.
 use Rattle.std.specs.Prelude.{ℕ, List, Option}
 
 -- a string of bytes: a key or a value; also a text, or what stands on a disk
@@ -13,6 +13,6 @@ Pairs V = List (Bytes × V)
 abbrev pub Changes : Type 0 → Type 0
 Changes V = List (Bytes × Option V)
 
--- low keys, each with the id of its page: the entries of an index page, and what the level above says of pages
+-- low keys, each with the id of its page: the entries of an index page, and what the level above has of its pages
 abbrev pub Names : Type 0
 Names = Pairs ℕ

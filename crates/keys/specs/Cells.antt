@@ -4,7 +4,7 @@ use Rattle.std.specs.Int.{bytes_high_first}
 use Rattle.std.specs.List.{AllByRecursion}
 use Rattle.keys.specs.Bytes.{Bytes}
 
--- a spelling in bytes, and its reader: what bytes begin with, where they begin with a spelling, and the bytes behind it
+-- a spelling in bytes, and its reader: what bytes begin with, where they begin with a spelling, and the bytes after it
 pub record Codec (X : Type 0) : Type 0 where
   pub spell : X → Bytes
   pub read : Bytes → Option (X × Bytes)
@@ -15,7 +15,7 @@ AreBytes bs = AllByRecursion (λ b. b < 256) bs
 
 -- ---- what is asked of a codec
 
--- x is read back from its spelling, whatever stands behind it
+-- x is read back from its spelling, whatever follows it
 abbrev pub IsReadBack : {X : Type 0} → Codec X → X → Type 0
 IsReadBack c x = (rest : Bytes) → c.read (c.spell x ++ rest) ≡ Some (x, rest)
 
@@ -25,7 +25,7 @@ ReadsSpellings {X = X} c = (bs : Bytes) (x : X) (rest : Bytes) → AreBytes bs �
 
 -- ---- steps of a reader
 
--- what comes of what was read and of the bytes behind it, where there is any
+-- what comes of what was read and of the bytes after it, where there is any
 abbrev pub read_on : {X Y : Type 0} → Option (X × Bytes) → (X → Bytes → Option (Y × Bytes)) → Option (Y × Bytes)
 read_on None next = None
 read_on (Some p) next = next p.0 p.1

@@ -1,6 +1,6 @@
 -- Lists of lists.
 use Rattle.std.specs.Prelude.{List, flat_map}
 
--- the lists, each behind the one before it, as one list
+-- the lists, one after the other, as one list
 abbrev pub flat : {X : Type 0} → List (List X) → List X
 flat xss = flat_map (λ xs. xs) xss

@@ -7,7 +7,7 @@ use Rattle.std.specs.List.Sorted.{IsStrictlySortedBy}
 use Rattle.std.specs.Map.{keys_of}
 use Rattle.keys.specs.Bytes.{Bytes, Pairs}
 
--- how two byte strings stand to each other: by their bytes, a proper beginning first
+-- how two byte strings compare: by their bytes, a proper beginning first
 abbrev pub order : Bytes → Bytes → Ordering
 order = slice_cmp nat_cmp
 

@@ -1,4 +1,4 @@
--- Ranges of keys, and the rows of a range: from a low key on, below an end where there is one, and at most so many.
+-- Ranges of keys, and the rows of a range: from a low key on, below an end where there is one, and at most a limit of them.
 use Rattle.std.specs.Prelude.{ℕ, Bool, true, not, ◌&&◌, take, Option, Some, None}
 use Rattle.std.specs.Ordering.{is_lt}
 use Rattle.std.specs.List.{filter}
@@ -26,6 +26,6 @@ in_range lo hi m = filter (λ e. is_within lo hi e.0) m
 abbrev pub out_of_range : {V : Type 0} → Bytes → Option Bytes → Pairs V → Pairs V
 out_of_range lo hi m = filter (λ e. not (is_within lo hi e.0)) m
 
--- the first so many of those in a range
+-- the first `limit` of those in a range
 abbrev pub rows : {V : Type 0} → Bytes → Option Bytes → ℕ → Pairs V → Pairs V
 rows lo hi limit m = take limit (in_range lo hi m)

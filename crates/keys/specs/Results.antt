@@ -1,4 +1,4 @@
--- One step after another, each of which may fail.
+-- One step after another, where each may fail.
 use Rattle.std.specs.Prelude.{Result, Ok, Err}
 
 -- the next step, where the one before has no error; else that error

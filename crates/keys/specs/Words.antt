@@ -3,7 +3,7 @@ use Rattle.std.specs.Prelude.{◌≡◌, ℕ, zero, suc, ◌+◌, ◌*◌, [], �
 use Rattle.keys.specs.Bytes.{Bytes}
 use Rattle.keys.specs.Cells.{AreBytes}
 
--- the next k bytes behind a number, the greatest first; zeros stand for those that aren't there
+-- the next k bytes after a number, the greatest first; zeros stand for those that aren't there
 abbrev pub word_behind : ℕ → ℕ → Bytes → ℕ
 word_behind zero n bs = n
 word_behind (suc k) n [] = word_behind k (n * 256) []

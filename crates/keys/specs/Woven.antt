@@ -1,4 +1,4 @@
--- A list of pieces in two: those that have something to hold, and those of scans that found no rows, of which a place is all that is kept.
+-- A list of pieces in two: those that have something to hold, and those of scans that found no rows, for which only the place is kept.
 use Rattle.std.specs.Prelude.{ℕ, suc, ◌≤◌, ⊤, List, [], ◌∷◌, ◌++◌, take, drop}
 use Rattle.keys.specs.declared.command.Reply.TheVariants.{Rows}
 use Rattle.keys.specs.declared.piece.Piece.{Piece}

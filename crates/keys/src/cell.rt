@@ -11,7 +11,7 @@ pub trait Cell<A: Allocator + Copy> {
     fn copy(&self, alloc: A) -> Result<Self, AllocError>
         ensures { IfOk result (λ cell. cell ≡ self.now) };
 
-    /// A cell that takes no memory, to stand where another was taken out. What it says is of no account.
+    /// A cell that takes no memory, to stand where another was taken out. Its content doesn't matter.
     fn blank(alloc: A) -> Self;
 }
 

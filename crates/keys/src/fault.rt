@@ -41,7 +41,7 @@ pub enum Fault {
     /// The log is in one segment, so that none can be cleaned.
     #[error("11 NothingToClean")]
     NothingToClean,
-    /// The disk has no settings block, or is shorter than it tells.
+    /// The disk has no settings block, or is shorter than that requires.
     #[error("12 NotAStore")]
     NotAStore,
     /// No slot is open, or an open one is not well formed.

@@ -22,7 +22,7 @@ pub fn fingerprint_of(key: &[u8]) -> usize
     (spread(both) >> 58) as usize
 }
 
-// The bits of a number, spread over those at the top (Fibonacci hashing, as Knuth tells it).
+// The bits of a number, spread over those at the top (Fibonacci hashing, as Knuth describes it).
 #[inline]
 fn spread(number: u64) -> u64
     ensures { result ≡ spread number }

@@ -65,7 +65,7 @@ impl<'a> KeyRef<'a> {
         self.bytes
     }
 
-    /// How this key stands to the other.
+    /// How this key compares to the other.
     #[inline]
     pub fn compare(&self, other: &KeyRef<'_>) -> Ordering
         ensures { result ≡ order self.now other.now }

@@ -61,7 +61,7 @@ pub fn a_scan_leaves_the_map<A: Allocator>()
 {}
 
 /// A wipe is answered with how many pairs of the map lie in its range. None of their keys is there afterwards, every other key has
-/// what it had, and so many pairs are gone.
+/// what it had, and the map is that many pairs shorter.
 pub fn a_wipe_removes_what_lies_in_its_range<A: Allocator>()
     ensures reply { (m : Pairs Bytes) (lo : Bytes) (hi : Option Bytes) → reply_to {A = A} m (Wipe lo hi) ≡ Wiped (length (in_range lo hi m)) }
     ensures within { (m : Pairs Bytes) (lo : Bytes) (hi : Option Bytes) (k : Bytes) → is_within lo hi k ≡ true → value_at k (map_after {A = A} m (Wipe lo hi)) ≡ None }
@@ -94,7 +94,7 @@ pub fn rows_are_the_first_pairs_of_a_range<V>()
     ensures no_limit_left { (m : Pairs V) (lo : Bytes) (hi : Option Bytes) → rows lo hi 0 m ≡ [] }
 {}
 
-/// A scan that ends at a nearer key, before which it has as many rows as it may, is answered as before; so what lies behind that key
+/// A scan that ends at a nearer key, before which it has as many rows as it may, is answered as before; so what lies after that key
 /// needn't be looked at for it. Replies and map of a batch are the same, whichever of its scans end so.
 pub fn a_scan_with_enough_rows_may_end<A: Allocator>()
     ensures rows { (keys : List Bytes) (m : Pairs Bytes) (lo : Bytes) (hi : Option Bytes) (limit : ℕ)

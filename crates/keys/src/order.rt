@@ -1,4 +1,4 @@
-//! How byte strings stand to each other.
+//! How byte strings compare.
 ghost use Rattle.std.specs.Prelude.{◌≡◌};
 ghost use Rattle.std.specs.Option.{option_copied};
 ghost use Rattle.keys.specs.Order.{order};
@@ -6,8 +6,8 @@ ghost use Rattle.keys.specs.Range.{is_before};
 
 use std::cmp::Ordering;
 
-/// How the first byte string stands to the second: the first byte in which they differ decides, and a proper beginning
-/// stands first. Eight bytes are compared at a time, as one number.
+/// How the first byte string compares to the second: the first byte in which they differ decides, and a proper
+/// beginning stands first. Eight bytes are compared at a time, as one number.
 #[inline]
 pub fn compare(one: &[u8], other: &[u8]) -> Ordering
     ensures { result ≡ order one.now other.now }

@@ -13,8 +13,8 @@ use std::mem;
 // The greatest place, and the greatest number of pieces, that a `Rowless` can hold.
 const MOST: usize = u32::MAX as usize;
 
-/// The answer to a scan that found no rows on its page: all that is kept of such a piece, of which a batch of scans over emptied
-/// pages has millions.
+/// The answer to a scan that found no rows on its page: all that is kept of such a piece, since a batch of scans over emptied
+/// pages has millions of them.
 #[derive(Drop)]
 pub struct Rowless {
     /// The scan's place in the batch, counted from 0.

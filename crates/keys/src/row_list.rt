@@ -14,7 +14,7 @@ use std::marker::Model;
 const SMALL: usize = 16_384;
 
 /// The rows of a scan: keys and their values, copied out of the pages, which contracts see as the list of these pairs. All
-/// of them stand in one piece of memory. That the keys rise is said by whoever makes them.
+/// of them stand in one piece of memory. Whoever makes them sees to it that the keys rise.
 #[derive(Drop)]
 pub struct RowList<A: Allocator> {
     count: usize,
@@ -78,7 +78,7 @@ impl<A: Allocator + Copy> RowList<A> {
         Ok(())
     }
 
-    /// Leaves out the rows after the first ones, this many.
+    /// Drops the rows after the first `len`.
     pub fn truncate(&mut self, len: usize)
         ensures { self.new ≡ take len self.old }
     {
@@ -136,7 +136,7 @@ fn make_room<A: Allocator>(bytes: &mut Vec<u8, A>, more: usize) -> Result<(), Al
     Ok(())
 }
 
-// Puts the bytes of a row after the others. After an `Err` some of them may stand there.
+// Appends the bytes of a row. After an `Err` some of them may stand there.
 fn push_row<A: Allocator>(
     bytes: &mut Vec<u8, A>,
     key: &[u8],
@@ -155,7 +155,7 @@ fn push_row<A: Allocator>(
     Ok(())
 }
 
-// What stands after the first rows, this many.
+// What stands after the first `count` rows.
 fn after_rows(bytes: &[u8], count: usize) -> &[u8]
     requires { StartWithRows count bytes.now }
     ensures { result.now ≡ after_rows count bytes.now }

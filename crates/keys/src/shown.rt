@@ -5,7 +5,7 @@ use crate::value::Value;
 use std::alloc::Allocator;
 use std::fmt;
 
-// Bytes in quotes, behind a b.
+// Bytes in quotes, after a b.
 fn write_bytes<W: fmt::Write>(bytes: &[u8], f: &mut fmt::Formatter<W>) -> fmt::Result {
     f.write_str("b\"")?;
     for byte in bytes {
@@ -26,7 +26,7 @@ impl<A: Allocator> fmt::Debug for Value<A> {
     }
 }
 
-// A row, behind a comma where it isn't the first one.
+// A row, after a comma where it isn't the first one.
 fn write_row<W: fmt::Write>(
     is_first: bool,
     key: &[u8],

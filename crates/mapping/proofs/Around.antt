@@ -31,7 +31,7 @@ is_greater m n h = sym (nat_cmp_is m n Greater h)
 abbrev pub around : {V : Type 0} → List (ℕ × V) → ℕ → Option V → List (ℕ × V) → List (ℕ × V)
 around es k o fs = es ++ (entry_if k o ++ fs)
 
--- the pid is above those before it, and below those behind it
+-- the pid is above those before it, and below those after it
 pub record IsAround {V : Type 0} (es : List (ℕ × V)) (k : ℕ) (fs : List (ℕ × V)) : Type 0 where
   pub below : AllByRecursion (λ n. n < k) (keys_of es)
   pub above : AllByRecursion (λ n. k < n) (keys_of fs)

@@ -103,7 +103,7 @@ module _ {V : Type 0} where
 
 -- ---- pids drawn
 
--- the table after drawing so many: these pids, their places, and all else as it was
+-- the table after drawing n pids: these pids, their places, and all else as it was
 pub record AreAway {P : Type 0} (t u : Mapping P) (pids : List ℕ) (n : ℕ) : Type 0 where
   pub rising : AreRisingPids (pids_in_use u)
   pub next : (m : ℕ) → unused (pids_in_use u) m ≡ unused (pids_in_use t) (n + m)

@@ -1,4 +1,4 @@
--- Slots of which some are marked as written.
+-- Slots where some are marked as written.
 use Rattle.std.specs.Prelude.{◌≡◌, ◌≢◌, ℕ, zero, suc, ◌<◌, Bool, true, false, cond, ◌||◌, nat_eq, List, [], ◌∷◌, ◌++◌, map, take, drop, set, get_or, length}
 use Rattle.std.proofs.Common.{refl, sym, ap, ◌∙◌, arith, subst}
 use mathlib.Core.Bool.{false≢true}
@@ -140,7 +140,7 @@ same_log No (Home p) e = absurd (cc)
 same_log Old (Home p) e = absurd (cc)
 same_log (Upto n) (Home p) e = cc
 
--- a slot of which nothing is due is as it is then
+-- a slot with nothing due is as it is then
 abbrev IsSaid : List ℕ → Slot → Type 0
 IsSaid pids s = is_among s.pid pids ≡ false → logged_then s.page ≡ s.logged
 

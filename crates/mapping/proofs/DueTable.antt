@@ -133,7 +133,7 @@ module _ (t : Mapping PageOfKind) (d e : DuePids) (a : AreNoted t d) (w : IsWith
   pub noted-outdated : may_be_due e k ≡ true → AreNoted (log_outdated t k) e
   noted-outdated h q f = is_written-outdated t k q (other_due e k q h f) (a q (not_due d e q w f))
 
--- a page comes into a place from which one was away, of a pid of which the log has something: so that is noted already
+-- a page comes into a place from which one was away, of a pid that the log has something of: so that is noted already
 due_by : (b : Bool) (t : Mapping PageOfKind) (d : DuePids) (k : ℕ) → may_be_due d k ≡ b → AreNoted t d → place_of t k ≡ Some None → log_of t k ≢ No → may_be_due d k ≡ true
 due_by true t d k e a away h = e
 due_by false t d k e a away h = absurd (h (a k e ∙ ap log_then away))

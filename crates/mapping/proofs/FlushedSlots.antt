@@ -14,7 +14,7 @@ use Rattle.mapping.specs.declared.slots.TablePlace.TheVariants.{Vacant, Away, Ho
 use Rattle.mapping.specs.declared.slots.TableSlot.{TableSlot}
 use Rattle.mapping.proofs.TableSlots.{same_mapping}
 
--- the first so many of the slots, rewritten, and the others
+-- the first slots, rewritten, and the others
 abbrev pub so_far : List (TableSlot PageOfKind) → ℕ → List (TableSlot PageOfKind)
 so_far ss i = map slot_then (take i ss) ++ drop i ss
 

@@ -16,7 +16,7 @@ use Rattle.mapping.proofs.Listing.{rising-listing}
 
 -- ---- numbers
 
--- so many of the least free numbers are drawn, and no free number is left below this one
+-- m of the least free numbers are drawn, `count` at most, and no free number is left below this one
 pub record AreDrawn (used pids : List ℕ) (m count next : ℕ) : Type 0 where
   pub drawn : pids ≡ fresh_pids used m
   pub few : m ≤ count
@@ -84,7 +84,7 @@ all_drawn used pids m count k a h = let x = a.few in a.drawn ∙ ap (fresh_pids 
 pub rising-in_use : {P : Type 0} (ss : List (TableSlot P)) → AreRisingPids (slot_pids ss) → AreRisingPids (pids_in_use (table_of ss))
 rising-in_use ss r = rising-listing (λ s. s.pid) (λ s. listed_place s.page) ss r
 
--- and so do those of which the log has something
+-- and so do those that the log has something of
 pub rising-logged : {P : Type 0} (ss : List (TableSlot P)) → AreRisingPids (slot_pids ss) → AreRisingPids (keys_of (table_of ss).logged)
 rising-logged ss r = rising-listing (λ s. s.pid) (λ s. listed_state (log_state s.logged)) ss r
 

@@ -1,4 +1,4 @@
--- The pids that a table knows: those in use, and those of which the log has `Old`.
+-- The pids that a table knows: those in use, and those that are `Old` in the log.
 use Rattle.std.specs.Prelude.{◌≡◌, ℕ, ◌<◌, Bool, true, false, cond, ◌||◌, nat_eq, nat_lt, List, [], ◌∷◌, ◌++◌, Option, Some, None, is_some}
 use Rattle.std.proofs.Common.{refl, sym, ap, ◌∙◌, arith, ltb-true, ltb-false}
 use Rattle.std.specs.List.{AllByRecursion, filter}

@@ -24,7 +24,7 @@ abbrev pub AreNamed : Names → List (List (Placed ℕ)) → Type 0
 AreNamed ns [] = length ns ≡ 1
 AreNamed ns (up ∷ ups) = joined up ≡ ns
 
--- a page has so many children at least, by the levels above it
+-- how many children a page has at least, by the levels above it
 abbrev pub least_under : List (List (Placed ℕ)) → ℕ
 least_under [] = 2
 least_under (up ∷ ups) = 1

@@ -137,7 +137,7 @@ apart_le u n l d = le_by (cases_lt u n)
     le_by (inl k) = k
     le_by (inr k) = absurd (d (omega arith))
 
--- the place before the first used number is counted, of a place behind it
+-- the place before the first used number is counted, of a later place
 step_back : (u at n : ℕ) → ((b : Bool) → nat_le u n ≡ b → at < cond b (suc n) n) → u ≢ at → (m : ℕ) × (m < n) × (cond (nat_le u m) (suc m) m ≡ at)
 step_back u at n h d = back_by (cases_lt at u) (nat_le u n) refl
   where
@@ -215,7 +215,7 @@ drawn_by false u us n m e r l ih =
     ∙ placed_by (nat_lt n u) n u us m refl above
     ∙ unused-counted (u ∷ us) n m l
 
--- once a number is in use, those behind it are one place nearer
+-- once a number is in use, those after it are one place nearer
 pub unused-drawn : (used : List ℕ) (n m : ℕ) → AreRisingPids used → n ≤ m → unused (with_number (unused used n) used) m ≡ unused used (suc m)
 unused-drawn [] n m r l = unused-counted [] n m l
 unused-drawn (u ∷ us) n m r l = drawn_by (nat_le u n) u us n m refl r l (λ k h. unused-drawn us k (suc m) r.1 h)

@@ -31,7 +31,7 @@ module _ {V : Type 0} where
   rest_by true n e es h z = ap (λ (m : ℕ). listed_at es m) (same_pid n e.0 (equal_by (nat_cmp n e.0) h)) ∙ z
   rest_by false n e es h z = rw h refl
 
-  -- behind the first, a list says what it says, but nothing of the first pid
+  -- after the first, a list says what it says, but nothing of the first pid
   pub rest_listed : (n : ℕ) (e : ℕ × V) (es : List (ℕ × V)) → AreRisingPids (keys_of (e ∷ es)) → listed_at es n ≡ cond (is_eq (nat_cmp n e.0)) None (listed_at (e ∷ es) n)
   rest_listed n e es r = rest_by (is_eq (nat_cmp n e.0)) n e es refl (none_below e.0 es r.0)
 

@@ -1,4 +1,5 @@
--- A proper tree is told by its pages: the root is the one page that no other names, and the height is how far the leaves are below it.
+-- A proper tree is determined by its pages: the root is the one page that no other names, and the height is how far the leaves are
+-- below it.
 use Rattle.std.specs.Prelude.{◌≡◌, ℕ, zero, suc, pred, ◌+◌, ◌<◌, ◌⊎◌, Bool, true, false, nat_eq, ◌||◌, is_some, List, [], ◌∷◌, ◌++◌, map, flat_map, length, Option, Some, None}
 use Rattle.std.proofs.Common.{refl, sym, ap, ◌∙◌, subst, arith, inl, inr}
 use Rattle.std.specs.List.{AllByRecursion}

@@ -97,7 +97,7 @@ above_next : (m n : ℕ) (ns : List ℕ) → m ≤ n → AllByRecursion (λ i. n
 above_next m n [] h a = tt
 above_next m n (k ∷ ns) h a = (let x = a.0 in omega arith, above_next m n ns h a.1)
 
--- no pid stands behind its own number
+-- no pid stands after its own number
 behind : (n m k : ℕ) (ns : List ℕ) → k ≤ m + n → AreRisingPids ns → AllByRecursion (λ i. m ≤ i) ns → AllByRecursion (λ i. k ≤ i) (drop n ns)
 behind zero m k ns h r a = at_least k m ns (omega arith) a
 behind (suc n) m k [] h r a = tt

@@ -73,7 +73,7 @@ module _ {P : Type 0} where
   pub stands_up_to : (ss : List (TableSlot P)) (i k : ℕ) → StandsAt (slot_pids ss) k i → i ≤ length ss
   stands_up_to ss i k e = let within = stands_within ss i k e in omega arith
 
-  -- and one that has none goes to a place among them or behind them
+  -- and one that has none goes to a place among them or after them
   pub goes_within : (ss : List (TableSlot P)) (i k : ℕ) → GoesTo (slot_pids ss) k i → i ≤ length ss
   goes_within ss i k e = let within : i ≤ length (slot_pids ss) = e.within in omega (arith, length-map ss pid_of)
 

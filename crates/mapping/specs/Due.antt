@@ -1,4 +1,4 @@
--- Of which pids a flush may have something to write.
+-- Which pids a flush may have to write.
 use Rattle.std.specs.Prelude.{◌≡◌, ℕ, Bool, false, ◌||◌, List, Option, Some, None}
 use Rattle.index_page.specs.Page.{PageOfKind}
 use Rattle.mapping.specs.Tree.{Logged}

@@ -16,7 +16,7 @@ abbrev pub common_rules : {V : Type 0} → Settings → (V → Bool) → Place �
 common_rules s is_short at p =
     (4, is_same_key p.low at.low) ∷ (5, keeps_range at.low at.end p) ∷ (6, fits_sizes s is_short p) ∷ (7, fits_depth s p) ∷ []
 
--- rule 8 of an index page: its first child is at its low key, and it has so many children at least
+-- rule 8 of an index page: its first child is at its low key, and it has at least `least` children
 abbrev pub child_rule : ℕ → Page ℕ → ℕ × Bool
 child_rule least p = (8, is_headed least p)
 
@@ -71,7 +71,7 @@ children_at ps at = children_of_page at.end (page_at ps at.pid)
 abbrev pub all_met : List ℕ → List Place → List ℕ
 all_met met ats = map (λ at. at.pid) ats ++ met
 
--- the first finding from these places down, with n levels of index pages, whose pages have so many children at least
+-- the first finding from these places down, with n levels of index pages, whose pages have at least `least` children
 abbrev pub finding_below : Settings → List (ℕ × PageOfKind) → ℕ → ℕ → List ℕ → List Place → Option Finding
 finding_below s ps zero least met ats =
     or_else (on_level (λ m at. broken_leaf s m at (page_at ps at.pid)) met ats) (unmet (all_met met ats) ps)

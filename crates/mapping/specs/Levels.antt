@@ -21,7 +21,7 @@ entries p = page.entries p.page
 abbrev pub joined : {V : Type 0} → List (Placed V) → Pairs V
 joined ps = flat_map entries ps
 
--- what a parent's entry says of a page: its low key and its pid
+-- what a parent's entry holds of a page: its low key and its pid
 abbrev pub name : {V : Type 0} → Placed V → Bytes × ℕ
 name p = (p.page.low, p.pid)
 

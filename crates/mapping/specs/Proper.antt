@@ -94,7 +94,7 @@ pub record IsTree (t : Tree) : Type 0 where
 
 -- ---- what the log has
 
--- the page has so many runs, or more
+-- the page has k runs, or more
 abbrev pub HasRuns : ℕ → PageOfKind → Type 0
 HasRuns k (Leaf p) = k ≤ length p.layers.runs
 HasRuns k (Index p) = k ≤ length p.layers.runs

@@ -32,7 +32,7 @@ entry_if pid (Some v) = (pid, v) ∷ []
 abbrev pub slot_pids : {P : Type 0} → List (TableSlot P) → List ℕ
 slot_pids ss = map (λ s. s.pid) ss
 
--- the slots that aren't vacant, and those of which the log has something
+-- the slots that aren't vacant, and those whose pids the log has something of
 abbrev pub table_of : {P : Type 0} → List (TableSlot P) → Mapping P
 table_of ss = record {
   places = flat_map (λ s. entry_if s.pid (listed_place s.page)) ss;

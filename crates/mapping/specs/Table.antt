@@ -89,7 +89,7 @@ is_old No = false
 is_old Old = true
 is_old (Upto k) = false
 
--- the pids of which that is so
+-- the pids where that is so
 abbrev pub old_pids : {P : Type 0} → Mapping P → List ℕ
 old_pids t = keys_of (filter (λ l. is_old l.1) t.logged)
 
@@ -98,6 +98,6 @@ abbrev pub with_numbers : List ℕ → List ℕ → List ℕ
 with_numbers [] ns = ns
 with_numbers (m ∷ ms) ns = if is_among m (with_numbers ms ns) then with_numbers ms ns else with_number m (with_numbers ms ns)
 
--- by rising number the pids that are in use, or of which the log has `Old`
+-- by rising number the pids that are in use, or `Old` in the log
 abbrev pub pids_in_use_or_old : {P : Type 0} → Mapping P → List ℕ
 pids_in_use_or_old t = with_numbers (old_pids t) (pids_in_use t)

@@ -23,7 +23,7 @@ pub record Tree : Type 0 where
 abbrev pub most_levels : ℕ
 most_levels = 64
 
--- a tree; the first segment of its log; the position behind the log's last frame; the number of the last flush or clean; and
+-- a tree; the first segment of its log; the position after the log's last frame; the number of the last flush or clean; and
 -- the version of the log
 pub record Store : Type 0 where
   pub tree : Tree

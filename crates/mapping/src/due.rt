@@ -6,7 +6,7 @@ ghost use Rattle.mapping.specs.FreshPids.{is_among};
 use std::alloc::{AllocError, Allocator};
 use std::marker::Model;
 
-/// The pids of which a flush may have something to write, in the order in which they were noted, some more than once. Where there
+/// The pids that a flush may have to write, in the order in which they were noted, some more than once. Where there
 /// was no room to note one it may be any pid: then a flush looks at all.
 #[derive(Drop)]
 pub(crate) struct Due<A: Allocator> {
@@ -55,7 +55,7 @@ impl<A: Allocator + Copy> Due<A> {
         }
     }
 
-    /// Makes room for so many pids in all. Where memory is refused, nothing has changed.
+    /// Makes room for `count` pids in all. Where memory is refused, nothing has changed.
     pub(crate) fn reserve(&mut self, count: usize) -> Result<(), AllocError>
         ensures { self.new ≡ self.old }
     {

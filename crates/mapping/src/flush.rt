@@ -32,7 +32,7 @@ pub(crate) fn logged_then<A: Allocator + Copy>(place: &TablePlace<Page<A>>) -> L
     }
 }
 
-// Says that the log has the pages of these pids as they are, and nothing of those that have none.
+// Notes that the log has the pages of these pids as they are, and nothing of those that have none.
 pub(crate) fn mark_all<A: Allocator + Copy>(slots: &mut Vec<TableSlot<Page<A>>, A>, pids: &[u64])
     requires { AreRisingPids (slot_pids slots.old.items) }
     ensures { slots.new.items ≡ marked slots.old.items pids.now }

@@ -43,13 +43,13 @@ pub fn levels_are_found_in_their_table()
         levels_of t ≡ l }
 {}
 
-/// A proper tree is told by its pages: there is one root, and one height, with which they are a proper tree.
+/// A proper tree is determined by its pages: there is one root, and one height, with which they are a proper tree.
 pub fn a_proper_tree_is_told_by_its_pages()
     ensures { (s : Settings) (t u : Tree) → IsProper s t → IsProper s u → t.pages ≡ u.pages → (t.root ≡ u.root) × (t.height ≡ u.height) }
 {}
 
-/// The numbers that are given to new pages are not in use, rise from place to place, and leave out none that is free. Once
-/// one is in use, those behind it are one place nearer: so it is the same to draw pids at once or one after the other.
+/// The numbers that are given to new pages are not in use, rise from place to place, and leave out none that is free. Once one
+/// is in use, those after it are one place nearer: so it is the same to draw pids at once or one after the other.
 pub fn fresh_pids_are_the_least_unused_numbers()
     ensures free { (used : List ℕ) (n : ℕ) → AreRisingPids used → is_among (unused used n) used ≡ false }
     ensures rising { (used : List ℕ) (m n : ℕ) → m < n → unused used m < unused used n }
@@ -93,7 +93,7 @@ pub fn a_table_knows_the_pids_in_use_and_the_old_ones<P>()
 {}
 
 /// Pids that are drawn get places whose pages are away; other places stay, and so does what the log has. The next that are
-/// drawn are those that would have come behind these, and to free what was drawn gives the table back.
+/// drawn are those that would have followed these, and to free what was drawn gives the table back.
 pub fn drawn_pids_get_places_that_are_away<P>()
     ensures away { (t : Mapping P) (n pid : ℕ) → AreRisingPids (pids_in_use t) → is_among pid (fresh_pids (pids_in_use t) n) ≡ true →
         place_of (with_rooms t (fresh_pids (pids_in_use t) n)) pid ≡ Some None }

@@ -10,7 +10,7 @@ pub enum Logged {
     No,
     /// A page that isn't the present one's base.
     Old,
-    /// The base of the present page, and so many of its oldest runs.
+    /// The base of the present page, and this many of its oldest runs.
     Upto(u64),
 }
 

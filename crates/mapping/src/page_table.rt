@@ -12,7 +12,7 @@ use index_page::Page;
 use std::alloc::{AllocError, Allocator};
 use std::marker::Model;
 
-/// A table of pages that notes of which pids a flush may have something to write: of any other the log has what it would have
+/// A table of pages that notes which pids a flush may have to write: of any other the log has what it would have
 /// once all is written. Contracts see it as the table.
 #[derive(Drop)]
 pub(crate) struct PageTable<A: Allocator> {
@@ -33,7 +33,7 @@ impl<A: Allocator> Model for PageTable<A> {
 }
 
 impl<A: Allocator + Copy> PageTable<A> {
-    /// Of any pid of this table there may be something to write.
+    /// Any pid of this table may have something to be written.
     pub(crate) fn new(table: Table<Page<A>, A>) -> Self
         ensures { result ≡ table }
     {

@@ -7,7 +7,7 @@ use crate::logged::Logged;
 use crate::slots::{TablePlace, TableSlot};
 use std::marker::Model;
 
-/// The pids that are in use, and those of which the log has `Old`, by rising number. It takes no memory. Contracts see it
+/// The pids that are in use, and those that are `Old` in the log, by rising number. It takes no memory. Contracts see it
 /// as the list of those that are left.
 #[derive(Drop)]
 pub struct Pids<'a, P> {

@@ -57,7 +57,7 @@ pub(crate) fn occupy_all<P: Drop, A: Allocator + Copy>(
     Ok(())
 }
 
-// So many of the least numbers that have no place, where each below this one has a place. There may be too few.
+// The least `count` numbers that have no place, where each below `from` has a place. There may be too few.
 pub(crate) fn least_free<P, A: Allocator + Copy>(
     alloc: A,
     slots: &[TableSlot<P>],

@@ -24,7 +24,7 @@ pub(crate) struct TableSlot<P> {
 }
 
 // `Ok` is where the pid's slot is, `Err` where it would go. A slot stands at its pid's own number at the latest, and
-// mostly there: so that is looked at first, and what is behind it never.
+// mostly there: so that is looked at first, and what is after it never.
 pub(crate) fn slot_of<P>(slots: &[TableSlot<P>], pid: u64) -> Result<usize, usize>
     requires { AreRisingPids (slot_pids slots.now) }
     ensures { MatchResult result (StandsAt (slot_pids slots.now) pid) (GoesTo (slot_pids slots.now) pid) }

@@ -54,7 +54,7 @@ impl<P: Drop, A: Allocator + Copy> Table<P, A> {
         }
     }
 
-    /// By what the table asks for memory.
+    /// What the table allocates with.
     pub(crate) fn allocator(&self) -> A {
         *self.slots.allocator()
     }
@@ -106,7 +106,7 @@ impl<P: Drop, A: Allocator + Copy> Table<P, A> {
         }
     }
 
-    /// The pids that are in use, and those of which the log has `Old`, by rising number. It takes no memory.
+    /// The pids that are in use, and those that are `Old` in the log, by rising number. It takes no memory.
     pub fn pids(&self) -> Pids<'_, P>
         ensures pids { result ≡ pids_in_use_or_old self.now }
         ensures rising { AreRisingPids (pids_in_use self.now) }
@@ -163,7 +163,7 @@ impl<P: Drop, A: Allocator + Copy> Table<P, A> {
         self.filled = self.filled.min(pid);
     }
 
-    /// Says that the pid's page isn't the one that the log knows.
+    /// Notes that the pid's page isn't the one that the log knows.
     pub fn outdate(&mut self, pid: u64)
         ensures { self.new ≡ log_outdated self.old pid }
     {
@@ -182,7 +182,7 @@ impl<P: Drop, A: Allocator + Copy> Table<P, A> {
         occupy(&mut self.slots, pid)
     }
 
-    /// Draws so many new pids, the least numbers that have no place, in rising order, and makes a place for each, whose
+    /// Draws `count` new pids, the least numbers that have no place, in rising order, and makes a place for each, whose
     /// page is away. What the log has of them stays. Where memory is refused, or fewer numbers below `u64::MAX`
     /// are left, nothing has changed.
     pub fn fresh(&mut self, count: usize) -> Result<Vec<u64, A>, AllocError>
@@ -202,8 +202,8 @@ impl<P: Drop, A: Allocator + Copy> Table<P, A> {
 }
 
 impl<A: Allocator + Copy> Table<Page<A>, A> {
-    /// Says that the log has each page at home as it is, with all its runs, and nothing of any other pid. The places stay,
-    /// and it takes no memory.
+    /// Notes that the log has each page at home as it is, with all its runs, and nothing of any other pid. The places
+    /// stay, and it takes no memory.
     pub fn flushed(&mut self)
         ensures { self.new ≡ marked_as_written self.old }
     {

@@ -101,15 +101,15 @@ impl<A: Allocator + Copy> Tree<A> {
         self.table.as_table().home_pids()
     }
 
-    /// The page ids that are in use, and those of which the log has `Old`, by rising number: those of which a flush may have
-    /// something to write. It takes no memory.
+    /// The page ids that are in use, and those that are `Old` in the log, by rising number: those that a flush may have to write. It
+    /// takes no memory.
     pub fn known_pids(&self) -> Pids<'_, Page<A>>
         ensures { result ≡ pids_in_use_or_old self.now.table }
     {
         self.table.as_table().pids()
     }
 
-    /// The page ids of which a flush may have something to write, in any order, some more than once: of all others the log has what
+    /// The page ids that a flush may have to write, in any order, some more than once: of all others the log has what
     /// it would have once all is written. Nothing where it may be any page id.
     pub fn due_pids(&self) -> Option<&[u64]>
         ensures { IfSome result (λ pids. AreDue self.now.table pids.now) }
@@ -150,14 +150,14 @@ impl<A: Allocator + Copy> Tree<A> {
         self.table.free(pid.0);
     }
 
-    /// Says that the page isn't the one that the log knows.
+    /// Notes that the page isn't the one that the log knows.
     pub fn outdate(&mut self, pid: Pid)
         ensures { self.new ≡ record self.old { table = log_outdated self.old.table pid } }
     {
         self.table.outdate(pid.0);
     }
 
-    /// Draws so many new page ids, the least that have no place, in rising order, and makes a place for each, whose page is
+    /// Draws `count` new page ids, the least that have no place, in rising order, and makes a place for each, whose page is
     /// away. Where memory is refused, or fewer are left, nothing has changed.
     pub fn fresh(&mut self, count: usize) -> Result<Vec<u64, A>, AllocError>
         ensures pids { IfOk result (λ pids. pids.items ≡ fresh_pids (pids_in_use self.old.table) count) }
@@ -168,7 +168,7 @@ impl<A: Allocator + Copy> Tree<A> {
         self.table.fresh(count)
     }
 
-    /// Makes this page the root, of a tree with so many levels.
+    /// Makes this page the root, of a tree with `height` levels.
     pub fn set_root(&mut self, root: Pid, height: u32)
         ensures { self.new ≡ record self.old { root = root; height = height } }
     {
@@ -176,7 +176,7 @@ impl<A: Allocator + Copy> Tree<A> {
         self.height = height;
     }
 
-    /// Says that the log has each page at home as it is, with all its runs, and nothing of any other page id. It takes no memory.
+    /// Notes that the log has each page at home as it is, with all its runs, and nothing of any other page id. It takes no memory.
     pub fn flushed(&mut self)
         ensures { self.new ≡ record self.old { table = marked_as_written self.old.table } }
     {
@@ -184,7 +184,7 @@ impl<A: Allocator + Copy> Tree<A> {
     }
 }
 
-/// The tree of a new store: one empty leaf, of which the log has all.
+/// The tree of a new store: one empty leaf, which the log has.
 pub fn new_tree<A: Allocator + Copy>(alloc: A) -> Result<Tree<A>, AllocError>
     ensures { IfOk result (λ tree. tree ≡ new_in_memory) }
 {

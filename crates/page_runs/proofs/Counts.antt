@@ -1,4 +1,4 @@
--- How many entries there are after a command, as its reply tells.
+-- How many entries there are after a command, as its reply shows.
 use Rattle.std.specs.Prelude.{◌≡◌, ℕ, suc, ◌+◌, ◌≤◌, ◌==◌, min, Bool, true, false, cond, is_some, List, [], ◌∷◌, length, Option, Some, None, if◌then◌else◌}
 use Rattle.std.proofs.Common.{arith, refl, ap, Ordering, Less, Equal, Greater}
 use Rattle.std.specs.Ordering.{is_eq, match_ordering}
@@ -122,7 +122,7 @@ module _ (A : Type 0) where
   most_del true n l left h a s = let less = s refl in omega (arith, less)
   most_del false n l left h a s = omega arith
 
--- where so many were there before a command, as many as its reply tells of are there after it
+-- where at least n were there before a command, at least as many as its reply shows are there after it
 pub fewest_after : {A : Type 0} → (n : ℕ) (m : List (List ℕ × List ℕ)) (c : Command A) → n ≤ length m → entries_after n (reply_to m c) ≤ length (map_after m c)
 fewest_after {A} n m (Get k) h = after_get A n (length m) (value_at k m) h
 fewest_after {A} n m (Put k v) h = after_put A (is_some (value_at k m)) n (length m) (length (with_pair m k v)) h (most_with_pair m k v) (one_more m k v)
@@ -131,7 +131,7 @@ fewest_after {A} n m (Del k) h = after_del A (is_some (value_at k m)) n (length 
 fewest_after n m (Scan lo hi limit) h = h
 fewest_after n m (Wipe lo hi) h = let parts = both_parts m lo hi in omega (arith, h, parts)
 
--- where there were no more before a command, there are no more after it than its reply tells of
+-- where there were no more before a command, there are no more after it than its reply shows
 most_told : {A : Type 0} → (n : ℕ) (m : List (List ℕ × List ℕ)) (c : Command A) → IsRising m → length m ≤ n → length (map_after m c) ≤ entries_after n (reply_to m c)
 most_told {A} n m (Get k) r h = most_get A n (length m) (value_at k m) h
 most_told {A} n m (Put k v) r h = most_put A (is_some (value_at k m)) n (length m) (length (with_pair m k v)) h (one_more_at_most m k v) (no_more m k v r)

@@ -33,7 +33,7 @@ abbrev pub EndsBy : Option (List ℕ) → List ℕ → Type 0
 EndsBy None end = ⊥
 EndsBy (Some e) end = is_below end e ≡ false
 
--- of a page with this range: it ends at or before each of the keys that lies behind its low key
+-- of a page with this range: it ends at or before each of the keys that lies after its low key
 abbrev pub EndsBefore : List (List ℕ) → List ℕ → Option (List ℕ) → Type 0
 EndsBefore keys low page_end = (at : ℕ) (end : List ℕ) → slice_get keys at ≡ Some end → is_below low end ≡ true → EndsBy page_end end
 
@@ -53,7 +53,7 @@ and_parts false b h = absurd (cc)
 
 -- ---- one command
 
--- an end of a command: the key of a page, behind the scan's lower bound and before its upper one
+-- an end of a command: the key of a page, after the scan's lower bound and before its upper one
 abbrev pub IsNear : {A : Type 0} → List (List ℕ) → Command A → Option (List ℕ) → Type 0
 IsNear keys c None = ⊤
 IsNear keys (Scan lo hi limit) (Some end) = ((at : ℕ) × (slice_get keys at ≡ Some end)) × (is_below lo end ≡ true) × (is_before hi end ≡ true)
@@ -220,7 +220,7 @@ module _ {A : Type 0} where
 
 -- ---- the pages of a level
 
--- each page ends at or before the low keys that lie behind its own
+-- each page ends at or before the low keys that lie after its own
 abbrev pub AllEndBefore : List (List ℕ) → List Place → Type 0
 AllEndBefore keys ats = AllByRecursion (λ at. EndsBefore keys at.low at.end) ats
 
@@ -229,7 +229,7 @@ module _ (keys : List (List ℕ)) (k : List ℕ) where
   least_one low page_end l f zero end h b = absurd (let same : k ≡ end = cc in let not : is_below low k ≡ false = not_below_lower k low l in let yes : is_below low k ≡ true = ap (is_below low) same ∙ b in cc)
   least_one low page_end l f (suc at) end h b = f at end h b
 
-  -- one key more, which is the least, lies behind no page's low key
+  -- one key more, which is the least, lies after no page's low key
   least_more : (es : List (List ℕ × ℕ)) → IsBelowAll k (keys_of es) → AllEndBefore keys (children es None) → AllEndBefore (k ∷ keys) (children es None)
   least_more [] b a = tt
   least_more (e ∷ es) b a =

@@ -169,7 +169,7 @@ module _ {V : Type 0} where
   taken_none zero = refl
   taken_none (suc n) = refl
 
-  -- nor behind the last key
+  -- nor after the last key
   pub rows-none : (end : Option (List ℕ)) (n : ℕ) (out all : List (List ℕ × V)) (rest : List (List ℕ × Option V)) → rest ≡ [] → out ++ rows_of_changes end n rest ≡ all → out ≡ all
   rows-none end n out all rest e h =
       let whole : out ++ take n [] ≡ all = rw e at h in

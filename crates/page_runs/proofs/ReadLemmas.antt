@@ -1,4 +1,4 @@
--- Commands that only look: how they are told, and that they come to no run.
+-- Commands that only look: how they are told apart, and that they come to no run.
 use Rattle.std.specs.Prelude.{◌≡◌, ℕ, ◌+◌, Bool, true, false, ◌&&◌, List, [], ◌∷◌, drop, slice_get}
 use Rattle.std.proofs.Common.{refl, sym, ap, ◌∙◌}
 use Rattle.std.specs.Prelude.{Option, Some}
@@ -50,7 +50,7 @@ module _ {A : Type 0} where
     pub one_changes : said ≡ false → false ≡ list_all is_look (commands_at batch places)
     one_changes h = sym (ap (λ (b : Bool). b && list_all is_look (commands_at batch (drop (i + 1) places))) (sym here ∙ h)) ∙ sym (looks_from batch places i place next) ∙ so_far
 
-    -- where it looks it is for those behind it to say
+    -- where it looks it depends on the later ones
     pub one_looks : said ≡ true → list_all is_look (commands_at batch (drop (i + 1) places)) ≡ list_all is_look (commands_at batch places)
     one_looks h = sym (ap (λ (b : Bool). b && list_all is_look (commands_at batch (drop (i + 1) places))) (sym here ∙ h)) ∙ sym (looks_from batch places i place next) ∙ so_far
 

@@ -161,7 +161,7 @@ row_16_1_left = refl
 row_16_1_left_replies : answers_on left_leaf (Wipe b (Some d) ∷ Scan [] None 10 ∷ []) ≡ Wiped 1 ∷ Rows ((a, 49 ∷ []) ∷ []) ∷ []
 row_16_1_left_replies = refl
 
--- and the leaf from c on what was put behind the wipe, and absent what was put before it
+-- and the leaf from c on what was put after the wipe, and absent what was put before it
 abbrev right_leaf : Page
 right_leaf = record { runs = []; base = (c, 51 ∷ []) ∷ (d, 52 ∷ []) ∷ (e, 53 ∷ []) ∷ [] }
 
@@ -171,7 +171,7 @@ row_16_1_right = refl
 row_16_1_right_replies : answers_on right_leaf row_16_1 ≡ New ∷ Wiped 2 ∷ Missing ∷ New ∷ Rows ((c, 55 ∷ []) ∷ (d, 52 ∷ []) ∷ (e, 53 ∷ []) ∷ []) ∷ []
 row_16_1_right_replies = refl
 
--- row 16.2: a leaf of which everything goes has depth 1, and the second time it stays as it is
+-- row 16.2: a leaf that loses everything has depth 1, and the second time it stays as it is
 abbrev wiped_leaf : Page
 wiped_leaf = page_after right_leaf (Wipe [] None ∷ [])
 

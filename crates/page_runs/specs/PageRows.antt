@@ -15,7 +15,7 @@ pair_lent p = (p.0.now, p.1.now)
 abbrev pub change_lent : Bor Bytes × Option (Bor Bytes) → Bytes × Option Bytes
 change_lent c = (c.0.now, option_copied c.1)
 
--- what was taken out of a walk, where there was anything, and behind it what the walk has left
+-- what was taken out of a walk, where there was anything, and after it what the walk has left
 abbrev pub ahead : {L X : Type 0} → (L → X) → Option L → List X → List X
 ahead shows None rest = []
 ahead shows (Some x) rest = shows x ∷ rest

@@ -27,6 +27,6 @@ entries_after n Deleted = n - 1
 entries_after n (Rows rows) = n
 entries_after n (Wiped count) = n - count
 
--- the same where there were at most so many, up to a greatest number, which says nothing
+-- the same where there were at most n, up to a greatest number, which is no bound
 abbrev pub most_after : {A : Type 0} → ℕ → ℕ → Reply A → ℕ
 most_after greatest n r = if n == greatest then greatest else min (entries_after n r) greatest

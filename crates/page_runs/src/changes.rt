@@ -32,7 +32,7 @@ const FEW: usize = 32;
 #[derive(Drop)]
 pub(crate) struct Changes {
     kept: KeptChanges,
-    // How many commands may change a key. There are no more changes, but for those of wipes, each of which counts as one.
+    // How many commands may change a key. There are no more changes, but for those of wipes, which count as one each.
     writes: usize,
 }
 
@@ -54,7 +54,7 @@ impl Model for Changes {
 }
 
 impl Changes {
-    /// No changes, before the commands at these places, of which so many may change a key.
+    /// No changes, before the commands at these places; `writes` of them may change a key.
     pub(crate) fn for_commands(
         alloc: Global,
         commands: &[Command<Global>],
@@ -71,7 +71,7 @@ impl Changes {
         Changes { kept, writes }
     }
 
-    /// What the key has on the page by now: what the changes say of it, else what the page holds.
+    /// The key's value on the page by now: that of the changes where they name it, else that of the page.
     pub(crate) fn value_now<'a>(
         &'a self,
         page: &'a LeafChain,
@@ -117,7 +117,7 @@ impl Changes {
         }
     }
 
-    /// Sets what the changes say of the key.
+    /// Sets the key's change.
     pub(crate) fn note(
         &mut self,
         alloc: Global,

@@ -2,10 +2,10 @@
 use keys::Command;
 use std::alloc::Global;
 
-// Room is made for the answers of so many scans; a batch of more of them may be one that finds no rows on most pages.
+// Room is made for the answers of this many scans at most; a batch of more of them may be one that finds no rows on most pages.
 const FEW_SCANS: usize = 16;
 
-/// How many commands of each kind a page has to work. It decides for how much room is asked at first, and nothing else.
+/// How many commands of each kind a page has to work. It decides how much room is requested at first, and nothing else.
 #[derive(Drop)]
 pub(crate) struct Kinds {
     gets: usize,
@@ -15,7 +15,7 @@ pub(crate) struct Kinds {
 }
 
 impl Kinds {
-    /// Of the commands at these places.
+    /// Counts the commands at these places.
     pub(crate) fn of(commands: &[Command<Global>], places: &[usize]) -> Self {
         let mut kinds = Kinds {
             gets: 0,
@@ -36,7 +36,7 @@ impl Kinds {
         }
     }
 
-    /// For how many answers there is to be room.
+    /// How many answers to make room for.
     pub(crate) fn room(&self) -> usize {
         let others = self.gets.saturating_add(self.writes);
         others.saturating_add(self.scans.min(FEW_SCANS))

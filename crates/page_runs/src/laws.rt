@@ -32,12 +32,12 @@ pub fn a_page_after_a_run_has_the_run_applied<V>()
     ensures in_order { (s : Settings) (p : Layers V) (run : Changes V) → IsInOrder p → IsRising run → IsInOrder (after_run s p run) }
 {}
 
-/// The commands on some of the keys can be worked by themselves, on any map that agrees with the whole one on these
-/// keys; further commands may be taken along. The commands on one of these keys get the replies that they get among all
-/// commands, and where they alone are taken there are no others. All leave the same at these keys, and their net run says
-/// of these keys what the net run of all commands says; where no command on another key is taken, it names no other key, and so it
-/// is where the map has no other key and no command that gives one a value is taken.
-/// A command on one key is on these keys alone or wholly off them, as its key is.
+/// The commands on some of the keys can be worked by themselves, on any map that agrees with the whole one on these keys; further
+/// commands may be taken along. The commands on one of these keys get the replies that they get among all commands, and where they
+/// alone are taken there are no others. All leave the same at these keys, and their net run has at these keys the changes of the
+/// net run of all commands; where no command on another key is taken, it names no other key, and so it is where the map has no
+/// other key and no command that gives one a value is taken. A command on one key is on these keys alone or wholly off them, as
+/// its key is.
 pub fn commands_on_some_keys_are_worked_apart<A: Allocator>()
     ensures replies { (is_own : Bytes → Bool) (is_taken : Command A → Bool) (m x : Pairs Bytes) (cs : List (Command A)) →
         TakesAll is_own is_taken → IsRising m → IsRising x → AgreeOn is_own m x →

@@ -13,10 +13,10 @@ use delta_chain::{Chain, EntryBounds, LateChain};
 use keys::{Settings, Value};
 use std::alloc::Global;
 
-// So many runs may lie over a leaf's base in memory,
+// The most runs that may lie over a leaf's base in memory,
 const PENDING_RUNS: usize = 16;
 
-// with so many changes together. What lies there is gone through by each scan of the leaf, and is merged at last all the same.
+// and the most changes that they may have together. Each scan of the leaf goes through them, and at last they are merged all the same.
 const PENDING_CHANGES: usize = 32;
 
 /// The values of a leaf.
@@ -29,12 +29,12 @@ pub(crate) enum LeafWayBack {
     Same(LeafRun),
     /// The run stands in front of the leaf.
     InFront,
-    /// All runs count as merged now, with the new one. Of those before, so many did.
+    /// All runs count as merged now, with the new one. Of those before, `settled` did.
     Settled {
         class: Class,
         settled: usize,
     },
-    /// The leaf is a new one. Before, so many runs counted as merged.
+    /// The leaf is a new one. Before, `settled` runs counted as merged.
     Replaced {
         way_back: WayBack<Value<Global>>,
         settled: usize,
@@ -42,7 +42,7 @@ pub(crate) enum LeafWayBack {
 }
 
 /// The leaf after the run, with the way back; or the leaf as it was, where memory is refused. A run that is longer than `fan`, or that would
-/// give the leaf more runs than `chain`, has it replaced by a base of its entries, of which there are so many.
+/// give the leaf more runs than `chain`, has it replaced by a base of its entries, whose number `bounds` limits.
 pub(crate) fn put_leaf_run(
     alloc: Global,
     settings: &Settings,
@@ -170,7 +170,7 @@ fn merge(
     }
 }
 
-// The chain, so many of whose runs count as merged.
+// The chain, whose oldest `settled` runs count as merged.
 fn late(chain: Chain<Value<Global>, Global>, settled: usize) -> LateValues
     requires { settled ≤ length chain.runs }
     ensures { result ≡ record { chain = chain; settled = settled } }
@@ -180,7 +180,7 @@ fn late(chain: Chain<Value<Global>, Global>, settled: usize) -> LateValues
     page
 }
 
-// The leaf without its newest run, when so many of the others counted as merged.
+// The leaf without its newest run, when `settled` of the others counted as merged.
 fn taken_off(page: LateValues, settled: usize) -> LateValues
     requires { settled < length page.chain.runs }
     ensures { result ≡ record { chain = (without_newest page).chain; settled = settled } }
@@ -192,7 +192,7 @@ fn taken_off(page: LateValues, settled: usize) -> LateValues
 }
 
 impl LeafWayBack {
-    /// The leaf of which the given one was made. No memory is taken.
+    /// The leaf that the given one was made of. No memory is taken.
     pub(crate) fn undo(self, alloc: Global, page: LateValues) -> LateValues
         requires { CanUndoLeaf page self }
         ensures { result ≡ leaf_before page self }

@@ -23,7 +23,7 @@ use std::mem;
 pub struct LeafWork<'a> {
     /// Where new runs, bases and answers are allocated.
     pub alloc: Global,
-    /// The store's settings, of which `fan` and `chain` are looked at.
+    /// The store's settings; `fan` and `chain` are read.
     pub settings: Settings,
     /// The whole batch.
     pub commands: &'a [Command<Global>],
@@ -153,7 +153,7 @@ impl<'a> Work for LeafWork<'a> {
         };
         match put_leaf_run(self.alloc, &self.settings, chain, run, bounds) {
             Ok((mut chain, way_back)) => {
-                // The replies tell which entries came and went, and the chain by itself knows only how many were named.
+                // The replies show which entries came and went, and the chain by itself knows only how many were named.
                 chain.bound(bounds);
                 boxed(
                     self.alloc,
@@ -189,7 +189,7 @@ fn boxed(alloc: Global, done: KeptDone) -> Turn<LeafJob, LeafDone>
     }
 }
 
-// The job of which this was made.
+// The job that this was made of.
 fn job_of(alloc: Global, done: KeptDone) -> LeafJob
     requires { IsWorkedLeaf done.page done.way_back }
     ensures { leaf_held_of result ≡ (leaf_worked done.page done.way_back done.page_run done.pieces).held }

@@ -113,7 +113,7 @@ fn popped<V: Drop>(page: Chain<V, Global>) -> (Chain<V, Global>, Run<V, Global>)
 }
 
 impl<V: Cell<Global> + Drop> WayBack<V> {
-    /// The page and the run of which the given page was made. Cells go back to where they were, and the run in front is taken off; no
+    /// The page and the run that the given page was made of. Cells go back to where they were, and the run in front is taken off; no
     /// memory is taken.
     pub(crate) fn undo(
         self,

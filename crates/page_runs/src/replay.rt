@@ -18,9 +18,9 @@ use delta_chain::EntryBounds;
 use keys::{Command, Key, Piece, Pieces, Reply, RowList, Value};
 use std::alloc::{AllocError, Global};
 
-/// The net run of the commands at these places on the page, what the page answers to each of them, and between which two
-/// numbers of entries it has after them: what the page knew before, one more for each reply that tells of a new
-/// entry, and one less for each that tells of a deleted one, and as many as were wiped.
+/// The net run of the commands at these places on the page, what the page answers to each of them, and the bounds on its number of
+/// entries after them: those before, one more for each reply of a new entry, one less for each of a deleted one, and as many less
+/// as were wiped.
 pub(crate) fn replay(
     alloc: Global,
     commands: &[Command<Global>],
@@ -50,7 +50,7 @@ pub(crate) fn replay(
     Ok((changes.into_run(alloc)?, pieces, bounds))
 }
 
-// Between which numbers of entries there are after a command.
+// The bounds on the number of entries after a command.
 fn bounds_after(before: EntryBounds, reply: &Reply<Global>) -> EntryBounds
     ensures fewest { result.fewest ≡ min (entries_after before.fewest reply.now) usize.MAX }
     ensures most { result.most ≡ most_after usize.MAX before.most reply.now }
@@ -62,7 +62,7 @@ fn bounds_after(before: EntryBounds, reply: &Reply<Global>) -> EntryBounds
     }
 }
 
-// How many there are at most; the greatest `usize` says nothing of them.
+// How many there are at most; the greatest `usize` is no bound.
 fn most_after(before: usize, reply: &Reply<Global>) -> usize
     ensures { result ≡ most_after usize.MAX before reply.now }
 {
@@ -72,7 +72,7 @@ fn most_after(before: usize, reply: &Reply<Global>) -> usize
     entries_after(before, reply)
 }
 
-// How many entries there are after a command, up to the greatest `usize`: its reply tells whether one came or went.
+// How many entries there are after a command, up to the greatest `usize`: its reply shows whether one came or went.
 fn entries_after(before: usize, reply: &Reply<Global>) -> usize
     ensures { result ≡ min (entries_after before reply.now) usize.MAX }
 {
@@ -85,7 +85,7 @@ fn entries_after(before: usize, reply: &Reply<Global>) -> usize
     }
 }
 
-// The reply to the command, on the page with the changes so far, which has at most so many entries. Where it has none, no range is
+// The reply to the command, on the page with the changes so far, which has at most `most` entries. Where it has none, no range is
 // gone through.
 fn execute(
     alloc: Global,

@@ -17,7 +17,7 @@ use std::marker::Model;
 pub struct TermWork {
     /// Where new runs and bases are allocated.
     pub alloc: Global,
-    /// The store's settings, of which `fan` and `chain` are looked at.
+    /// The store's settings; `fan` and `chain` are read.
     pub settings: Settings,
 }
 

@@ -95,7 +95,7 @@ itself_below : (k : List ℕ) → is_on Below k k ≡ false
 itself_below k = rw (order_itself k) refl
 
 module _ (s : Side) (k : List ℕ) (ks : List (List ℕ)) (at : ℕ) (r : AreRisingKeys ks) (h : slice_get ks at ≡ Some k) where
-  -- behind the place where the key is, where it is with those before it
+  -- after the place where the key is, where it is with those before it
   behind : is_on s k k ≡ are_first s → Parts s k ks (at + 1)
   behind e =
       let within = slice_get_within ks at k h in
@@ -123,7 +123,7 @@ module _ (s : Side) (k : List ℕ) (ks : List (List ℕ)) (at : ℕ) (r : AreRis
 
 -- ---- the place of the nearest key of a list
 
--- of rising keys, a higher one stands further behind
+-- of rising keys, a higher one stands further on
 stands_behind : (ks : List (List ℕ)) (at m : ℕ) (j i : List ℕ) → AreRisingKeys ks → slice_get ks at ≡ Some j → slice_get ks m ≡ Some i → order j i ≡ Less → at < m
 stands_behind ks at m j i r p q h =
     elim (cases_lt at m) [

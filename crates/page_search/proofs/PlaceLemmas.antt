@@ -15,13 +15,13 @@ use Rattle.keys.specs.OrderedMap.{value_at}
 use Rattle.keys.proofs.MapLemmas.{total, alike, order_itself, is_itself, flipped_less}
 use Rattle.page_search.specs.Places.{count_below, AreBelowBefore, AreAboveFrom, KeyGoesTo}
 
--- of rising keys, each is below those behind it
+-- of rising keys, each is below those after it
 pub rising-by_place : (ks : List (List ℕ)) (m n : ℕ) (i j : List ℕ) → AreRisingKeys ks → slice_get ks m ≡ Some i → slice_get ks n ≡ Some j → m < n → order i j ≡ Less
 rising-by_place ks m n i j r p q l =
     let within = slice_get_within ks n j q in
     rw (get_or_from_slice_get ks m i i p, get_or_from_slice_get ks n j i q) at (Less-from_sorted order ks m n i r l within)
 
--- of rising keys, none is above one behind it
+-- of rising keys, none is above a later one
 pub rising-or_same : (ks : List (List ℕ)) (m n : ℕ) (i j : List ℕ) → AreRisingKeys ks → slice_get ks m ≡ Some i → slice_get ks n ≡ Some j → m ≤ n → (order i j ≡ Less) ⊎ (i ≡ j)
 rising-or_same ks m n i j r p q l =
     elim (cases_lt m n) [
@@ -50,7 +50,7 @@ count_below-after k (i ∷ ks) (suc at) j r p h =
     let rest : at < count_below k ks = count_below-after k ks at j (sorted_tail order i ks r) p h in
     rw (count_below-cons, below) (omega arith)
 
--- behind a key that is not below k, none is
+-- after a key that is not below k, none is
 not_below_by : (o : Ordering) (i j k : List ℕ) → order j k ≡ o → order i j ≡ Less → is_lt (order i k) ≡ false → is_lt o ≡ false
 not_below_by Less i j k e l h = absurd (let below : order i k ≡ Less = total.trans i j k l e in let wrong = rw below at h in cc)
 not_below_by Equal i j k e l h = refl

@@ -60,7 +60,7 @@ module _ {V : Type 0} (k : List ℕ) where
   pub least_of_base : (base : List (List ℕ × V)) (before after stop : ℕ) → min (before + fewest_among (is_key_among k (keys_of base)) (length (keys_of base))) stop ≤ after → min (before + walk_least k (record { runs = []; base = base })) stop ≤ after
   least_of_base base before after stop h = omega (arith, among k base)
 
-  -- a search in a run too, behind a walk over what is below it
+  -- a search in a run too, after a walk over what is below it
   pub least_with_run : (run : List (List ℕ × Option V)) (runs : List (List (List ℕ × Option V))) (base : List (List ℕ × V)) (before between after stop : ℕ) → min (before + walk_least k (record { runs = runs; base = base })) stop ≤ between → min (between + fewest_among (is_key_among k (keys_of run)) (length (keys_of run))) stop ≤ after → min (before + walk_least k (record { runs = run ∷ runs; base = base })) stop ≤ after
   least_with_run run runs base before between after stop p q = omega (arith, among k run, sum_by-cons (λ es. fewest_in k es) run runs)
 

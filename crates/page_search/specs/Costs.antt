@@ -14,11 +14,11 @@ use Rattle.page_search.specs.Nearest.{count_passed}
 use Rattle.page_search.specs.declared.side.Side.{Side}
 use Rattle.page_search.specs.declared.side.Side.TheVariants.{UpTo, Above}
 
--- at most so many among n keys: the binary digits of n, whether the key is there or not
+-- the most among n keys: the binary digits of n, whether the key is there or not
 abbrev pub most_among : Bool → ℕ → ℕ
 most_among is_there n = binary_digits n
 
--- at least so many: one where the key is there, else enough to tell apart the n + 1 places where it would go
+-- the fewest: one where the key is there, else enough to tell apart the n + 1 places where it would go
 abbrev pub fewest_among : Bool → ℕ → ℕ
 fewest_among is_there n = if is_there then 1 else binary_digits ((n + 1) / 2)
 
@@ -39,7 +39,7 @@ find_least k p = cost_under fewest_among k p.runs p.base
 abbrev pub is_key_among : Bytes → List Bytes → Bool
 is_key_among k ks = list_any (λ j. is_eq (order k j)) ks
 
--- at least so many where the key is looked for among these entries
+-- the fewest where the key is looked for among these entries
 abbrev pub fewest_in : {V : Type 0} → Bytes → Pairs V → ℕ
 fewest_in k es = fewest_among (is_some (value_at k es)) (length es)
 

@@ -17,7 +17,7 @@ is_on UpTo k j = not (is_lt (order k j))
 is_on Below k j = is_lt (order j k)
 is_on Above k j = is_lt (order k j)
 
--- how two keys on this side of a third stand to each other, the nearer one being the greater
+-- how two keys on this side of a third compare, the nearer one being the greater
 abbrev pub nearness : Side → Bytes → Bytes → Ordering
 nearness UpTo i j = order i j
 nearness Below i j = order i j
@@ -35,12 +35,12 @@ are_first UpTo = true
 are_first Below = true
 are_first Above = false
 
--- what the newest of the runs and the base that names the key says of it: a value, or absence
+-- what the newest of the runs and the base that names the key has there: a value, or an absence
 abbrev pub named_under : {V : Type 0} → Bytes → List (Changes V) → Pairs V → Option (Option V)
 named_under k [] base = option_map Some (value_at k base)
 named_under k (run ∷ runs) base = option_or (value_at k run) (named_under k runs base)
 
--- what the page says of the key, if it names it
+-- what the page has at the key, if it names it: a value, or an absence
 abbrev pub named_by : {V : Type 0} → Layers V → Bytes → Option (Option V)
 named_by p k = named_under k p.runs p.base
 
@@ -64,7 +64,7 @@ is_nearer_than s (Some e) j = is_lt (nearness s e.0 j)
 abbrev pub is_passed : {V : Type 0} → Side → Bytes → Option (Bytes × V) → Bytes × Option V → Bool
 is_passed s k x c = is_none c.1 && (is_on s k c.0 && is_nearer_than s x c.0)
 
--- how many of the changes do so: of what the runs say together, how many absent keys a search from k to this entry passes
+-- how many of the changes do so: of the runs' changes joined, how many absent keys a search from k to this entry passes
 abbrev pub count_passed : {V : Type 0} → Side → Bytes → Option (Bytes × V) → Changes V → ℕ
 count_passed s k x cs = count_by (is_passed s k x) cs
 

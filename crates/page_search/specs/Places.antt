@@ -13,7 +13,7 @@ count_below k ks = count_by (λ j. is_lt (order j k)) ks
 abbrev pub AreBelowBefore : Bytes → List Bytes → ℕ → Type 0
 AreBelowBefore k ks at = (m : ℕ) (j : Bytes) → m < at → slice_get ks m ≡ Some j → order j k ≡ Less
 
--- each key that stands at this place or behind it is above the key
+-- each key that stands at this place or after it is above the key
 abbrev pub AreAboveFrom : Bytes → List Bytes → ℕ → Type 0
 AreAboveFrom k ks at = (m : ℕ) (j : Bytes) → at ≤ m → slice_get ks m ≡ Some j → order k j ≡ Less
 

@@ -60,8 +60,8 @@ pub fn above<'a, V, A: Allocator + Copy>(
     nearest(&chain.lent(), key, Side::Above, probes)
 }
 
-// The entry that is nearest to the key on this side of it: what the page says of the nearest key that it names, and where
-// that is absent, of the nearest one past it, and so on.
+// The entry that is nearest to the key on this side of it: that of the nearest key that the page names, and where that is
+// absent, of the nearest one past it, and so on.
 fn nearest<'a, V, A: Allocator + Copy>(
     lists: &ChainRef<'a, V, A>,
     key: &[u8],
@@ -90,8 +90,8 @@ fn nearest<'a, V, A: Allocator + Copy>(
     }
 }
 
-// The nearest key on this side that the runs or the base name, and what the newest list that names it says of it: a cell,
-// or that it is absent.
+// The nearest key on this side that the runs or the base name, and what the newest list that names it has there: a cell, or
+// an absence.
 fn nearest_named<'a, V, A: Allocator + Copy>(
     lists: &ChainRef<'a, V, A>,
     key: &[u8],

@@ -36,7 +36,7 @@ impl Probes {
         self.compared
     }
 
-    /// How the first key stands to the second. It is one comparison more.
+    /// How the first key compares to the second. It is one comparison more.
     pub fn compare(&mut self, one: &KeyRef<'_>, other: &KeyRef<'_>) -> Ordering
         ensures order { result ≡ order one.now other.now }
         ensures counted { self.new ≡ min (self.old + 1) u64.MAX }

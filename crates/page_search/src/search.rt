@@ -29,8 +29,8 @@ pub fn lower<V, A: Allocator + Copy>(base: &Base<V, A>, key: &[u8], probes: &mut
     }
 }
 
-/// The cell that the page holds at the key, if it holds one: what the newest run that names the key says of it,
-/// else what the base says. The search stops at that run. It takes no memory.
+/// The cell that the page holds at the key, if it holds one: the change of the newest run that names the key,
+/// else the base's entry. The search stops at that run. It takes no memory.
 pub fn find<'a, V, A: Allocator + Copy>(
     chain: &'a Chain<V, A>,
     key: &[u8],
@@ -44,7 +44,7 @@ pub fn find<'a, V, A: Allocator + Copy>(
     find_lent(chain.lent(), key, probes)
 }
 
-/// The same of what is lent of a page, from one of its runs down.
+/// `find` in a borrowed part of a page: from one of its runs down.
 pub fn find_lent<'a, V, A: Allocator + Copy>(
     chain: ChainRef<'a, V, A>,
     key: &[u8],

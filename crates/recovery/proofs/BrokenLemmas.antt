@@ -1,4 +1,4 @@
--- Where frames fit no page, no frame behind them mends that; and none fits where there is no page.
+-- Where frames fit no page, no later frame mends that; and none fits where there is no page.
 use Rattle.std.specs.Prelude.{◌≡◌, List, [], ◌∷◌, fold}
 use Rattle.std.proofs.Common.{refl}
 use Rattle.frame_codec.specs.Frame.{Content}

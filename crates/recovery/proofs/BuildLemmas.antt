@@ -76,7 +76,7 @@ module _ {V : Type 0} (k : ℕ) where
   last_here (e ∷ es) v b = rw (greater k e.0 b.0) (last_here es v b.1)
 
 module _ {P : Type 0} (t : Mapping P) where
-  -- the table with a place behind all others
+  -- the table with a place after all others
   abbrev pub and_last : ℕ → Option P → Mapping P
   and_last k o = record { places = t.places ++ (k, o) ∷ []; logged = t.logged }
 
@@ -121,7 +121,7 @@ pids_in t ns = keys_of t.places ++ ns
 in_places-append : (ps qs : List (ℕ × PageOfKind)) → in_places (ps ++ qs) ≡ in_places ps ++ in_places qs
 in_places-append ps qs = map-append (λ p. (let x : ℕ × Option PageOfKind = (p.0, Some p.1) in x)) ps qs
 
--- pages behind pages
+-- pages after pages
 pub filled-more : (t : Mapping PageOfKind) (ps qs : List (ℕ × PageOfKind)) → filled (filled t ps) qs ≡ filled t (ps ++ qs)
 filled-more t ps qs =
     ap (λ (es : List (ℕ × Option PageOfKind)). (let u : Mapping PageOfKind = record { places = es; logged = t.logged } in u))
@@ -192,7 +192,7 @@ all_filled old t left all none h = sym (filled-none t) ∙ ap (λ (rs : List Reb
 first_same : {X : Type 0} (x y : X) (xs ys : List X) → x ∷ xs ≡ y ∷ ys → (x ≡ y) × (xs ≡ ys)
 first_same x y xs ys e = (cc, cc)
 
--- what was made of logs are the pages that they tell
+-- what was made of logs are the pages that they make
 pub pages-made : (s : Format) (rs : List Rebuilt) (hs : List HeldLog) → logs_made rs ≡ hs → map (λ r. r.page) rs ≡ map (λ h. page_in (told_in s h.frames)) hs → pages_made rs ≡ pages_told s hs
 pages-made s [] [] e f = refl
 pages-made s [] (h ∷ hs) e f = absurd (cc)
@@ -320,10 +320,10 @@ module _ (s : Format) (t : Mapping PageOfKind) (logs : List HeldLog) (left all :
       built ∙ ap (λ (hs : List HeldLog). filled t (pages_told s hs)) (sym (append-nil logs))
       ∙ ap (λ (es : List (ℕ × Kept)). filled t (pages_told s (logs ++ map log_under es))) (sym none) ∙ h.placed
 
--- ---- what is kept tells the pages of the log
+-- ---- what is kept gives the pages of the log
 
 module _ (s : Format) (good : first_bad_field s.settings ≡ None) (head : ℕ) (found : List Found) (within : AllByRecursion (λ f. is_frame s f.frame ≡ true) found) where
-  -- the frames that are kept of a page tell it
+  -- the frames that are kept of a page make it
   page_kept : (k : Kept) (pid : ℕ) → IsKept Every head k (telling pid found) → page_in (told_in s k.frames.items) ≡ page_in (in_log (frames_in found) pid)
   page_kept k pid h =
       ap (λ (bs : List ℕ). page_in (told_in s bs)) h.frames
@@ -340,7 +340,7 @@ module _ (s : Format) (good : first_bad_field s.settings ≡ None) (head : ℕ) 
       ap (λ (o : Option PageOfKind). entry_if k o ++ pages_told s (map log_under es)) (page_kept v k (first_is Every head found k v es h))
       ∙ ap (λ (ps : List (ℕ × PageOfKind)). entry_if k (page_in (in_log (frames_in found) k)) ++ ps) (pages_kept es r.1 (later_are Every head found k v es r h))
 
--- of a log of which all frames are kept
+-- of a log whose frames are all kept
 pub pages-gathered : (s : Format) (g : Gathering) (found : List Found) → first_bad_field s.settings ≡ None → IsStrictlySortedBy nat_cmp (keys_of g.by_pid.entries) → AreGathered s Every g found
     → pages_told s (map log_under g.by_pid.entries) ≡ pages_of (frames_in found)
 pages-gathered s g found good sorted h =
@@ -415,7 +415,7 @@ module _ (s : Settings) (t : Slot) (fs : List Frame) (tree : TreeInMemory) (is :
 
 -- ---- faults
 
--- what is found, or want of memory
+-- what is found, or lack of memory
 abbrev pub IsFoundOrLate : Option Finding → Fault → Type 0
 IsFoundOrLate o fault = (fault ≡ NoMemory) ⊎ ((f : Finding) × (o ≡ Some f) × (fault ≡ BadStructure f))
 

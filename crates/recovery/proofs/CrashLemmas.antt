@@ -22,7 +22,7 @@ use Rattle.recovery.proofs.StoreLemmas.{Reads, StandsBy, store-stands, stands-fo
 -- ---- the commit of a text
 
 module _ (g : Format) (file c : List ℕ) (on_disk : Store) (by : StandsBy g.settings file on_disk) where
-  -- a disk of which the same is read stands for the same store
+  -- a disk that reads the same stands for the same store
   same-read : Reads g.settings c by.slot by.found → store_of_disk c ≡ store_of_disk file
   same-read reads = stands-for g.settings c by.slot by.found reads by.sound by.proper ∙ sym (stands-for g.settings file by.slot by.found by.reads by.sound by.proper)
 

@@ -3,7 +3,7 @@ use Rattle.std.specs.Prelude.{ℕ, ◌-◌, List, ◌++◌, length, replicate}
 use Prim.Native.String.{String}
 use Rattle.frame_codec.proofs.RowForms.{hex}
 
--- the bytes and zeros behind them, n in all
+-- the bytes and zeros after them, n in all
 abbrev pub padded : ℕ → List ℕ → List ℕ
 padded n bytes = bytes ++ replicate (n - length bytes) 0
 

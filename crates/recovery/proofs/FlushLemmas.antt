@@ -67,7 +67,7 @@ known-frames s st on_disk file proper logs by step =
       upto = λ pid k e. same.upto pid k e;
     }
 
--- a disk whose log has the text behind what it had, and whose slot is that of its commit
+-- a disk whose log has the text after what it had, and whose slot is that of its commit
 pub text-read : (s : Settings) (text : Text) (st : Store) (bytes : List ℕ) (found : List Found) → IsProper s st.tree → IsKnown st.tree (frames_in found)
     → (let frames : List Frame = text_of text st.tree in let t : Slot = flush_slot s st frames in
     Reads s bytes t (found ++ found_in_text s st.tail frames) → store_of_disk bytes ≡ Ok (s, store_after (flushed st.tree) t))

@@ -55,9 +55,9 @@ pub of_pid-append : (pid : ℕ) (xs ys : List Found) → of_pid pid (xs ++ ys) �
 of_pid-append pid [] ys = refl
 of_pid-append pid (x ∷ xs) ys = filter_by (nat_eq x.frame.pid pid) x (of_pid pid (xs ++ ys)) (of_pid pid xs) (of_pid pid ys) (of_pid-append pid xs ys)
 
--- ---- the part from the last start on, with one more behind it
+-- ---- the part from the last start on, with one more after it
 
--- one more behind some, unless there are none
+-- one more after some, unless there are none
 abbrev pub behind_some : {X : Type 0} → List X → X → List X
 behind_some [] x = []
 behind_some (y ∷ ys) x = y ∷ (ys ++ x ∷ [])
@@ -83,7 +83,7 @@ module _ {X : Type 0} (test : X → Bool) where
   pub part-more : (xs : List X) (x : X) → from_last test (xs ++ x ∷ []) ≡ cond (test x) (x ∷ []) (behind_some (from_last test xs) x)
   part-more xs x = part_by (test x) xs x refl
 
--- the frames that tell a page, with one more of it
+-- a page's live frames, with one more of it
 abbrev pub part_with : List Found → Found → List Found
 part_with fs f = cond (starts f) (f ∷ []) (behind_some fs f)
 
@@ -100,7 +100,7 @@ pub telling-other : (pid : ℕ) (found : List Found) (f : Found) → nat_eq f.fr
 telling-other pid found f e =
     ap (λ (fs : List Found). from_last starts fs) (of_pid-append pid found (f ∷ []) ∙ ap (λ (fs : List Found). of_pid pid found ++ fs) (one_by false f pid e) ∙ append-nil (of_pid pid found))
 
--- ---- what is told of a page
+-- ---- the state of a page
 
 with_some : (cs : List Content) (c : Content) → cs ≢ [] → told_page (behind_some cs c) ≡ continued (told_page cs) c
 with_some [] c some = absurd (some refl)
@@ -146,7 +146,7 @@ contents_by false fs f = contents_behind_some fs f
 pub some_bytes : (f : Frame) → 1 ≤ length (bytes_of f)
 some_bytes f = omega arith
 
--- a run behind some bytes
+-- a run after some bytes
 run_some : (xs frame : List ℕ) → 1 ≤ length xs → with_run xs frame ≡ xs ++ frame
 run_some [] frame h = absurd (omega (arith, h))
 run_some (x ∷ xs) frame h = refl
@@ -198,7 +198,7 @@ module _ (w : Wanted) (head : ℕ) where
         frames = i ∙ kept_as f.frame.content f.segment f.frame.pid fs k.frames.items h.frames;
       }
 
-  -- of a page of which nothing came
+  -- of a page without a frame so far
   pub kept-none : (k : Kept) (fs : List Found) → k.told ≡ told.Nothing → k.frames.items ≡ [] → fs ≡ [] → IsKept w head k fs
   kept-none k fs t i none = record {
     told = subst (λ (u : Told). IsTold u (contents_in fs)) (sym t) (ap contents_in none);
@@ -281,7 +281,7 @@ pub kept-before : (w : Wanted) (by_pid : BTreeMap ℕ Kept) (found : List Found)
 kept-before w by_pid [] f h = kept_any w 0 f.segment by_pid [] refl h
 kept-before w by_pid (g ∷ gs) f h = h
 
--- the segment that is told to be the first is so with one frame more
+-- the segment that is the first is so with one frame more
 pub first-more : (o : Option ℕ) (found : List Found) (f : Found) (n : ℕ) → o ≡ first_found found → f.segment ≡ n → unwrap_or o n ≡ first_segment (found ++ f ∷ [])
 first-more o found f n is at = ap (λ (m : ℕ). unwrap_or o m) (sym at) ∙ ap (λ (p : Option ℕ). unwrap_or p f.segment) is ∙ first-append found f
 

@@ -1,4 +1,4 @@
--- What is kept of the pages of a log, in the order of their pids, and what the frames that are kept tell.
+-- What is kept of the pages of a log, in the order of their pids, and what the frames that are kept say.
 use Rattle.std.specs.Prelude.{◌≡◌, ℕ, zero, suc, ◌≤◌, Bool, true, false, cond, ◌||◌, nat_eq, List, [], ◌∷◌, length, map, fold, Option, Some, None, is_some, Result, Ok}
 use Rattle.std.proofs.Common.{refl, sym, ap, ◌∙◌, subst, arith, length-append}
 use Rattle.std.specs.BTreeMap.{BTreeMap}
@@ -61,7 +61,7 @@ module _ (w : Wanted) (head : ℕ) (found : List Found) where
           absurd (cc)
       of false e = subst (λ (o : Option Kept). IsKeptOf w head o (telling n found)) (looked_up false k v n es e) (h n (ap (λ (b : Bool). b || is_among n (keys_of es)) e ∙ among))
 
--- what is kept, by rising pid: of each pid of which there is a frame
+-- what is kept, by rising pid: of each pid with a frame
 pub record AreInOrder (w : Wanted) (head : ℕ) (found : List Found) (es : List (ℕ × Kept)) : Type 0 where
   pub rise : AreRisingPids (keys_of es)
   pub each : KeepEach w head found es
@@ -86,13 +86,13 @@ in-order w head by_pid found sorted h =
 
 -- ---- what the log says of a page
 
--- it is what the frames say that tell it
+-- it is what its live frames say
 pub told-in_log : (found : List Found) (pid : ℕ) → in_log (frames_in found) pid ≡ told_page (contents_in (telling pid found))
 told-in_log found pid =
     ap (λ (cs : List Content). told_page (from_last is_start cs)) (contents-found pid found)
     ∙ ap told_page (from_last-map said is_start (of_pid pid found))
 
--- what is told of a page fits no page where the log says so
+-- the state of a page is unfit where the log says so
 told_unfit : (t : Told) (cs : List Content) → IsTold t cs → is_unfit t ≡ is_broken (told_page cs)
 told_unfit told.Nothing cs h = ap (λ (ds : List Content). is_broken (told_page ds)) (sym h)
 told_unfit told.Leaf cs (p, h) = ap is_broken (sym h)
@@ -176,7 +176,7 @@ missing_none : (cs : List Content) → page_in (fold continued Missing cs) ≡ N
 missing_none [] = refl
 missing_none (c ∷ cs) = ap page_in (ap (λ t. fold continued t cs) (missing-breaks c) ∙ broken-stays cs)
 
--- behind what is no base there is no page
+-- after what is no base there is no page
 pub none-page : (c : Content) (cs : List Content) → is_base c ≡ false → page_in (told_page (c ∷ cs)) ≡ None
 none-page (FullLeaf spelling low base) cs e = absurd (cc)
 none-page (DeltaLeaf run) cs e = missing_none cs
@@ -184,7 +184,7 @@ none-page (FullIndex spelling low base) cs e = absurd (cc)
 none-page (DeltaIndex run) cs e = missing_none cs
 none-page Free cs e = missing_none cs
 
--- what is kept of a page, where that of every page is, tells it
+-- what is kept of a page, where that of every page is, makes it
 pub wanted-page : (head : ℕ) (fs : List Found) → page_in (told_page (map (λ (f : Frame). f.content) (wanted_of Every head fs))) ≡ page_in (told_page (contents_in fs))
 wanted-page head [] = refl
 wanted-page head (f ∷ fs) = of (is_base f.frame.content) refl

@@ -1,4 +1,4 @@
--- A store of which the log lacks nothing is the one that its disk stands for.
+-- A store whose log lacks nothing is the one that its disk stands for.
 use Rattle.std.specs.Prelude.{◌≡◌, ℕ, ◌-◌, ◌<◌, ◌≤◌, List, [], ◌∷◌, ◌++◌, reverse, length, drop, Option, Some, None, Result, Ok}
 use Rattle.std.proofs.Common.{refl, sym, ap, ◌∙◌, arith, subst}
 use Rattle.std.specs.List.{AllByRecursion}
@@ -98,7 +98,7 @@ logs-in_log ps root height rising = record {
 }
 
 module _ (t : Tree) (rising : AreRisingPids (keys_of t.pages)) (logs : AreLogsTrue t) where
-  -- a tree of which the log lacks nothing is the one that is written
+  -- a tree that the log lacks nothing of is the one that is written
   pub nothing-due : (version : Version) → flush_text version t ≡ [] → flushed t ≡ t
   nothing-due version e =
       let same : (pid : ℕ) → logged_of (flushed t) pid ≡ logged_of t pid = λ pid.
@@ -142,7 +142,7 @@ module _ (s : Settings) (st on_disk : Store) (file : List ℕ) (proper : IsPrope
       ∙ ap (λ (t : Tree). store_after t slot) tree_same
       ∙ same_store st on_disk tree_read slot step store
 
--- a store of which the log lacks nothing is the one that its disk stands for
+-- a store whose log lacks nothing is the one that its disk stands for
 pub all-written : (s : Settings) (st : Store) (file : List ℕ) → IsProper s st.tree → AreLogsTrue st.tree → IsInStep s st file → flush_text st.version st.tree ≡ [] → store_of_disk file ≡ Ok (s, st)
 all-written s st file proper logs (on_disk, is, are) none =
     is ∙ ap (λ (x : Store). answer x) (same_as_read s st on_disk file proper logs (store-stands s file on_disk is) are none)

@@ -44,7 +44,7 @@ runs_alone = refl
 nothing : page_by_log [] ≡ Missing
 nothing = refl
 
--- finding 1: a run behind the last free frame, or one of the other kind behind the last base
+-- finding 1: a run after the last free frame, or one of the other kind after the last base
 run_behind_free : page_by_log (base ∷ Free ∷ run ∷ []) ≡ Broken
 run_behind_free = refl
 

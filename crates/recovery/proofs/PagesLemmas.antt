@@ -1,4 +1,4 @@
--- The pages of a log are what its frames tell of each pid.
+-- The pages of a log are what its frames say of each pid.
 use Rattle.std.specs.Prelude.{◌≡◌, ℕ, ◌<◌, Bool, true, false, cond, ◌||◌, nat_eq, List, [], ◌∷◌, ◌++◌, map, flat_map, Option, Some, None}
 use Rattle.std.proofs.Common.{refl, sym, ap, ◌∙◌}
 use Rattle.std.specs.List.{AllByRecursion, filter}
@@ -113,7 +113,7 @@ missing_by : (b : Bool) (fs : List Frame) (pid : ℕ) → is_among pid (pids_of 
 missing_by true fs pid e = refl
 missing_by false fs pid e = rw (none_of fs pid (sym (among-pids_of fs pid) ∙ e)) refl
 
--- the page of a log under a pid is what its frames tell of it
+-- the page of a log under a pid is what its frames say of it
 pub page_at-pages_of : (fs : List Frame) (pid : ℕ) → page_at (pages_of fs) pid ≡ page_in (in_log fs pid)
 page_at-pages_of fs pid = listed-entries (λ n. page_in (in_log fs n)) (pids_of fs) pid ∙ missing_by (is_among pid (pids_of fs)) fs pid refl
 

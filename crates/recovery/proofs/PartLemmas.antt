@@ -12,7 +12,7 @@ module _ {X : Type 0} (test : X → Bool) where
   step_by true false x xs rest e = absurd (cc)
   step_by false c x xs rest e = refl
 
-  -- where one passes behind a first one, that one doesn't count
+  -- where one passes after a first one, that one doesn't count
   pub from_last-step : (x : X) (xs : List X) → list_any test xs ≡ true → from_last test (x ∷ xs) ≡ from_last test xs
   from_last-step x xs e = step_by (test x) (list_any test xs) x xs (from_last test xs) e
 
@@ -25,7 +25,7 @@ module _ {X : Type 0} (test : X → Bool) where
   from_last-none [] e = refl
   from_last-none (x ∷ xs) e = none_by (test x) (list_any test xs) x xs (from_last test xs) e ∙ from_last-none xs (or_parts (test x) (list_any test xs) e).1
 
-  -- where one passes in the part behind, the part in front doesn't count
+  -- where one passes in the second part, the first part doesn't count
   pub from_last-behind : (xs ys : List X) → list_any test ys ≡ true → from_last test (xs ++ ys) ≡ from_last test ys
   from_last-behind [] ys e = refl
   from_last-behind (x ∷ xs) ys e =
@@ -36,7 +36,7 @@ module _ {X : Type 0} (test : X → Bool) where
   first_by true false x xs rest e f = refl
   first_by false c x xs rest e f = absurd (cc)
 
-  -- a first one that passes, where none passes behind it
+  -- a first one that passes, where none passes after it
   pub from_last-first : (x : X) (xs : List X) → test x ≡ true → list_any test xs ≡ false → from_last test (x ∷ xs) ≡ x ∷ xs
   from_last-first x xs e f = first_by (test x) (list_any test xs) x xs (from_last test xs) e f
 
@@ -55,14 +55,14 @@ module _ {X : Type 0} (test : X → Bool) where
   or_false true b e = refl
   or_false false b e = e
 
-  -- what passes no test behind it belongs to it
+  -- what passes no test after it belongs to it
   pub from_last-more : (xs ys : List X) → list_any test xs ≡ true → list_any test ys ≡ false → from_last test (xs ++ ys) ≡ from_last test xs ++ ys
   from_last-more [] ys e f = absurd (cc)
   from_last-more (x ∷ xs) ys e f =
       more_by (test x) (list_any test xs) (list_any test (xs ++ ys)) x xs ys (from_last test (xs ++ ys)) (from_last test xs) e
       (list_any-append test xs ys ∙ or_false (list_any test xs) (list_any test ys) f) (λ g. from_last-more xs ys g f)
 
-  -- nothing passes in front or behind
+  -- nothing passes before or after
   pub none-append : (xs ys : List X) → list_any test xs ≡ false → list_any test ys ≡ false → list_any test (xs ++ ys) ≡ false
   none-append xs ys e f = list_any-append test xs ys ∙ or_false (list_any test xs) (list_any test ys) f ∙ e
 
@@ -86,7 +86,7 @@ module _ {X : Type 0} (test : X → Bool) where
   from_last-all P [] a = tt
   from_last-all P (x ∷ xs) a = all_by P (test x && not (list_any test xs)) (x ∷ xs) (from_last test xs) a (from_last-all P xs a.1)
 
-  -- its first passes, and none behind it does
+  -- its first passes, and none after it does
   abbrev pub IsPart : List X → Type 0
   IsPart [] = ⊤
   IsPart (y ∷ ys) = (test y ≡ true) × (list_any test ys ≡ false)

@@ -39,7 +39,7 @@ same_then a b c ab bc = record {
   left_since = λ t x. (λ h. (ab.left_since t x).0 ((bc.left_since t x).0 h), λ h. (bc.left_since t x).1 ((ab.left_since t x).1 h));
 }
 
--- ---- what was told
+-- ---- what is decided
 
 -- what the bytes decide, or a late fault
 abbrev pub IsToldBy : {X : Type 0} → Result X Fault → (Fault → Type 0) → Result X Fault → Type 0
@@ -73,7 +73,7 @@ pub or_late : {X : Type 0} (r : Result X Fault) (P : X → Type 0) (Q Late : Fau
 or_late (Ok x) P Q Late h = h
 or_late (Err fault) P Q Late h = inl h
 
--- ---- of a call of which only the errors, or only the rest, is promised
+-- ---- of a call that promises only the errors, or only the rest
 
 pub err_on : {X : Type 0} (r : Result X Fault) (Q : Fault → Type 0) (fault : Fault) → IsErrAnd r (λ f. f ≡ fault) → Q fault → IfErr r Q
 err_on (Ok x) Q fault is h = absurd is

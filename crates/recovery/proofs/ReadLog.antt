@@ -59,7 +59,7 @@ module _ (g : Format) (good : first_bad_field g.settings ≡ None) (file buf : L
 
 -- ---- all of them
 
--- bytes of which k segments from the head on were read, by what has taken what they hold; in front of the segments they are as these
+-- bytes whose k segments from the head on were read, by what has taken what they hold; in front of the segments they are as these
 pub record AreReadUpto (Has : Told → Type 0) (v : View) (g : Format) (head k : ℕ) (file now : List ℕ) : Type 0 where
   pub bytes : IsReadOf v now
   pub front : take segments_begin now ≡ take segments_begin file
@@ -128,7 +128,7 @@ scanned-more g told (h ∷ gs) x = scanned-more g (followed_by told (scanned g h
 pub one-scanned : (g : Format) (told : Told) (gs hs : List Segment) (x : Segment) → hs ≡ gs ++ x ∷ [] → gs ≡ [] → scanned_behind g told (map held_segment hs) ≡ followed_by told (scanned g (held_segment x))
 one-scanned g told gs hs x put none = ap (λ (xs : List Segment). scanned_behind g told (map held_segment xs)) (put ∙ ap (λ (xs : List Segment). xs ++ x ∷ []) none)
 
--- these segments were read behind k others, and that makes so many
+-- these segments were read after k others, `upto` in all
 abbrev pub AreReadBehind : View → Format → (head k upto : ℕ) → List Segment → List ℕ → List ℕ → Type 0
 AreReadBehind v g head k upto gs file now = AreReadUpto (λ told. scanned_behind g (read_earlier g file head k) (map held_segment gs) ≡ told) v g head upto file now
 

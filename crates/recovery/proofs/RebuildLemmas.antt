@@ -1,4 +1,4 @@
--- How a page is built of the frames that tell it, one after the other.
+-- How a page is built of its frames, one after the other.
 use Rattle.std.specs.Prelude.{◌≡◌, ℕ, ◌-◌, ◌<◌, ◌≤◌, ◌==◌, Bool, true, false, List, [], ◌∷◌, ◌++◌, map, fold, length, take, drop, Option, Some, None, Result, Ok, Err}
 use Rattle.std.proofs.Common.{refl, sym, ap, ◌∙◌, subst, arith, append_assoc}
 use Rattle.std.proofs.lemmas.Bool.{ne_eqb}
@@ -25,7 +25,7 @@ not_at_tail : (bs : Bytes) → 1 ≤ length bs → is_at_tail bs ≡ false
 not_at_tail [] h = absurd (omega (arith, h))
 not_at_tail (b ∷ bs) h = refl
 
--- of bytes, of which these were read and these are left, nothing is a page whatever is read of them
+-- where these were read of bytes and these are left, nothing is a page whatever is read of them
 none_read : (fs : List Frame) (r : Result (List Frame) ℕ) → ((gs : List Frame) → page_in (told_page (said (fs ++ gs))) ≡ None) → page_in (told_page (said (all_or_none (with_front fs r)))) ≡ None
 none_read fs (Ok gs) none = ap (λ (x : Result (List Frame) ℕ). page_in (told_page (said (all_or_none x)))) (front fs) ∙ none gs
   where
@@ -59,7 +59,7 @@ module _ (s : Format) where
       let less = subst (λ (bs : Bytes). length bs < length rest) (left-behind size rest) (less_behind rest f size at) in
       subst (λ (bs : Bytes). AreRead s is_at_tail long body (fs ++ f ∷ []) bs) (sym (left-behind size rest)) (read-more s is_at_tail long body fs rest (drop size rest) f h more at.found less)
 
-  -- of these bytes these are left, and the frames in front of them tell this page
+  -- of these bytes these are left, and the frames in front of them make this page
   pub record IsToldUpto (bytes : Bytes) (p : PageOfKind) (rest : Bytes) : Type 0 where
     pub frames : List Frame
     pub read : AreRead s is_at_tail (length bytes) bytes frames rest

@@ -67,7 +67,7 @@ module _ (file : Bytes) (s : Settings) (settings : store_settings file ≡ Ok s)
       pub right_store : wrong_in s t (frames_in found) ≡ None → store_of_disk file ≡ Ok (s, store_after (tree_by_log t (frames_in found)) t)
       right_store e = by_finding ∙ ap (λ o. of_store s (of_finding s t found o)) e
 
--- bytes that were read behind what stands in front of the segments have the same settings and the same slot
+-- bytes that were read after what stands in front of the segments have the same settings and the same slot
 pub in-front : (s : Settings) (file now : Bytes) (first old new : View) → disk_size s ≤ first.size → Kept first old → Kept old new → IsReadOf old file → IsReadOf new now
     → take segments_begin now ≡ take segments_begin file → (t : Slot) → store_settings file ≡ Ok s → store_slot s file ≡ Ok t → (store_settings now ≡ Ok s) × (store_slot s now ≡ Ok t)
 in-front s file now first old new within before kept was is front t settings slot =

@@ -22,7 +22,7 @@ padding-zeros [] = refl
 padding-zeros (zero ∷ bytes) = padding-zeros bytes
 padding-zeros (suc b ∷ bytes) = ap (λ t. t && list_all (λ b. b == 0) bytes) (ne_eqb (suc b) 0 (λ e. cc))
 
--- what is left behind the first n bytes
+-- what is left after the first n bytes
 pub left-behind : (n : ℕ) (bytes : Bytes) → take (length bytes - n) (drop n bytes) ≡ drop n bytes
 left-behind n bytes = ap (λ (k : ℕ). take k (drop n bytes)) (sym (length-drop n bytes)) ∙ take_all (length (drop n bytes)) (drop n bytes) (omega arith)
 
@@ -51,7 +51,7 @@ front-err (f ∷ fs) left = ap (λ t. with_first f t) (front-err fs left)
 
 -- of a segment whose frames end so
 module _ (s : Format) (is_end : Bytes → Bool) where
-  -- what is read of bytes, of which these frames were read and these bytes are left, of at most so many frames
+  -- what is read of bytes, with the limit `long`, where these frames were read and these bytes are left
   pub record AreRead (long : ℕ) (body : Bytes) (fs : List Frame) (rest : Bytes) : Type 0 where
     pub read : read_frames s is_end long body ≡ with_front fs (read_frames s is_end (long - length fs) rest)
     pub room : length fs + length rest ≤ long
@@ -78,7 +78,7 @@ module _ (s : Format) (is_end : Bytes → Bool) where
       → read_frames s is_end long body ≡ all_read fs
   read-all long body fs rest h e = h.read ∙ ap (λ r. with_front fs r) (at_end (long - length fs) rest e) ∙ front-ok fs
 
-  -- where there is neither a frame nor the end, so many bytes are left
+  -- where there is neither a frame nor the end, this many bytes are left
   pub read-broken : (long : ℕ) (body : Bytes) (fs : List Frame) (rest : Bytes) → AreRead long body fs rest → is_end rest ≡ false → read_frame s rest ≡ None
       → read_frames s is_end long body ≡ none_at (length rest)
   read-broken long body fs rest h e none = h.read ∙ ap (λ r. with_front fs r) (broken (long - length fs) rest e none) ∙ front-err fs (length rest)
@@ -99,7 +99,7 @@ module _ (s : Format) (is_end : Bytes → Bool) where
 -- ---- one frame
 
 module _ (s : Format) (rest : Bytes) where
-  -- what code that skims a frame at the front of these bytes tells
+  -- what code that skims a frame at the front of these bytes returns
   pub record IsToldOf (told : Option Skimmed) : Type 0 where
     pub found : MatchOption told (read_frame s rest ≡ None) (λ k. (f : Frame) × (read_frame s rest ≡ Some (f, drop k.size rest)) × IsSkimmed k f × (take k.size rest ≡ bytes_of f))
     pub within : IfSome told (λ k. k.size ≤ length rest)
@@ -108,7 +108,7 @@ module _ (s : Format) (rest : Bytes) where
   told-none None e h = h.found
   told-none (Some k) e h = absurd (cc)
 
-  -- the frame of which this is told
+  -- the frame that was identified so
   pub record IsFrame (k : Skimmed) : Type 0 where
     pub frame : Frame
     pub read : read_frame s rest ≡ Some (frame, drop k.size rest)
@@ -138,7 +138,7 @@ less-left s rest told size same_size f =
 
 -- ---- the frames of a segment, as they are held
 
--- of segment n, which ends so, these bytes are left, and of the frames in front of them that is told
+-- of segment n, which ends so, these bytes are left, and these items stand for the frames in front of them
 pub record IsUpto (s : Format) (is_end : Bytes → Bool) (long n : ℕ) (body : Bytes) (items : List ScannedFrame) (rest : Bytes) : Type 0 where
   pub frames : List Frame
   pub read : AreRead s is_end long body frames rest
@@ -195,7 +195,7 @@ module _ (s : Format) (g : HeldSegment) (headed : starts_with nat_eq g.bytes (se
       → read_frame s rest ≡ None → scanned s g ≡ Err (BadFrame g.number (length g.bytes - length rest))
   segment-broken fs rest h e none = behind_header ∙ ap (λ r. read_by r) (read-broken s (is_end_at g.end) (length g.bytes) (drop 16 g.bytes) fs rest h e none)
 
--- what a segment tells
+-- what a segment holds
 abbrev all : List Found → Result (List Found) Fault
 all found = Ok found
 

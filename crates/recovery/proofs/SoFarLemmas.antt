@@ -51,7 +51,7 @@ said hs = Ok hs
 abbrev none_said : Fault → Said
 none_said fault = Err fault
 
--- of segment n, or of more, of which all this is told, these frames are left, and those in front of them are kept
+-- of segment n, or of more, which hold all this, these frames are left, and those in front of them are kept
 pub record AreBehind (w : Wanted) (gathering : Gathering) (n : ℕ) (every : List Found) (left : List ScannedFrame) : Type 0 where
   pub front : List Found
   pub more : List Found
@@ -85,7 +85,7 @@ behind-none w gathering n every left none h = of h.more h.all (h.same ∙ ap (λ
 
 -- ---- the segments
 
--- behind a fault nothing counts
+-- after a fault nothing counts
 pub broken-stays : (fault : Fault) (read : List Told) → fold followed_by (broken fault) read ≡ broken fault
 broken-stays fault [] = refl
 broken-stays fault (r ∷ read) = broken-stays fault read
@@ -94,7 +94,7 @@ pub stays-broken : (w : Wanted) (gathering : Gathering) (o : Option Fault) (told
 stays-broken w gathering None told read some h = absurd (cc)
 stays-broken w gathering (Some fault) told read some h = ap (λ (t : Told). fold followed_by t read) h ∙ broken-stays fault read
 
--- which segment told so many frames, and which a fault
+-- which segment gave frames, and which a fault
 ok_of : (hs : List HeldFrame) (r : Told) → said_of r ≡ said hs → (more : List Found) × (r ≡ all more) × (map said_of_frame more ≡ hs)
 ok_of hs (Ok more) e = (more, refl, cc)
 ok_of hs (Err fault) e = absurd (cc)
@@ -103,7 +103,7 @@ err_of : (fault : Fault) (r : Told) → said_of r ≡ none_said fault → r ≡ 
 err_of fault (Ok more) e = absurd (cc)
 err_of fault (Err other) e = let is : other ≡ fault = cc in ap broken is
 
--- of segments of which all tell this, these said are left
+-- of segments that all together hold this, these scans are left
 pub record AreLeft (w : Wanted) (gathering : Gathering) (o : Option Fault) (every : Told) (left : List ScanDone) : Type 0 where
   pub so_far : Told
   pub read : List Told

@@ -1,4 +1,4 @@
--- What contents tell of a page: those that a flush writes of it, behind what the log had.
+-- What contents say of a page: those that a flush writes of it, after what the log had.
 use Rattle.std.specs.Prelude.{◌≡◌, ℕ, Bool, true, false, ◌||◌, List, [], ◌∷◌, ◌++◌, map, reverse, length, drop, zero, suc, fold, Option, Some}
 use Rattle.std.proofs.Common.{refl, sym, ap, ◌∙◌}
 use Rattle.std.specs.List.{list_any}
@@ -17,7 +17,7 @@ use Rattle.recovery.specs.PageByLog.InLog.{Missing, Present}
 use Rattle.recovery.specs.InStep.{IsLogged}
 use Rattle.recovery.proofs.PartLemmas.{from_last-at, from_last-more, from_last-none}
 
--- ---- runs behind a page
+-- ---- runs after a page
 
 reverse_step : {X : Type 0} (x : X) (xs ys : List X) → reverse (x ∷ xs) ++ ys ≡ reverse xs ++ x ∷ ys
 reverse_step x xs ys = ap (λ zs. zs ++ ys) (reverse-append (x ∷ []) xs) ∙ append_assoc (reverse xs) (x ∷ []) ys
@@ -41,7 +41,7 @@ module _ {V : Type 0} (made : Page V → PageOfKind) (delta : List (List ℕ × 
       ap (λ t. fold continued t (map delta runs)) (step (record { low = low; layers = record { runs = old; base = base } }) run)
       ∙ fold_runs low base (run ∷ old) runs ∙ ap (λ rs. page low base rs) (sym (reverse_step run runs old))
 
-  -- all runs of a page, behind its base
+  -- all runs of a page, after its base
   fold_all : (low : List ℕ) (base : List (List ℕ × V)) (runs : List (List (List ℕ × Option V))) → fold continued (page low base []) (map delta (reverse runs)) ≡ page low base runs
   fold_all low base runs = fold_runs low base [] (reverse runs) ∙ ap (λ rs. page low base rs) (append-nil (reverse (reverse runs)) ∙ reverse-reverse runs)
 
@@ -51,7 +51,7 @@ module _ {V : Type 0} (made : Page V → PageOfKind) (delta : List (List ℕ × 
       ∙ ap (λ rs. map delta (drop k rs)) (ap reverse e ∙ reverse-append newer old)
       ∙ ap (map delta) (drop_at (reverse old) (reverse newer) k (length-reverse old ∙ l))
 
-  -- the newer runs of a page, behind its older ones
+  -- the newer runs of a page, after its older ones
   fold_newer : (k : ℕ) (logged now : Page V) → length logged.layers.runs ≡ k → IsOver logged now → fold continued (Present (made logged)) (drop k (map delta (reverse now.layers.runs))) ≡ Present (made now)
   fold_newer k logged now d h =
       let newer = h.runs.0 in
@@ -91,7 +91,7 @@ fold-newer k (Index x) (Index p) h = fold_newer (λ q. Index q) (λ run. DeltaIn
 fold-newer k (Leaf x) (Index p) h = absurd h.1
 fold-newer k (Index x) (Leaf p) h = absurd h.1
 
--- ---- what stands behind what the log had
+-- ---- what stands after what the log had
 
 -- the whole page, whatever stands before it
 pub page-whole : (spelling : Spelling) (cs : List Content) (p : PageOfKind) → page_by_log (cs ++ whole_page spelling p) ≡ Present p
@@ -109,7 +109,7 @@ starts_by : (b : Bool) (cs : List Content) (p : PageOfKind) → list_any is_star
 starts_by true cs p s e = refl
 starts_by false cs p s e = let none : Missing ≡ Present p = ap told_page (sym (from_last-none is_start cs s)) ∙ e in absurd (cc)
 
--- the newer runs, behind the base and the older ones
+-- the newer runs, after the base and the older ones
 pub page-newer : (cs : List Content) (k : ℕ) (logged now : PageOfKind) → page_by_log cs ≡ Present logged → IsLogged k (Some logged) (Some now) → page_by_log (cs ++ drop k (run_contents now)) ≡ Present now
 page-newer cs k logged now e h =
     let newer = drop k (run_contents now) in

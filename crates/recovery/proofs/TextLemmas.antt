@@ -132,7 +132,7 @@ module _ (text : Text) (t : Tree) where
         text-under (pids_to_write t) pid (rising-with_numbers (keys_of (filter (λ l. is_old l.1) t.logged)) (keys_of t.pages) pages)
         ∙ else_due (is_among pid (pids_to_write t)) pid refl
 
--- ---- the log with the text behind it
+-- ---- the log with the text after it
 
 -- a page, or none, as a log says it
 abbrev pub as_told : Option PageOfKind → InLog
@@ -158,7 +158,7 @@ newer_by spelling cs k Broken now e h = absurd h
 newer_by spelling cs k (Present x) None e h = absurd h
 newer_by spelling cs k (Present x) (Some p) e h = page-newer cs k x p e h
 
--- what contents say, with those behind them that are written: just the page that there is
+-- what contents say, with those after them that are written: just the page that there is
 after_by : (spelling : Spelling) (cs : List Content) (now : Option PageOfKind) (l : Logged) → is_broken (page_by_log cs) ≡ false → (l ≡ No → page_in (page_by_log cs) ≡ None) → ((k : ℕ) → l ≡ Upto k → IsLogged k (page_in (page_by_log cs)) now)
     → page_by_log (cs ++ lacking spelling now l) ≡ as_told now
 after_by spelling cs (Some p) No sound none upto = page-whole spelling cs p
@@ -167,7 +167,7 @@ after_by spelling cs None No sound none upto = ap page_by_log (append-nil cs) �
 after_by spelling cs None Old sound none upto = page-free cs
 after_by spelling cs now (Upto k) sound none upto = newer_by spelling cs k (page_by_log cs) now refl (upto k refl)
 
--- a tree whose log states are true of the pages that frames tell of
+-- a tree whose log states are true of the pages that frames make
 pub record IsKnown (t : Tree) (fs : List Frame) : Type 0 where
   pub pages : AreRisingPids (keys_of t.pages)
   pub logs : AreLogsTrue t

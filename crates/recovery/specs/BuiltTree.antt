@@ -17,18 +17,18 @@ in_places ps = map (λ p. (p.0, Some p.1)) ps
 abbrev pub log_pids : List HeldLog → List ℕ
 log_pids hs = map (λ h. h.pid) hs
 
--- the pages that these logs tell
+-- the pages that these logs make
 abbrev pub pages_told : Format → List HeldLog → List (ℕ × PageOfKind)
 pages_told s hs = flat_map (λ h. entry_if h.pid (page_in (told_in s h.frames))) hs
 
--- the logs of which these were made, and the pages that were
+-- the logs that these were made of, and the pages that were
 abbrev pub logs_made : List Rebuilt → List HeldLog
 logs_made rs = map (λ r. held_log r.log) rs
 
 abbrev pub pages_made : List Rebuilt → List (ℕ × PageOfKind)
 pages_made rs = flat_map (λ r. entry_if r.log.pid r.page) rs
 
--- the table with these pages behind those that are in it
+-- the table with these pages after those that are in it
 abbrev pub filled : Mapping PageOfKind → List (ℕ × PageOfKind) → Mapping PageOfKind
 filled t ps = record { places = t.places ++ in_places ps; logged = t.logged }
 

@@ -1,4 +1,4 @@
--- What is kept of each page while a log is read: what its frames tell, and the bytes of those that are wanted.
+-- What is kept of each page while a log is read: the state after its frames, and the bytes of those that are wanted.
 use Rattle.std.specs.Prelude.{◌≡◌, ℕ, Bool, true, false, ◌&&◌, nat_eq, if◌then◌else◌, List, [], ◌∷◌, ◌++◌, map, flat_map, Option, Some, None, is_some, Result, Ok, Err}
 use Rattle.std.specs.BTreeMap.{BTreeMap, get}
 use Rattle.std.specs.List.{AllByRecursion, filter}
@@ -27,20 +27,20 @@ use Rattle.recovery.specs.declared.gather.Wanted.TheVariants.{Every, Head}
 
 -- ---- the frames of a page
 
--- of a pid's frames those that tell its page: from the last base or free frame on
+-- of a pid's frames the live ones, which make its page: from the last base or free frame on
 abbrev pub telling : ℕ → List Found → List Found
 telling pid found = from_last (λ f. is_start f.frame.content) (filter (λ f. nat_eq f.frame.pid pid) found)
 
--- what these say
+-- their contents
 abbrev pub contents_in : List Found → List Content
 contents_in fs = map (λ f. f.frame.content) fs
 
--- whether a base in this segment is wanted of a log that begins with that one
+-- whether a base in this segment is wanted, where the log begins with that one
 abbrev pub is_wanted_in : Wanted → ℕ → ℕ → Bool
 is_wanted_in Every head n = true
 is_wanted_in Head head n = nat_eq n head
 
--- of the frames that tell a page those that are kept: all of them, where the first is a base that is wanted
+-- of a page's live frames those that are kept: all of them, where the first is a base that is wanted
 abbrev pub wanted_of : Wanted → ℕ → List Found → List Frame
 wanted_of w head [] = []
 wanted_of w head (f ∷ fs) = if is_wanted_in w head f.segment && is_base f.frame.content then frames_in (f ∷ fs) else []
@@ -51,7 +51,7 @@ spelled fs = flat_map bytes_of fs
 
 -- ---- one page
 
--- what is told of a page of which this is said, from its last base or free frame on
+-- the state of a page whose contents are these, from its last base or free frame on
 abbrev pub IsTold : Told → List Content → Type 0
 IsTold told.Nothing cs = cs ≡ []
 IsTold told.Leaf cs = (p : Page Bytes) × (told_page cs ≡ Present (Leaf p))
@@ -59,14 +59,14 @@ IsTold told.Index cs = (p : Page ℕ) × (told_page cs ≡ Present (Index p))
 IsTold told.Free cs = cs ≡ Free ∷ []
 IsTold told.Unfit cs = told_page cs ≡ Broken
 
--- what is kept of a page that these frames tell, where the log begins at this segment
+-- what is kept of a page with these live frames, where the log begins at this segment
 pub record IsKept (w : Wanted) (head : ℕ) (k : Kept) (fs : List Found) : Type 0 where
   pub told : IsTold k.told (contents_in fs)
   pub frames : k.frames.items ≡ spelled (wanted_of w head fs)
 
 -- ---- one frame more
 
--- what is told of a page with a run of a leaf behind it
+-- the state of a page with a run of a leaf after it
 abbrev pub with_leaf_run : Told → Told
 with_leaf_run told.Nothing = told.Nothing
 with_leaf_run told.Leaf = told.Leaf
@@ -94,7 +94,7 @@ told_with t kinds.Free = told.Free
 abbrev pub with_base : Bool → Bytes → Bytes
 with_base is_wanted frame = if is_wanted then frame else []
 
--- and with a run behind them: where there are none, the run isn't kept
+-- and with a run after them: where there are none, the run isn't kept
 abbrev pub with_run : Bytes → Bytes → Bytes
 with_run [] frame = []
 with_run (b ∷ bytes) frame = (b ∷ bytes) ++ frame
@@ -109,13 +109,12 @@ kept_with frames kinds.Free is_wanted frame = []
 
 -- ---- all pages
 
--- what is kept under a pid of which these frames tell the page
+-- what is kept under a pid whose live frames these are
 abbrev pub IsKeptOf : Wanted → ℕ → Option Kept → List Found → Type 0
 IsKeptOf w head None fs = fs ≡ []
 IsKeptOf w head (Some k) fs = IsKept w head k fs
 
--- Of what was found so far, under each pid what is kept of its page; and of each pid of which a frame was found it is known that there
--- is one.
+-- Of what was found so far, under each pid what is kept of its page; and each pid with a frame that was found is known to have one.
 pub record AreKept (w : Wanted) (head : ℕ) (by_pid : BTreeMap ℕ Kept) (found : List Found) : Type 0 where
   pub each : (pid : ℕ) → IsKeptOf w head (get nat_cmp by_pid pid) (telling pid found)
   pub pids : (pid : ℕ) → is_some (get nat_cmp by_pid pid) ≡ is_among pid (map (λ f. f.frame.pid) found)
@@ -130,7 +129,7 @@ abbrev pub first_found : List Found → Option ℕ
 first_found [] = None
 first_found (f ∷ fs) = Some f.segment
 
--- what is kept of the pages is what these frames tell, and those that are wanted, of a log that begins where the first of them stands
+-- what is kept of the pages is the state after these frames, and those that are wanted, in a log that begins where the first stands
 pub record AreLive (w : Wanted) (g : Gathering) (found : List Found) : Type 0 where
   pub wanted : g.wanted ≡ w
   pub first : g.first ≡ first_found found
@@ -141,7 +140,7 @@ pub record AreGathered (s : Format) (w : Wanted) (g : Gathering) (found : List F
   pub live : AreLive w g found
   pub within : AllByRecursion (λ f. is_frame s f.frame ≡ true) found
 
--- what is kept of a log of which the segments so far tell this: of its pages, as long as there is no fault; else the fault
+-- what is kept of a log whose segments so far hold this: of its pages, as long as there is no fault; else the fault
 abbrev pub IsSoFar : Wanted → Gathering → Option Fault → Result (List Found) Fault → Type 0
 IsSoFar w g None t = (found : List Found) × (t ≡ Ok found) × AreLive w g found
 IsSoFar w g (Some fault) t = t ≡ Err fault

@@ -19,7 +19,7 @@ IsLogged k (Some logged) (Some now) = (page_depth logged ≡ k) × IsPageOver lo
 IsLogged k _ _ = ⊥
 
 -- Of a store, and of the one that its disk stands for: the log ends at the same places, and has the same version; the store knows
--- of which pids the log has a page; and of each whose base and k oldest runs it takes for written, the log has just these.
+-- which pids the log has a page of; and where it takes the base and the k oldest runs of one for written, the log has just these.
 pub record AreInStep (st on_disk : Store) : Type 0 where
   pub head : st.head ≡ on_disk.head
   pub tail : st.tail ≡ on_disk.tail
@@ -46,7 +46,7 @@ pub record IsStoreOf (s : Settings) (st : Store) (file : Bytes) : Type 0 where
   pub step : IsInStep s st file
 
 -- what a tree that came of another keeps of what its log has: the log has a page of the same pids; it has no more of any page;
--- and a page of which it has something stands as it did, with newer runs in front
+-- and a page that it has something of stands as it did, with newer runs in front
 pub record KeepsLogged (old new : Tree) : Type 0 where
   pub none : (pid : ℕ) → (logged_of old pid ≡ No) ↔ (logged_of new pid ≡ No)
   pub upto : (pid k : ℕ) → logged_of new pid ≡ Upto k → logged_of old pid ≡ Upto k

@@ -29,7 +29,7 @@ pages_under fs pids = flat_map (λ pid. entry_if pid (page_in (in_log fs pid))) 
 abbrev pub pages_of : List Frame → List (ℕ × PageOfKind)
 pages_of fs = pages_under fs (pids_of fs)
 
--- of these pids, the first of which the log says what fits no page
+-- of these pids, the first whose frames fit no page
 abbrev pub broken_under : List Frame → Bytes → Option Finding
 broken_under fs [] = None
 broken_under fs (pid ∷ pids) = if is_broken (in_log fs pid) then Some (record { rule = 1; pid = pid }) else broken_under fs pids

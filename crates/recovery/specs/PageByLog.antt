@@ -52,7 +52,7 @@ with_newer_run p run = record { low = p.low; layers = record { runs = run ∷ p.
 abbrev pub begun_page : Content → InLog
 begun_page c = present_or_missing (base_in c)
 
--- and one more content behind it: it has to be a delta of the page's kind
+-- and one more content after it: it has to be a delta of the page's kind
 abbrev pub continued : InLog → Content → InLog
 continued (Present (Leaf p)) (DeltaLeaf run) = Present (Leaf (with_newer_run p run))
 continued (Present (Index p)) (DeltaIndex run) = Present (Index (with_newer_run p run))
@@ -63,7 +63,7 @@ abbrev pub told_page : List Content → InLog
 told_page [] = Missing
 told_page (c ∷ cs) = fold continued (begun_page c) cs
 
--- the page of a pid, by all its contents in order: what the part from the last base or free frame on tells
+-- the page of a pid, by all its contents in order: what the part from the last base or free frame on says
 abbrev pub page_by_log : List Content → InLog
 page_by_log cs = told_page (from_last is_start cs)
 

@@ -1,4 +1,4 @@
--- What is made of the frames that tell a page, as they stand in the log.
+-- What is made of a page's live frames, as they stand in the log.
 use Rattle.std.specs.Prelude.{◌≡◌, ℕ, List, [], map, length, Option, Some, None, Result, Ok, Err}
 use Rattle.keys.specs.Bytes.{Bytes}
 use Rattle.index_page.specs.Page.{PageOfKind}
@@ -25,7 +25,7 @@ all_or_none (Err left) = []
 abbrev pub frames_of_bytes : Format → Bytes → List Frame
 frames_of_bytes s bytes = all_or_none (read_frames s is_at_tail (length bytes) bytes)
 
--- what they tell of a page
+-- what they say of a page
 abbrev pub told_in : Format → Bytes → InLog
 told_in s bytes = told_page (map (λ f. f.content) (frames_of_bytes s bytes))
 
@@ -50,7 +50,7 @@ abbrev pub page_of_parts : PageParts → PageOfKind
 page_of_parts (Leaf low chain) = LeafPage (record { low = low; layers = chain })
 page_of_parts (Index low chain) = IndexPage (record { low = low; layers = chain })
 
--- what became of a page behind which this stands: it has one more run, or it is none
+-- what became of a page once this follows it: it has one more run, or it is none
 abbrev pub IsPushed : PageOfKind → Content → Option PageParts → Type 0
 IsPushed p c None = continued (Present p) c ≡ Broken
 IsPushed p c (Some now) = continued (Present p) c ≡ Present (page_of_parts now)

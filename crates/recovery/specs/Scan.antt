@@ -33,11 +33,11 @@ held_segment g = record { number = g.number; end = g.end; bytes = g.bytes.now }
 abbrev pub scanned : Format → HeldSegment → Result (List Found) Fault
 scanned s g = read_segment s (is_end_at g.end) g.number g.bytes
 
--- what was found, and then what these segments hold, one behind the other; or the first fault
+-- what was found, and then what these segments hold, one after the other; or the first fault
 abbrev pub scanned_behind : Format → Result (List Found) Fault → List HeldSegment → Result (List Found) Fault
 scanned_behind s told segments = fold followed_by told (map (scanned s) segments)
 
--- ---- frames of which nothing is made
+-- ---- frames that are not decoded
 
 -- of a frame the number of its segment, its page, its kind, and its bytes
 pub record HeldFrame : Type 0 where

@@ -1,4 +1,4 @@
-//! The tree of the pages that a log tells is built of the gathered frames, and looked at.
+//! Builds the tree of a log's pages from the gathered frames, and checks it.
 ghost use Rattle.std.specs.Prelude.{◌≡◌, ◌⊎◌, ◌<◌, ◌++◌, ◌∷◌, [], List, map, Some, None, IfOk, IfErr, OnOk};
 ghost use Rattle.std.specs.List.{AllByRecursion};
 ghost use Rattle.std.specs.List.Sorted.{IsStrictlySortedBy};
@@ -35,7 +35,7 @@ use verify::verify;
 // recovery takes little more than the pages and the frames that are left.
 const PAGES_AT_ONCE: usize = 512;
 
-// Puts a page behind those that are in the table, whose page ids are less.
+// Puts a page after those that are in the table, whose page ids are less.
 fn put_last(
     table: &mut Table<Page<Global>, Global>,
     pid: Pid,
@@ -49,7 +49,7 @@ fn put_last(
     Ok(())
 }
 
-// Puts the page that was made behind those that are in the table, where there is one.
+// Puts the page that was made after those that are in the table, where there is one.
 fn put_made(table: &mut Table<Page<Global>, Global>, made: Rebuilt) -> Result<(), AllocError>
     requires { AllByRecursion (λ n. n < made.log.pid) (keys_of table.old.places) }
     ensures { OnOk result (table.new ≡ filled table.old (entry_if made.log.pid made.page)) }
@@ -61,7 +61,7 @@ fn put_made(table: &mut Table<Page<Global>, Global>, made: Rebuilt) -> Result<()
     put_last(table, log.pid, page)
 }
 
-// Puts the pages that were made behind those that are in the table.
+// Puts the pages that were made after those that are in the table.
 fn put_all(table: &mut Table<Page<Global>, Global>, made: Vec<Rebuilt>) -> Result<(), AllocError>
     requires { AreRisingPids (keys_of table.old.places ++ log_pids (logs_made made.items)) }
     ensures { OnOk result (table.new ≡ filled table.old (pages_made made.items)) }
@@ -72,7 +72,7 @@ fn put_all(table: &mut Table<Page<Global>, Global>, made: Vec<Rebuilt>) -> Resul
     Ok(())
 }
 
-// Builds the pages of these logs, and puts them behind those that are in the table.
+// Builds the pages of these logs, and puts them after those that are in the table.
 fn build_pages(
     rt: &(impl Threads + Sync),
     crew: Crew,
@@ -127,7 +127,7 @@ fn table_of(
     Ok(table)
 }
 
-/// The tree of the pages that the gathered frames tell, with the root and the height of the slot. Nothing is wrong with it under the
+/// The tree of the pages that the gathered frames make, with the root and the height of the slot. Nothing is wrong with it under the
 /// settings, no page of it is away, and the log has each as it is.
 ///
 /// Else it is refused with `Fault::BadStructure` and the first finding: of a page whose frames fit no page, by the least page id, and

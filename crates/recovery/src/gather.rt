@@ -1,4 +1,4 @@
-//! Frames are gathered by page: of each page id what its frames tell, and the bytes of those that are wanted, as they stand in the log.
+//! Gathers frames by page: for each page id the state after its frames, and the bytes of those that are wanted, as they stand in the log.
 //!
 //! Whoever wrote a disk chose its page ids. So they are looked up by their order and not by a hash, which ids could be chosen to share.
 ghost use Rattle.std.specs.Prelude.{◌≡◌, ◌++◌, ◌∷◌, [], List, IfOk, OnOk};
@@ -27,7 +27,7 @@ pub enum Wanted {
     Head,
 }
 
-/// What the frames of a page tell that came so far. What stands before a base or a free frame no longer counts.
+/// The state of a page after its frames so far. What stands before a base or a free frame no longer counts.
 #[derive(Clone, Copy, Debug, PartialEq, Eq)]
 pub enum Told {
     /// There is neither a base nor a free frame yet.
@@ -45,7 +45,7 @@ pub enum Told {
 /// What is kept of a page.
 #[derive(Drop)]
 pub struct Kept {
-    /// What its frames tell.
+    /// The state after its frames.
     pub told: Told,
     /// Its frames from its last base on, back to back, where they are wanted; else none, and then they take no memory.
     pub frames: Vec<u8>,
@@ -64,7 +64,7 @@ pub struct Gathering {
     pub by_pid: BTreeMap<u64, Kept, Global>,
 }
 
-// What is told with one more frame of this kind.
+// The page's state after one more frame of this kind.
 fn told_with(told: Told, kind: FrameKind) -> Told
     ensures { result ≡ told_with told kind }
 {
@@ -89,7 +89,7 @@ fn told_with(told: Told, kind: FrameKind) -> Told
     }
 }
 
-// Whether frames that tell this fit no page.
+// Whether this is the state after frames that fit no page.
 fn is_unfit(told: Told) -> bool
     ensures { result ≡ is_unfit told }
 {
@@ -113,7 +113,7 @@ fn with_base(mut frames: Vec<u8>, is_wanted: bool, frame: &[u8]) -> Result<Vec<u
     Ok(frames)
 }
 
-// The frames with a run behind them, if there are any.
+// The frames with a run after them, if there are any.
 fn with_run(mut frames: Vec<u8>, frame: &[u8]) -> Result<Vec<u8>, AllocError>
     ensures { IfOk result (λ now. now.items ≡ with_run frames.items frame.now) }
 {
@@ -143,7 +143,7 @@ fn frames_with(
 }
 
 impl Gathering {
-    /// Of a log of which no frame came yet.
+    /// Before the first frame.
     pub fn new(alloc: Global, wanted: Wanted) -> Self
         ensures { AreLive wanted result [] }
     {
@@ -165,7 +165,7 @@ impl Gathering {
         }
     }
 
-    /// Takes the next frame of the log, which stands in this segment. After an `Err` what is kept of its page may be lost.
+    /// Adds the next frame of the log, which stands in this segment. After an `Err` what is kept of its page may be lost.
     pub fn add(&mut self, segment: u64, frame: ScannedFrame<'_>) -> Result<(), AllocError>
         ensures { (w : declared.Wanted) (found : List Found) (f : Found) → said_of_frame f ≡ held_frame segment frame.entry → AreLive w self.old found →
             OnOk result (AreLive w self.new (found ++ f ∷ [])) }

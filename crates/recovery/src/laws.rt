@@ -19,7 +19,7 @@ ghost use Rattle.recovery.specs.LookedAt.{IsInSlot, IsLookedAt};
 ghost use Rattle.recovery.specs.StoreOfDisk.{first_store, store_of_disk};
 
 /// What was flushed is what is read: the disk after a flush stands for the very store after it, which is one as every store
-/// is. Its tree is the one before, of which the log now has each page as it is, and nothing of any other pid. A flush that has
+/// is. Its tree is the one before, and the log now has each page of it as it is, and nothing of any other pid. A flush that has
 /// nothing to write leaves store and disk, and so it is already. The frames of its text are such as a store may have, which they are
 /// where page ids are numbers of 64 bits, as in memory. Whatever the disk does, the store stays one as every store is.
 pub fn what_was_flushed_is_what_is_read()
@@ -70,7 +70,7 @@ pub fn what_is_read_is_a_store()
     ensures { (s : Settings) (st : Store) (file : Bytes) → store_of_disk file ≡ Ok (s, st) → IsStoreOf s st file }
 {}
 
-/// Bytes behind the tail, in free segments, in a closed slot and in no part of the format don't matter: a disk that agrees with
+/// Bytes after the tail, in free segments, in a closed slot and in no part of the format don't matter: a disk that agrees with
 /// another at all places that a reading looks at stands for the same store.
 pub fn bytes_that_no_reading_looks_at_do_not_matter()
     ensures closed { (s : Settings) (st : Store) (file c : Bytes) → store_of_disk file ≡ Ok (s, st) → AgreeAt (IsLookedAt s st) file c →

@@ -24,8 +24,8 @@ use keys::Fault;
 use std::alloc::Global;
 use std::thread::Threads;
 
-// How many bytes are read before a crew gets them: whole segments, of which the largest is a quarter of it. It isn't the crew's to
-// say, so that a reading takes the same memory and makes the same calls of the disk for every crew.
+// How many bytes are read before a crew gets them: whole segments, and the longest that may be is a quarter of it. It doesn't depend on
+// the crew, so that a reading takes the same memory and makes the same calls of the disk for every crew.
 const BYTES_AT_ONCE: u64 = 4_194_304;
 
 // How many bytes of the last segment are in use.
@@ -51,7 +51,7 @@ fn segments_at_once(format: &Format, ends: &LogEnds) -> usize
     most.min(earlier.max(1)) as usize
 }
 
-// Reads so many segments from the first on, behind each of which is another. The buffer has room for just these.
+// Reads `count` segments from `first` on, each of them followed by another. The buffer has room for just these.
 fn read_whole<'b, D: Disk>(
     alloc: Global,
     disk: &mut D,
@@ -193,13 +193,13 @@ fn read_segments<D: Disk>(
     so_far.take(rt, crew, format, segments)
 }
 
-/// Reads the log between its ends, and gathers its frames by page: of each page what they tell, and the bytes of those
-/// that are wanted. The crew scans the segments.
+/// Reads the log between its ends, and gathers its frames by page: of each page the state after them, and the bytes of those that are
+/// wanted. The crew scans the segments.
 ///
-/// The fault at the least position of the log counts, `Fault::BadSegment` or `Fault::BadFrame`. Besides there is `Fault::NoMemory`,
-/// and `Fault::Device` where a read failed: also behind a segment that has a fault, since all are read, and then no longer
-/// scanned. It takes the memory of some segments and of where their frames stand, at most 4 MiB of segments whatever the crew, and what
-/// is kept of the pages. No byte of the disk changes.
+/// The fault at the least position of the log counts, `Fault::BadSegment` or `Fault::BadFrame`. Besides there is `Fault::NoMemory`, and
+/// `Fault::Device` where a read failed: also after a segment that has a fault, since all are read, and then no longer scanned. It takes
+/// the memory of some segments and of where their frames stand, at most 4 MiB of segments whatever the crew, and what is kept of the
+/// pages. No byte of the disk changes.
 pub fn read_log<D: Disk>(
     rt: &(impl Threads + Sync),
     crew: Crew,

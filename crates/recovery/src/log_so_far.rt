@@ -44,7 +44,7 @@ fn add_all(
 }
 
 impl LogSoFar {
-    /// Nothing yet, of a log of which these frames are to be kept.
+    /// Nothing yet; `wanted` says which frames of the log are to be kept.
     pub(crate) fn new(alloc: Global, wanted: Wanted) -> Self
         ensures { IsSoFar wanted result.gathering result.fault (Ok []) }
     {
@@ -93,7 +93,7 @@ impl LogSoFar {
     }
 
     /// Takes the next segments, which the crew scans at once. A fault of their bytes is no error here, but a part of what was found:
-    /// what stands behind it doesn't count, and isn't scanned. The only error is `Fault::NoMemory`; after it nothing is promised.
+    /// what stands after it doesn't count, and isn't scanned. The only error is `Fault::NoMemory`; after it nothing is promised.
     pub(crate) fn take<R: Threads + Sync>(
         &mut self,
         rt: &R,

@@ -65,7 +65,7 @@ impl PageParts {
         }
     }
 
-    /// The page with what the frame says, as its newest run; nothing where the frame is no run of such a page.
+    /// The page with the frame's run as its newest; nothing where the frame is no run of such a page.
     pub(crate) fn with_run(self, frame: Frame) -> Result<Option<Self>, AllocError>
         ensures { IfOk result (IsPushed (page_of_parts self) (content_of frame)) }
     {

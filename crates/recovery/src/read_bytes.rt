@@ -1,5 +1,5 @@
-//! The reading of some bytes of a disk. Each place is read at most once in a reading of a disk. So there are bytes of which all
-//! is true that was read, whatever the disk does.
+//! The reading of some bytes of a disk. Each place is read at most once in a reading of a disk. So some bytes agree with all
+//! that was read, whatever the disk does.
 ghost use Rattle.std.specs.Prelude.{◌≡◌, ◌≢◌, ◌+◌, ◌≤◌, IsTrue, length, IfErr, OnOk};
 ghost use Rattle.keys.specs.Bytes.{Bytes};
 ghost use Rattle.keys.specs.declared.fault.Fault.TheVariants.{Device};

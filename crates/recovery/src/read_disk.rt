@@ -18,7 +18,7 @@ use keys::{Fault, Settings};
 // How many bytes the settings block has.
 const BLOCK_SIZE: usize = 64;
 
-// The settings that the block of a disk of this length tells, where the disk has room for the segments.
+// Decodes the settings block of a disk of this length, where the disk has room for the segments.
 fn settings_in(block: &[u8], len: u64) -> Result<Settings, Fault>
     ensures read { (file : Bytes) → take settings_block_size file ≡ block.now → length file ≡ len → result ≡ store_settings file }
     ensures good { IfOk result (λ s. (first_bad_field s ≡ None) × (disk_size s ≤ len)) }
@@ -32,8 +32,8 @@ fn settings_in(block: &[u8], len: u64) -> Result<Settings, Fault>
     Ok(settings)
 }
 
-/// The settings of the store that the disk holds. A disk too short for its settings block, or for what that tells, has none:
-/// `Fault::NotAStore`. A read that fails is `Fault::Device`.
+/// The settings of the store that the disk holds. A disk too short for its settings block, or for the segments that this calls
+/// for, has none: `Fault::NotAStore`. A read that fails is `Fault::Device`.
 pub(crate) fn read_settings<D: Disk>(disk: &mut D) -> Result<Settings, Fault>
     ensures read { (file : Bytes) × IsReadOf (D.view disk.new) file × MatchResult result (λ s. store_settings file ≡ Ok s)
         (λ fault. (store_settings file ≡ Err fault) ⊎ IsLate (D.failed disk.old) (D.failed disk.new) fault) }

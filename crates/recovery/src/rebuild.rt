@@ -1,4 +1,4 @@
-//! A page is built again of its frames, as they stand in the log.
+//! Builds a page again from its frames, as they stand in the log.
 ghost use Rattle.std.specs.Prelude.{◌≡◌, IfOk};
 ghost use Rattle.recovery.specs.PageByLog.{page_in};
 ghost use Rattle.recovery.specs.Rebuild.{told_in};
@@ -10,12 +10,12 @@ use index_page::Page;
 use keys::Pid;
 use std::alloc::{AllocError, Global};
 
-/// The frames that tell a page.
+/// The frames of a page.
 #[derive(Drop)]
 pub struct PageLog {
     /// The page's id.
     pub pid: Pid,
-    /// Its frames, back to back, as they stand in the log: its last base, and the runs behind that.
+    /// Its frames, back to back, as they stand in the log: its last base, and the runs after that.
     pub frames: Vec<u8>,
 }
 
@@ -24,11 +24,11 @@ pub struct PageLog {
 pub struct Rebuilt {
     /// The frames, which stay beside their page until it is known that memory sufficed for all.
     pub log: PageLog,
-    /// The page, where they tell one.
+    /// The page, where they make one.
     pub page: Option<Page<Global>>,
 }
 
-/// The page that these frames tell, where they stand back to back: a base, and runs of its kind behind it. Where they tell none, or where
+/// The page that these frames make, where they stand back to back: a base, and runs of its kind after it. Where they make none, or where
 /// other bytes stand among them, there is none.
 pub fn rebuild(
     alloc: Global,

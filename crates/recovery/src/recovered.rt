@@ -1,4 +1,4 @@
-//! Recovery: the bytes of a disk become a store again, or are answered with the one fault that they have.
+//! Recovery: the bytes of a disk become a store again, or are refused with the one fault that they have.
 ghost use Rattle.std.specs.Prelude.{◌≡◌, ◌≢◌, ◌⊎◌, None, Ok, Err, IsTrue, IfOk, IfErr, MatchResult, OnOk};
 ghost use Rattle.keys.specs.Bytes.{Bytes};
 ghost use Rattle.keys.specs.Limits.{first_bad_field};
@@ -27,7 +27,7 @@ pub struct Recovered {
     pub settings: Settings,
     /// Where its log begins and ends, which version that has, and the number of its last commit.
     pub slot: Slot,
-    /// Its pages, all of which the log has as they are.
+    /// Its pages; the log has them all as they are.
     pub tree: Tree<Global>,
 }
 
@@ -68,14 +68,14 @@ fn read_parts<D: Disk>(
     })
 }
 
-/// Reads the store that the disk holds. It writes nothing. The crew scans the segments and builds the pages; which crew it is changes
-/// nothing of what is answered. Logs of both versions are read, each by the version that its slot says: what only
-/// the second one may have is no frame in a log of the first.
+/// Reads the store that the disk holds. It writes nothing. The crew scans the segments and builds the pages; the answer is the same
+/// for every crew. Logs of both versions are read, each by the version in its slot: what only the second one may have is no
+/// frame in a log of the first.
 ///
-/// A disk that has no settings block, or is shorter than that tells, is `Fault::NotAStore`; one of which no slot is open, or an
-/// open one is not well formed, `Fault::NoSlot`; then, of the log, the fault at the least position counts, `Fault::BadSegment` or
+/// A disk that has no settings block, or is shorter than that calls for, is `Fault::NotAStore`; one without an open slot, or with one
+/// that is not well formed, `Fault::NoSlot`; then, of the log, the fault at the least position counts, `Fault::BadSegment` or
 /// `Fault::BadFrame`; and last the first finding, of a page by its log or of the tree, as `Fault::BadStructure`. Besides there are
-/// `Fault::NoMemory`, and `Fault::Device` where a read failed: also where it failed behind a place that has a fault of the log.
+/// `Fault::NoMemory`, and `Fault::Device` where a read failed: also where it failed after a place that has a fault of the log.
 pub fn recover<D: Disk>(
     rt: &(impl Threads + Sync),
     crew: Crew,

@@ -1,5 +1,5 @@
-//! The scan of a segment: its bytes give which frames stand in it, or its first fault. Nothing is made of them yet, since a frame that is
-//! made can take many times its bytes, and most count no longer once the log is read.
+//! Scans a segment: finds the frames in its bytes, or its first fault. They are not decoded yet, since a decoded frame can take many
+//! times its bytes, and most count no longer once the log is read.
 ghost use Rattle.std.specs.Prelude.{◌≡◌, ◌⊎◌, ◌^◌, ◌<◌, ◌==◌, map, length, Ok, Err, IfOk, IfErr};
 ghost use Rattle.std.specs.List.{list_all};
 ghost use Rattle.keys.specs.declared.fault.Fault.TheVariants.{NoMemory};
@@ -17,7 +17,7 @@ use std::marker::PhantomData;
 pub enum End {
     /// Where its bytes do: it is the last segment, whose bytes are those up to the tail.
     Tail,
-    /// Where zeros alone are left, or nothing: another segment stands behind it.
+    /// Where zeros alone are left, or nothing: another segment follows it.
     Padding,
 }
 
@@ -32,10 +32,10 @@ pub struct Segment<'a> {
     pub bytes: &'a [u8],
 }
 
-/// A frame of a segment, of which nothing is made yet.
+/// A frame of a segment, not decoded yet.
 #[derive(Clone, Copy)]
 pub struct ScannedFrame<'a> {
-    /// The number of the page id of which it says something.
+    /// The number of its page id.
     pub pid: u64,
     /// What kind of frame it is.
     pub kind: FrameKind,
@@ -59,10 +59,10 @@ pub fn is_end(end: End, rest: &[u8]) -> bool
     }
 }
 
-/// The frames of a segment: those behind its header, up to their end. The bytes may be any.
+/// The frames of a segment: those after its header, up to their end. The bytes may be any.
 ///
 /// A header of another segment, or none, is `Fault::BadSegment`. Where there is neither a frame nor the end of the frames, that is
-/// `Fault::BadFrame` with the offset; the first such place counts, and what stands behind it is not looked at. Else there is
+/// `Fault::BadFrame` with the offset; the first such place counts, and what stands after it is not looked at. Else there is
 /// `Fault::NoMemory`.
 pub fn scan_segment<'a>(
     alloc: Global,

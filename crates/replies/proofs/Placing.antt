@@ -44,7 +44,7 @@ module _ {X : Type 0} where
   nothing_first zero = refl
   nothing_first (suc n) = refl
 
-  -- the first so many need no more than so many of what stands in front
+  -- the first n need no more than n of what stands in front
   take_front : (n : ℕ) (xs ys : List X) → take n (take n xs ++ ys) ≡ take n (xs ++ ys)
   take_front zero xs ys = refl
   take_front (suc n) [] ys = refl
@@ -277,7 +277,7 @@ module _ {A : Type 0} where
   goes_over limit at (Wiped count) h n = absurd (cc)
   goes_over limit at _ h n = refl
 
-  -- rows to a scan come to the first so many of them all
+  -- rows to a scan come to the first `limit` of them all
   added-rows : (limit : ℕ) (xs : List (List ℕ × List ℕ)) (rs : List (Reply A)) → All (IsOfKind true) rs → added limit (Some (Rows (take limit xs))) rs ≡ Some (Rows (take limit (xs ++ flat_map rows_of rs)))
   unfolding added
   added-rows limit xs [] h = rw (append-nil xs) refl
@@ -371,7 +371,7 @@ module _ {A : Type 0} where
 
   -- ---- the law
 
-  -- the rows of the pieces at a place, each behind those of the piece before it
+  -- the rows of the pieces at a place, each after those of the piece before it
   abbrev pub rows_at : List (Piece A) → ℕ → List (List ℕ × List ℕ)
   rows_at ps place = flat_map (λ p. rows_of p.reply) (pieces_at ps place)
 

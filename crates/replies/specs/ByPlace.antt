@@ -95,7 +95,7 @@ blank_in Summed = Wiped 0
 abbrev pub blank_of : {A : Type 0} → Command A → Reply A
 blank_of c = blank_in (joining_of c)
 
--- rows with more behind them, cut at a limit
+-- rows with more after them, cut at a limit
 abbrev pub with_rows : {A : Type 0} → ℕ → Reply A → Pairs Bytes → Reply A
 with_rows limit (Rows rows) more = Rows (take limit (rows ++ more))
 with_rows limit at more = at
@@ -105,7 +105,7 @@ abbrev pub with_count : {A : Type 0} → Reply A → ℕ → Reply A
 with_count (Wiped count) more = Wiped (min (count + more) most_counted)
 with_count at more = at
 
--- what stands at a place after one more answer: rows go behind the rows there, a count is added to the count there, and another
+-- what stands at a place after one more answer: rows go after the rows there, a count is added to the count there, and another
 -- answer goes in the place of what stood there
 abbrev pub with_answer : {A : Type 0} → ℕ → Reply A → Reply A → Reply A
 with_answer limit at (Rows more) = with_rows limit at more

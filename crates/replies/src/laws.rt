@@ -21,10 +21,9 @@ pub fn blanks_with_all_answers_are_the_replies<A: Allocator>()
     ensures pages { (cs : List (Command A)) (ps qs : List (Piece A)) (rs : List (Reply A)) → with_pieces cs (ps ++ qs) rs ≡ with_pieces cs qs (with_pieces cs ps rs) }
 {}
 
-/// The reply at the place of a command on one key is that of the place's piece. A scan's is the rows of its pieces, each piece
-/// behind the one before it, and of these the first up to the limit; a wipe's is the sum of its pieces' counts, as far as a reply can
-/// have it. A list of as many replies as commands in which all these stand
-/// at their places is the list of the replies.
+/// The reply at the place of a command on one key is that of the place's piece. A scan's is the rows of its pieces, each piece after
+/// the one before it, and of these the first up to the limit; a wipe's is the sum of its pieces' counts, as far as a reply can have
+/// it. A list of as many replies as commands in which all these stand at their places is the list of the replies.
 pub fn each_piece_has_the_reply_at_its_place<A: Allocator>()
     ensures here { (cs : List (Command A)) (ps : List (Piece A)) → AreAnswers cs ps → All (λ p. is_ranged_at cs p.place ≡ false → reply_at cs ps p.place ≡ Some p.reply) ps }
     ensures scan { (cs : List (Command A)) (ps : List (Piece A)) (place : ℕ) (lo : Bytes) (hi : Option Bytes) (limit : ℕ) → slice_get cs place ≡ Some (Scan lo hi limit) →

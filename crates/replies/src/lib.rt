@@ -41,10 +41,10 @@ fn blank(alloc: Global, command: &Command<Global>) -> Reply<Global>
     }
 }
 
-/// Adds each answer of a page to what stands at its command's place. Of a scan the rows go behind those that stand there, up to its
-/// limit: so pages are added in their order. Of a wipe the counts are added up. Replies are moved, and so are the rows of a scan's
-/// first page; those of later pages are copied. `AllocError` comes only where memory was refused to a list of rows; the replies then
-/// have some of the answers, and are good for nothing but to be dropped.
+/// Adds each answer of a page to what stands at its command's place. The rows of a scan are appended to those that stand there, up to its
+/// limit: so pages are added in their order. The counts of a wipe are added up. Replies are moved, and so are the rows of a scan's first
+/// page; those of later pages are copied. `AllocError` comes only where memory was refused to a list of rows; the replies then have some of
+/// the answers, and must be dropped.
 pub fn add_answers(
     replies: &mut [Reply<Global>],
     commands: &[Command<Global>],
@@ -96,7 +96,7 @@ fn add_all(
     Ok(())
 }
 
-// Adds each of these answers to scans, none of which has rows, to what stands at its place.
+// Adds each of these answers, to scans and without rows, to what stands at its place.
 fn add_rowless(replies: &mut [Reply<Global>], commands: &[Command<Global>], rowless: Vec<Rowless>)
     requires count { length replies.old ≡ length commands.now }
     requires within { All (λ r. r.place < length commands.now) rowless.items }
@@ -129,7 +129,7 @@ fn add(
     }
 }
 
-// Adds rows to those that stand there, up to so many. Rows that come when there are enough are let go.
+// Appends rows to those that stand there. Rows past `limit` are dropped.
 fn add_rows(at: &mut Reply<Global>, more: RowList<Global>, limit: usize) -> Result<(), AllocError>
     ensures { OnOk result (at.new ≡ with_rows limit at.old more) }
 {
@@ -142,7 +142,7 @@ fn add_rows(at: &mut Reply<Global>, more: RowList<Global>, limit: usize) -> Resu
     Ok(())
 }
 
-// Leaves out the rows after the first ones, this many: what adding no rows does.
+// Drops the rows after the first `limit`: what adding no rows does.
 fn cut(at: &mut Reply<Global>, limit: usize)
     ensures { at.new ≡ with_rows limit at.old [] }
 {
@@ -151,7 +151,7 @@ fn cut(at: &mut Reply<Global>, limit: usize)
     }
 }
 
-// Adds a count to the one that stands there, up to the greatest that there is.
+// Adds a count to the one that stands there, up to the greatest `u128`.
 fn add_count(at: &mut Reply<Global>, more: u128)
     ensures { at.new ≡ with_count at.old more }
 {

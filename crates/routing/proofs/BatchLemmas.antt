@@ -47,7 +47,7 @@ module _ {A : Type 0} (cs : List (Command A)) (ends : List (Option (List ℕ))) 
   pub any_same : list_any is_ranged cs ≡ list_any is_ranged batch
   any_same = any_with_ends cs ends ∙ ap (λ (ds : List (Command A)). list_any is_ranged ds) same
 
-  -- behind the commands there is nothing
+  -- after the commands there is nothing
   pub past : (place : ℕ) → length cs ≤ place → slice_get batch place ≡ None
   past place h = slice_get_past batch place (rw length_same at h)
 

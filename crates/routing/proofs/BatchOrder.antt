@@ -20,7 +20,7 @@ use Rattle.routing.proofs.RouteLemmas.{among-places, within_all}
 use Rattle.routing.proofs.SortLemmas.{among_itself}
 use Rattle.routing.proofs.SliceLemmas.{sorted_within_all, among-filter}
 
--- one more, behind the others
+-- one more, after the others
 pub order-push : (ss : List Share) (os : List Route) (s : Share) (o : Route) → AreInBatchOrder ss os → IsInBatchOrder s o → AreInBatchOrder (ss ++ s ∷ []) (os ++ o ∷ [])
 order-push [] [] s o a h = (h, tt)
 order-push [] (p ∷ os) s o a h = absurd a

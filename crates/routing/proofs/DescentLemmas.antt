@@ -237,7 +237,7 @@ module _ {A : Type 0} (cs : List (Command A)) (pages : List (ℕ × PageOfKind))
 
 -- ---- the levels of a tree, from the root down
 
--- the names of the pages so many levels below the root
+-- the names of the pages a number of levels below the root
 abbrev pub names_at : List (ℕ × PageOfKind) → ℕ → ℕ → Names
 names_at pages root zero = ([], root) ∷ []
 names_at pages root (suc i) = joined (map (index_at pages) (values_of (names_at pages root i)))

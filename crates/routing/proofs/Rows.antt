@@ -64,8 +64,8 @@ j = 106 ∷ []
 abbrev four : List (Placed (List ℕ))
 four = leaf 7 [] ∷ leaf 2 c ∷ leaf 5 f ∷ leaf 9 j ∷ []
 
--- a scan goes to the leaf of its lower bound, and to each whose low key lies behind that and below the upper bound: d to f ends where a leaf begins,
--- and doesn't reach it; where the upper bound is no greater than the lower one, it goes to one leaf, and once
+-- a scan goes to the leaf of its lower bound, and to each whose low key lies after that and below the upper bound: d to f ends where a leaf
+-- begins, and doesn't reach it; where the upper bound is no greater than the lower one, it goes to one leaf, and once
 abbrev scans : Commands
 scans = Scan (97 ∷ []) None 10 ∷ Scan d (Some f) 10 ∷ Scan d (Some (103 ∷ [])) 10 ∷ Scan d (Some (98 ∷ [])) 10 ∷ Scan f (Some f) 10 ∷ Scan [] (Some j) 10 ∷ Scan (107 ∷ []) None 0 ∷ Put c (49 ∷ []) ∷ Scan c (Some (106 ∷ 0 ∷ [])) 1 ∷ []
 

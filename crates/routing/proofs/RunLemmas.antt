@@ -145,7 +145,7 @@ count-filter : (f : ℕ → Bool) (n : ℕ) → f n ≡ true → (xs : List ℕ)
 count-filter f n k [] = refl
 count-filter f n k (x ∷ xs) = count_if (nat_eq x n) (f x) f n x xs (filter f xs) refl refl k (count-filter f n k xs)
 
--- what an idle command tells of the page
+-- what an idle command says of the page
 pub record IsIdleAfter {A : Type 0} (cs : List (Command A)) (low : List ℕ) (end : Option (List ℕ)) (place : ℕ) : Type 0 where
   pub reaches : reaches_at cs low place ≡ true
   pub none : list_any (gives_within low end) cs ≡ false

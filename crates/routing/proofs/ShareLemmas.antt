@@ -151,7 +151,7 @@ share_at P (s ∷ ss) (suc i) d l a = let m : i < length ss = omega arith in sha
 pub share_taken : (P : Share → Type 0) (shares : List Lent) (i : ℕ) (d l : Lent) → i < length shares → l ≡ get_or shares i d → AllByRecursion P (lent_shares shares) → P (share_of_lent l)
 share_taken P shares i d l w t a = subst (λ (x : Lent). P (share_of_lent x)) (sym t) (share_at P shares i d w a)
 
--- one more share, of which the rest is what there was
+-- one more share, where the rest is what there was
 pub push_share : (old new : List Lent) (share : Lent) (r : Share) (more less : List Share) → new ≡ old ++ share ∷ [] → share_of_lent share ≡ r → more ≡ r ∷ less → lent_shares new ++ less ≡ lent_shares old ++ more
 push_share old new share r more less i k j =
     ap (λ (n : List Lent). lent_shares n ++ less) i
@@ -282,12 +282,12 @@ module _ {A : Type 0} (cs : List (Command A)) where
   shares_behind [] xs ys r a = refl
   shares_behind (e ∷ es) xs ys r a = behind_by e es xs ys r a
 
-  -- where a list is cut at an end: what stands before the cut is before the end, and what stands behind it isn't
+  -- where a list is cut at an end: what stands before the cut is before the end, and what stands after it isn't
   pub record IsCutAt (end : Option (List ℕ)) (xs ys : List ℕ) : Type 0 where
     pub before : AllByRecursion (λ q. is_before end (key_at cs q) ≡ true) xs
     pub behind : AllByRecursion (λ q. is_before end (key_at cs q) ≡ false) ys
 
-  -- the first child has the places before its end, and the others get those behind
+  -- the first child has the places before its end, and the others get those after
   here : (e : List ℕ × ℕ) (es : List (List ℕ × ℕ)) (xs ys : List ℕ) → IsRising (e ∷ es) → AllByRecursion (λ q. is_below (key_at cs q) e.0 ≡ false) (xs ++ ys) → has_some xs ≡ true → IsCutAt (next_key es None) xs ys
       → (let r : Route = record { pid = e.1; places = xs } in begun cs (xs ++ ys) (children (e ∷ es) None) ≡ r ∷ begun cs ys (children (e ∷ es) None))
   unfolding IsStrictlySortedBy
@@ -386,7 +386,7 @@ module _ {A : Type 0} (cs : List (Command A)) where
     pub before : AllByRecursion (λ entry. is_before end entry.0 ≡ true) xs
     pub behind : AllByRecursion (λ entry. is_before end entry.0 ≡ false) ys
 
-  -- they are cut at no end behind all of them
+  -- they are cut at no end after all of them
   pub none_cut : (es : List Keyed) → AreCutAt None (take (length es) es) (drop (length es) es)
   none_cut es = record { before = all_true (take (length es) es); behind = rw (drop_all (length es) es (omega arith)) tt }
     where
@@ -476,7 +476,7 @@ module _ {A : Type 0} (cs : List (Command A)) where
   pub part_is : (es : List Keyed) (start count end : ℕ) → end ≡ start + count → slice_range es start end ≡ take count (drop start es)
   part_is es start count end e = let n : end - start ≡ count = omega arith in ap (λ (i : ℕ). take i (drop start es)) n
 
-  -- one more share, of which the rest is what there was
+  -- one more share, where the rest is what there was
   pub hand_step : (page : PageOfKind) (es rest : List Keyed) (start count end : ℕ) (pid : ℕ) (old new : List Lent) (lent : Lent) (whole : List Share) → rest ≡ drop start es → end ≡ start + count → lent.pid ≡ pid → lent.keyed ≡ slice_range es start end → lent.reaching ≡ [] → new ≡ old ++ lent ∷ []
       → (let s : Share = record { pid = pid; own = places_of (take count rest); reaching = [] } in shares_below cs page (places_of rest) ≡ s ∷ shares_below cs page (places_of (drop count rest)))
       → lent_shares old ++ shares_below cs page (places_of (drop start es)) ≡ whole → lent_shares new ++ shares_below cs page (places_of (drop end es)) ≡ whole

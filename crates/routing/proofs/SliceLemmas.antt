@@ -32,7 +32,7 @@ use Rattle.routing.specs.SortedPlaces.{order_of_places, AreInKeyOrder, AreSorted
 use Rattle.routing.proofs.RouteLemmas.{among-places, goes_as, all_places, within_parts, rising-places_from, among-append}
 use Rattle.routing.proofs.SortLemmas.{total_places, holds_among, among-permutation, same_sorted, same_number}
 
--- numbers of which none stands twice rise strictly, once they are put in order
+-- numbers where none stands twice rise strictly, once they are put in order
 pub rising_once_sorted : (ps qs : List ℕ) → IsDistinct nat_eq ps → IsPermutation ps qs → IsNonDecreasing qs → IsStrictlyIncreasing qs
 rising_once_sorted ps qs d p s = IsStrictlyIncreasing-from_distinct qs s (IsDistinct-IsPermutation nat_eq nat_eq_equiv.symm ps qs p d)
 
@@ -354,7 +354,7 @@ module _ {X : Type 0} (f : X → Bool) where
       none_by true e g n = absurd (let t = g e in cc)
       none_by false e g n = e
 
-  -- where those before a stretch pass and those behind it don't, a cut of the stretch is one of the whole
+  -- where those before a stretch pass and those after it don't, a cut of the stretch is one of the whole
   cut_within : (ss ds : List X) (n : ℕ) → n ≤ length ss → AllPass (take n ss) → NonePass (drop n ss) → NonePass ds → AllPass (take n (ss ++ ds)) × NonePass (drop n (ss ++ ds))
   cut_within ss ds zero l a b e = (tt, all-append (λ x. f x ≡ false) ss ds b e)
   cut_within [] ds (suc n) l a b e = absurd (omega arith)

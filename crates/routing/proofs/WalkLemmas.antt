@@ -110,7 +110,7 @@ from_itself : (es : Names) → from_low (first_key es) es ≡ es
 from_itself [] = refl
 from_itself (e ∷ es) = rw (not_below_itself e.0) refl
 
--- the end of a child's range is the key of an entry behind the first
+-- the end of a child's range is the key of an entry after the first
 end_by : (b : Bool) (k end : List ℕ) (e f : List ℕ × ℕ) (es : Names) → order e.0 f.0 ≡ Less → (let child : ℕ × Option (List ℕ) = cond b (e.1, Some f.0) (child_with_end k (f ∷ es)) in child.1 ≡ Some end)
     → ((child_with_end k (f ∷ es)).1 ≡ Some end → (order f.0 end ≡ Less) × IsEntry (f ∷ es) end) → (order e.0 end ≡ Less) × IsEntry (e ∷ f ∷ es) end
 end_by true k end e f es l c ih =
@@ -243,7 +243,7 @@ module _ {A : Type 0} (cs : List (Command A)) where
 
   -- ---- the next child that gets anything
 
-  -- what is left for the children behind one whose range has this end
+  -- what is left for the children after one whose range has this end
   abbrev pub rest_of : Option (List ℕ) → List ℕ → List ℕ → List ℕ → Names → List Share
   rest_of None rs xs ys es = []
   rest_of (Some end) rs xs ys es = shares cs (left_over end rs xs ys) (children (from_low end es) None)
@@ -299,7 +299,7 @@ module _ {A : Type 0} (cs : List (Command A)) where
       next_from k e left rs xs ys r (subst (λ (x : List ℕ). AllByRecursion (λ q. reaches_at cs x q ≡ true) rs) (sym same) a.reach) (subst (λ (x : List ℕ). AllByRecursion (IsFromKey cs x) (xs ++ ys)) (sym same) a.from)
       (λ h. w h ∙ sym same) n s p
 
-  -- a child's range ends behind the key where the walk stands, at another entry, and fewer are left from there
+  -- a child's range ends after the key where the walk stands, at another entry, and fewer are left from there
   end_from : (left es : Names) (k low end : List ℕ) → left ≡ from_low low es → IsRising left → IsEntry es low → (child_with_end k left).1 ≡ Some end → (order low end ≡ Less) × (length (from_low end left) < length left) × IsEntry left end
   end_from [] es k low end t r h c = absurd (cc)
   end_from (e ∷ left) es k low end t r h c =
@@ -315,7 +315,7 @@ module _ {A : Type 0} (cs : List (Command A)) where
       let l = (end_from (from_low low es) es k low end refl (rising_from low es r) h c).0 in
       ap (λ (fs : Names). shares cs (left_over end rs xs ys) (children fs None)) (sym (from_twice low end es l))
 
-  -- the child of a key gets what lies before its end, and what reaches it, and those behind it get the rest
+  -- the child of a key gets what lies before its end, and what reaches it, and those after it get the rest
   pub walk_step : (es : Names) (k low : List ℕ) (rs xs ys : List ℕ) (pid : ℕ) (end : Option (List ℕ)) → IsRising es → IsAt es low rs (xs ++ ys) → is_below k low ≡ false → (has_some rs ≡ true → k ≡ low)
       → AllByRecursion (IsFromKey cs k) (xs ++ ys) → (has_some xs || has_some rs) ≡ true → (pid, end) ≡ child_with_end k es → AreParted end xs ys
       → (let s : Share = record { pid = pid; own = xs; reaching = without_idle cs end xs rs } in shares cs (rs ++ (xs ++ ys)) (children (from_low low es) None) ≡ s ∷ rest_of end rs xs ys es)
@@ -344,8 +344,8 @@ module _ {A : Type 0} (cs : List (Command A)) where
 
   -- ---- the next key
 
-  -- what is known of the next key: it isn't below where the walk stands, it is there where scans go on, no place is below it, and some are before
-  -- each end behind it
+  -- what is known of the next key: it isn't below where the walk stands, it is there where scans go on, no place is below it, and some are
+  -- before each end after it
   record IsNextKey (low : List ℕ) (rs ps : List ℕ) (k : List ℕ) : Type 0 where
     above : is_below k low ≡ false
     at_low : has_some rs ≡ true → k ≡ low
@@ -404,7 +404,7 @@ module _ {A : Type 0} (cs : List (Command A)) where
       some_child [] h n = absurd (let s = h.some in omega arith)
       some_child (e ∷ es) h n = (omega arith, from_higher (is_below k e.0) k low e.0 refl (first_by (is_below e.0 low) e es low refl h) n)
 
-  -- the next child's share, and what is left for those behind it
+  -- the next child's share, and what is left for those after it
   pub walked : (page : PageOfKind) (low k : List ℕ) (rs : List ℕ) (rest : List Keyed) (n : ℕ) (pid : ℕ) (end : Option (List ℕ)) → IsWalking page low rs rest k → (pid, end) ≡ child_with_end k (child_entries page) → AreCutAt cs end (take n rest) (drop n rest)
       → (let s : Share = record { pid = pid; own = places_of (take n rest); reaching = without_idle cs end (places_of (take n rest)) rs } in
       shares cs (rs ++ places_of rest) (children (from_low low (child_entries page)) None) ≡ s ∷ rest_of end rs (places_of (take n rest)) (places_of (drop n rest)) (child_entries page))

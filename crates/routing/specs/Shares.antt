@@ -83,7 +83,7 @@ shares cs ps ats = filter has_any (map (share_of cs ps) ats)
 abbrev pub root_shares : ℕ → List ℕ → List Share
 root_shares root ps = filter has_any (record { pid = root; own = ps; reaching = [] } ∷ [])
 
--- what becomes of these places at an index page: the shares of its children, the last of which takes what is left
+-- what becomes of these places at an index page: the shares of its children, where the last takes what is left
 abbrev pub shares_below : {A : Type 0} → List (Command A) → PageOfKind → List ℕ → List Share
 shares_below cs page ps = shares cs ps (children (child_entries page) None)
 
@@ -138,12 +138,12 @@ pub record AreReadyShares {A : Type 0} (pages : List (ℕ × PageOfKind)) (cs : 
 abbrev pub share_below : {A : Type 0} → List (ℕ × PageOfKind) → List (Command A) → Share → List Share
 share_below pages cs s = shares_below cs (index_under pages s.pid) (all_of s)
 
--- what becomes of shares so many levels further down
+-- what becomes of shares n levels further down
 abbrev pub shares_down : {A : Type 0} → List (ℕ × PageOfKind) → List (Command A) → ℕ → List Share → List Share
 shares_down pages cs zero ss = ss
 shares_down pages cs (suc n) ss = shares_down pages cs n (flat_map (share_below pages cs) ss)
 
--- shares that can be handed down, level by level, until so many levels further down none has a place twice
+-- shares that can be handed down, level by level, until n levels further down none has a place twice
 abbrev pub CanGoDown : {A : Type 0} → List (ℕ × PageOfKind) → List (Command A) → ℕ → List Share → Type 0
 CanGoDown pages cs zero ss = AllByRecursion HasEachPlaceOnce ss
 CanGoDown pages cs (suc n) ss = AllByRecursion (IsReadyShare pages cs) ss × CanGoDown pages cs n (flat_map (share_below pages cs) ss)

@@ -16,11 +16,11 @@ use Rattle.routing.specs.BatchKeys.{key_at}
 use Rattle.routing.specs.Places.{places_below}
 use Rattle.routing.specs.Routes.{places_from}
 
--- how two places stand to each other: by the keys of their commands, and where these are equal by the places
+-- how two places compare: by the keys of their commands, and where these are equal by the places
 abbrev pub order_of_places : {A : Type 0} → List (Command A) → ℕ → ℕ → Ordering
 order_of_places cs p q = ordering_then (order (key_at cs p) (key_at cs q)) (nat_cmp p q)
 
--- each place comes, in this order, before all that stand behind it
+-- each place comes, in this order, before all that stand after it
 abbrev pub AreInKeyOrder : {A : Type 0} → List (Command A) → List ℕ → Type 0
 AreInKeyOrder cs ps = IsStrictlySortedBy (order_of_places cs) ps
 

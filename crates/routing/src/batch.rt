@@ -19,7 +19,7 @@ use std::marker::Model;
 #[derive(Drop)]
 pub struct BatchWithEnds<'a> {
     commands: &'a [Command<Global>],
-    // For each place the scan's nearer end, if it has one; places behind the list's end have none.
+    // For each place the scan's nearer end, if it has one; places after the list's end have none.
     ends: Vec<Option<&'a [u8]>>,
 }
 
@@ -37,7 +37,7 @@ impl<'a> Model for BatchWithEnds<'a> {
 
 impl<'a> BatchWithEnds<'a> {
     /// These commands, and for each place the scan's nearer end, if it has one. The list of the ends may be shorter: places
-    /// behind its end have none.
+    /// after its end have none.
     pub fn new(commands: &'a [Command<Global>], ends: Vec<Option<&'a [u8]>>) -> Self
         ensures { result ≡ with_ends commands.entry.now (map option_copied ends.entry.items) }
     {

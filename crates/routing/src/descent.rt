@@ -29,12 +29,12 @@ use std::thread::{Threads, join};
 // Fewer pages of a level are not shared: to start a thread would take longer.
 const LEAST_PAGES: usize = 32;
 
-/// For each leaf of the tree that a command of the batch goes to, from left to right, its page id and the places of these
-/// commands, but for scans and wipes that find nothing left there: a leaf that a wipe takes whole, and into which the batch puts
-/// nothing, isn't visited again for each later one. A scan with a nearer end goes to no leaf from there on. The commands are sorted
-/// once, and each index page on their way is visited once. The workers, of whom the caller's thread is one, share a long batch; only its sort
-/// goes to as many threads as there are processors. One worker starts no thread. The tree is a proper one, of which no page is away. It is
-/// refused only for want of memory, with `Fault::NoMemory`.
+/// For each leaf of the tree that a command of the batch goes to, from left to right, its page id and the places of these commands, but for
+/// scans and wipes that find nothing left there: a leaf that a wipe takes whole, and into which the batch puts nothing, isn't visited again
+/// for each later one. A scan with a nearer end goes to no leaf from there on. The commands are sorted once, and each index page on their
+/// way is visited once. The workers, of whom the caller's thread is one, share a long batch; only its sort goes to as many threads as there
+/// are processors. One worker starts no thread. The tree is a proper one, and no page of it is away. It is refused only for lack of memory,
+/// with `Fault::NoMemory`.
 pub fn route(
     rt: &(impl Threads + Sync),
     workers: usize,
@@ -78,8 +78,8 @@ fn route_sorted(
     runs_below(rt, workers, alloc, tree, batch, ranged, levels, &shares)
 }
 
-// The runs of the leaves so many levels below these shares' pages. Where the pages of a level are many, workers share them. It calls
-// itself once a level, of which there are at most 64, and once for each halving of the workers.
+// The runs of the leaves `levels` levels below these shares' pages. Where the pages of a level are many, workers share them. It calls
+// itself once a level, 64 times at most, and once for each halving of the workers.
 #[cycle(below)]
 fn runs_below<R: Threads + Sync>(
     rt: &R,
@@ -191,7 +191,7 @@ fn one_level_down<'a, 'k>(
     Ok(below)
 }
 
-// Hands a page's share down to its children. Only in a batch with scans or wipes it is looked whether one meets the page.
+// Hands a page's share down to its children. Only in a batch with scans or wipes it checks whether one meets the page.
 fn hand_down<'a, 'k>(
     alloc: Global,
     batch: &BatchWithEnds<'_>,

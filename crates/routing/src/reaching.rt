@@ -126,7 +126,7 @@ fn covers(end: Option<&[u8]>, hi: &Option<Key<Global>>) -> bool
     }
 }
 
-/// Whether the command is a scan or a wipe that begins before this low key, and ends behind it: a scan at the nearer end where
+/// Whether the command is a scan or a wipe that begins before this low key, and ends after it: a scan at the nearer end where
 /// it has one, and else at its own upper bound.
 pub(crate) fn reaches(command: &Command<Global>, end: Option<&[u8]>, low: &[u8]) -> bool
     ensures { result ≡ reaches low.now (with_end (option_copied end.entry) command.now) }

@@ -37,7 +37,7 @@ pub(crate) fn sorted_places<'a>(
     Ok(keyed)
 }
 
-/// How many of these workers share a batch of so many commands.
+/// How many of these workers share a batch of `count` commands.
 pub(crate) fn sharing(workers: usize, count: usize) -> usize {
     workers.min(count.div_ceil(LEAST_SHARED))
 }
@@ -55,7 +55,7 @@ fn sort_keyed(rt: &(impl Threads + Sync), workers: usize, keyed: &mut [Keyed<'_>
     }
 }
 
-// The keys of so many commands from this place on, each with its place, in the order of the batch. The workers share them: it calls
+// The keys of `count` commands from this place on, each with its place, in the order of the batch. The workers share them: it calls
 // itself once for each halving of these.
 #[cycle(keyed)]
 fn keyed_places<'a, R: Threads + Sync>(
@@ -114,9 +114,8 @@ fn keyed_in_turn<'a>(
     Ok(keyed)
 }
 
-/// How many of these entries, of which those with a key below this one stand first, have a key below it. It is found by
-/// steps that double and then by halves, since of a long list mostly few are below. A descent gives a child those that
-/// stand before the end of its range.
+/// How many of these entries have a key below this one. Those that have one stand first. It is found by steps that double and then
+/// by halves, since of a long list mostly few are below. A descent gives a child those that stand before the end of its range.
 pub(crate) fn count_below(keyed: &[Keyed<'_>], key: &[u8]) -> usize
     requires { IsPartitionedBy (has_key_below key.now) keyed.now }
     ensures most { result ≤ length keyed.now }

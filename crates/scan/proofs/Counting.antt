@@ -62,7 +62,7 @@ noted_on place level new_level above new_above l a o n = λ places most at w p b
     least_of in
     more_on place at (get_or level at 0) (get_or new_level at 0) (counted above (at / 16)) (counted new_above (at / 16)) (λ h e. a at h within e least) (o at within) (n ((places - 1) / 16 + 1) most (at / 16) w.1 group own fewer small)
 
--- the same of all levels, of which these are the first and the others
+-- the same of all levels: these are the first and the others
 pub noted_first : (place : ℕ) (levels : List (List ℕ)) (level new_level : List ℕ) (above new_above : List (List ℕ)) → levels ≡ level ∷ above → length new_level ≡ length level
     → ((at : ℕ) → place < at → at < length level → at / 16 ≡ place / 16 → get_or level at 0 < 2 ^ 64 - 1 → get_or new_level at 0 ≡ get_or level at 0 + 1)
     → ((at : ℕ) → at < length level → (at ≤ place) ⊎ (at / 16 ≢ place / 16) → get_or new_level at 0 ≡ get_or level at 0) → IsNotedOn (place / 16) above new_above → IsNotedOn place levels (new_level ∷ new_above)
@@ -71,7 +71,7 @@ noted_first place levels level new_level above new_above e l a o n =
 
 -- ---- levels that are made one by one
 
--- levels of which the first has so many places, up to where so many are left
+-- each level has room for the places that come to it, from `places` on, up to where `left` are left
 abbrev pub LeadsTo : ℕ → ℕ → List (List ℕ) → Type 0
 LeadsTo places left [] = places ≡ left
 LeadsTo places left (level ∷ levels) = (places ≤ length level) × LeadsTo ((places - 1) / 16 + 1) left levels

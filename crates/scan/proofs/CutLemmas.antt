@@ -1,4 +1,4 @@
--- Lemmas on the children of a page from a key on: one for the key, and those behind it.
+-- Lemmas on the children of a page from a key on: one for the key, and those after it.
 use Rattle.std.specs.Prelude.{◌≡◌, ◌⊎◌, ℕ, ◌<◌, Bool, true, false, cond, List, [], ◌∷◌, ◌++◌, map, length, Option, Some, None}
 use Rattle.std.proofs.Common.{refl, sym, ap, ◌∙◌, subst, arith, inl, inr, Less}
 use Rattle.std.specs.List.{AllByRecursion, filter}
@@ -16,7 +16,7 @@ abbrev pub Names : Type 0
 Names = List (List ℕ × ℕ)
 
 -- the entries in parts: those that are left out, the first that isn't, whose key isn't above the key where any is left out,
--- and those behind it, above the key
+-- and those after it, above the key
 pub record IsCut (key : List ℕ) (es : Names) : Type 0 where
   pub before : Names
   pub first : List ℕ × ℕ
@@ -103,7 +103,7 @@ module _ (key : List ℕ) where
       record { before = []; first = e; rest = es; parts = refl; kept = kept-all (e ∷ es) (l, behind); behind = behind; here = inl refl }
   cut_first false e es b r = cut_from e es r b
 
-  -- rising entries, of which there is one, are cut so
+  -- rising entries, one at least, are cut so
   pub cut : (es : Names) → IsRising es → 0 < length es → IsCut key es
   cut [] r n = absurd (omega arith)
   cut (e ∷ es) r n = cut_first (is_below key e.0) e es refl r

@@ -36,12 +36,12 @@ shown level = map (λ p. p.page) level
 
 -- ---- a walk along a level
 
--- it is at this leaf, with these behind it
+-- it is at this leaf, with these after it
 pub record IsPassing (level : Level) (leaf : Page (List ℕ)) (behind : Leaves) : Type 0 where
   pub passed : Leaves
   pub whole : shown level ≡ passed ++ leaf ∷ behind
 
--- a level of which one knows the pages, apart at one of them
+-- a level whose pages are known, apart at one of them
 record IsApart (level : Level) (leaf : Page (List ℕ)) (behind : Leaves) : Type 0 where
   pub xs : Level
   pub at : Placed (List ℕ)
@@ -117,7 +117,7 @@ module _ (t : TreeInMemory) (held : HoldsLevels (tree_of t).pages (levels_of (tr
 
 -- ---- a step of the walk
 
--- at a leaf, so many pairs are certain before it, of each map that lacks no more than the keys say
+-- at a leaf, `certain` pairs are certain before it, of each map that lacks no more than the keys say
 pub record AreCertainBefore (taken : Taken) (m : List (List ℕ × List ℕ)) (lo low : List ℕ) (certain : ℕ) : Type 0 where
   pub each : (n : List (List ℕ × List ℕ)) → LacksAtMost taken m n → certain ≤ length (in_range lo (Some low) n)
 

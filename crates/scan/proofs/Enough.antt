@@ -1,4 +1,4 @@
--- Lemmas on how many pairs a range has at least, after commands of which some delete.
+-- Lemmas on how many pairs a range has at least, after commands where some delete.
 use Rattle.std.specs.Prelude.{◌≡◌, ℕ, zero, suc, ◌+◌, ◌-◌, ◌<◌, ◌≤◌, Bool, true, false, not, ◌&&◌, cond, List, [], ◌∷◌, ◌++◌, length, min, take, drop, Option, Some, None, is_some, if◌then◌else◌}
 use Rattle.std.proofs.Common.{refl, sym, ap, ◌∙◌, subst, arith, Ordering, Less, Equal, Greater, length-append, length-drop}
 use Rattle.std.specs.List.{AllByRecursion, filter}

@@ -35,7 +35,7 @@ passed_by true g k e b p n = absurd (let t : is_below k e ≡ true = rw (total.t
 passed_by false g k e b p n = refl
 
 module _ {V : Type 0} where
-  -- ---- pairs behind a key
+  -- ---- pairs after a key
 
   pub behind-all : (k : List ℕ) (es : List (List ℕ × V)) → IsBelowAll k (keys_of es) → behind k es ≡ es
   behind-all k [] a = refl
@@ -70,7 +70,7 @@ module _ {V : Type 0} where
   step_by false k e es b r ih =
       behind-skips k e es b ∙ ih ∙ rest_by (above k es) e es (λ g p. passed_by (is_below g.0 e.0) g.0 k e.0 refl (found_above k es g p) b)
 
-  -- the pairs behind k are the first one behind it, and those behind that
+  -- the pairs after k are the first one after it, and those after that
   pub behind-step : (k : List ℕ) (es : List (List ℕ × V)) → IsRising es → behind k es ≡ left_after (above k es) es
   unfolding IsStrictlySortedBy
   behind-step k [] r = refl
@@ -82,7 +82,7 @@ module _ {V : Type 0} where
   none_by true e o h = absurd (cc)
   none_by false e o h = (refl, h)
 
-  -- where the key isn't there, the pairs from it on are those behind it
+  -- where the key isn't there, the pairs from it on are those after it
   pub from-none : (k : List ℕ) (es : List (List ℕ × V)) → value_at k es ≡ None → from k es ≡ behind k es
   from-none k [] h = refl
   from-none k (e ∷ es) h =
@@ -102,7 +102,7 @@ module _ {V : Type 0} where
       let l : order e.0 k ≡ Less = all_below k es v e.0 r.0 h in
       rw (l, above_not_below e.0 k l) (ih h)
 
-  -- where it is there, they are its pair and those behind it
+  -- where it is there, they are its pair and those after it
   pub from-there : (k : List ℕ) (v : V) (es : List (List ℕ × V)) → IsRising es → value_at k es ≡ Some v → from k es ≡ (k, v) ∷ behind k es
   unfolding IsStrictlySortedBy
   from-there k v [] r h = absurd (cc)
@@ -123,6 +123,6 @@ module _ {V : Type 0} where
     pub start-none : (o : Option (List ℕ × V)) → None ≡ holds p k → left_after o (entries_of p) ≡ behind k (entries_of p) → left_after o (entries_of p) ≡ from k (entries_of p)
     start-none o h a = a ∙ sym (from-none k (entries_of p) (value_at-entries_of p k r ∙ sym h))
 
-    -- the first pair behind the key, and those behind it
+    -- the first pair after the key, and those after it
     pub first-behind : (o : Option (List ℕ × V)) → o ≡ above k (entries_of p) → left_after o (entries_of p) ≡ behind k (entries_of p)
     first-behind o a = ap (λ (x : Option (List ℕ × V)). left_after x (entries_of p)) a ∙ sym (behind-step k (entries_of p) (rising-entries_of p r))

@@ -46,7 +46,7 @@ module _ {V : Type 0} where
   above_by Equal k e es h n a = rw (sym (same_key e.0 k h)) a
   above_by Greater k e es h n a = below_all k e.0 (keys_of es) (flipped_greater e.0 k h) a
 
-  -- where the first key is not below k, no key behind it is
+  -- where the first key is not below k, no key after it is
   pub from-starts : (k : List ℕ) (e : List ℕ × V) (es : List (List ℕ × V)) → IsRising (e ∷ es) → is_below e.0 k ≡ false → from k (e ∷ es) ≡ e ∷ es
   unfolding IsStrictlySortedBy
   from-starts k e es r h = rw h (ap (λ (x : List (List ℕ × V)). e ∷ x) (from-all k es (above_by (order e.0 k) k e es refl h r.0)))
@@ -62,7 +62,7 @@ module _ {V : Type 0} where
       let none : 0 + count_below k (keys_of es) ≡ 0 = omega arith in
       rw none (sym (from-starts k e es r h))
 
-  -- the entries behind those below k are those from k on
+  -- the entries after those below k are those from k on
   pub drop-count_below : (k : List ℕ) (es : List (List ℕ × V)) → IsRising es → drop (count_below k (keys_of es)) es ≡ from k es
   unfolding IsStrictlySortedBy
   drop-count_below k [] r = refl
@@ -122,9 +122,9 @@ module _ {V : Type 0} where
       ap (λ (x : List (List ℕ × Option V)). slice_get (with_run x (asserted (c ∷ cs))) 0) h
       ∙ ap (λ (x : List (List ℕ × Option V)). slice_get x 0) (first_stays d ds (c.0, Some c.1) (asserted cs) (rising-asserted (c ∷ cs) r) l)
 
-  -- ---- behind that key
+  -- ---- after that key
 
-  -- what is behind the first change is what the runs say behind its key
+  -- what is after the first change is what the runs say after its key
   pub said_behind : (k : List ℕ) (o : Option V) (rest : List (List ℕ × Option V)) (runs : List (List (List ℕ × Option V))) → AllByRecursion IsRising runs → said_by runs ≡ (k, o) ∷ rest → said_by runs ≡ (k, o) ∷ said_by (map (behind k) runs)
   unfolding IsStrictlySortedBy
   said_behind k o rest runs a h =

@@ -26,7 +26,7 @@ Changes V = List (List ℕ × Option V)
 module _ {V : Type 0} where
   -- ---- one list
 
-  -- the pairs behind those that are below a key
+  -- the pairs after those that are below a key
   pub place_of : (k : List ℕ) (es : List (List ℕ × V)) (at : ℕ) → IsRising es → at ≡ count_below k (keys_of es) → drop at es ≡ from k es
   place_of k es at r h = ap (λ (n : ℕ). drop n es) h ∙ drop-count_below k es r
 
@@ -210,7 +210,7 @@ module _ {V : Type 0} where
 
 -- ---- the next of all changes, as an option
 
--- what runs say is the next change, where there is one, and what they say behind it
+-- what runs say is the next change, where there is one, and what they say after it
 pub said_next : {V X : Type 0} (f : X → List ℕ × Option V) (x : Option X) (runs later : List (Changes V)) → MatchOption x (said_by runs ≡ []) (λ c. said_by runs ≡ f c ∷ said_by later) → said_by runs ≡ changes_after (option_map f x) (said_by later)
 said_next f None runs later h = h
 said_next f (Some c) runs later h = h

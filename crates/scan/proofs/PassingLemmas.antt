@@ -90,7 +90,7 @@ module _ {V : Type 0} where
   rising-passing test [] a = tt
   rising-passing test (run ∷ runs) a = (rising-filtered (λ e. test e.0) run a.0, rising-passing test runs a.1)
 
-  -- ---- behind a key, and from a key on
+  -- ---- after a key, and from a key on
 
   pub behind-said_by : (k : List ℕ) (runs : List (List (List ℕ × Option V))) → AllByRecursion IsRising runs → behind k (said_by runs) ≡ said_by (map (behind k) runs)
   behind-said_by k runs a = passing-said_by (λ j. is_below k j) runs a

@@ -62,7 +62,7 @@ module _ (ps : List (ℕ × PageOfKind)) where
 
   -- ---- a page on the way
 
-  -- at an index page, the way goes on to the first of the children that are kept, of which there is one
+  -- at an index page, the way goes on to the first of the children that are kept; there is one
   pub record IsStep (n : ℕ) (key : List ℕ) (pid : ℕ) (kept : List ℕ) : Type 0 where
     pub level : ℕ
     pub height : suc level ≡ n

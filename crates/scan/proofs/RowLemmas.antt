@@ -101,7 +101,7 @@ goes_on_none left h = subst (λ (o : Option ℕ). GoesOn o None) (sym h) (λ e e
 pub goes_on_some : (left : Option ℕ) (n : ℕ) → left ≡ Some n → 0 < n → GoesOn left (Some (n - 1))
 goes_on_some left n h l = subst (λ (o : Option ℕ). GoesOn o (Some (n - 1))) (sym h) (λ e es. one_less n e es l)
 
--- one row, and those behind it
+-- one row, and those after it
 pub row_given : (left later : Option ℕ) (test : List ℕ → Bool) (k v w : List ℕ) (all es : Pairs) → GoesOn left later → all ≡ (k, v) ∷ es → w ≡ v → true ≡ test k
     → rows_left left test all ≡ (k, w) ∷ rows_left later test es
 row_given left later test k v w all es step h same b = ap (λ (x : Pairs). rows_left left test x) h ∙ rw same (going_on left later test (k, v) es (λ x. step (k, v) x) b)

@@ -32,7 +32,7 @@ module _ (t : TreeInMemory) where
       by zero h e = omega arith
       by (suc n) h e = omega arith
 
-  -- children at this level are pushed, of which the first is where the walk goes on
+  -- children at this level are pushed, and the walk goes on at the first
   pub pushed : (path new : SmallVec (List ℕ)) (m : ℕ) (key : List ℕ) (child : ℕ) (rest : List ℕ) → length path.items + suc m ≡ Top → IsWalk t path → new.items ≡ path.items ++ rest ∷ [] → new.capacity ≡ path.capacity
       → IsKnown Pages m child → AllByRecursion (IsKnown Pages m) rest → IsPushed t new key child (leaf_pages Pages (leaves_from Pages m key child ++ (leaves_under Pages m rest ++ leaves_left Pages Top path.items)))
   pushed path new m key child rest h w i c k a =
@@ -56,7 +56,7 @@ module _ (t : TreeInMemory) where
 
   -- ---- down
 
-  -- below an index page, the walk goes on at the first child that is kept, and those behind it are pushed
+  -- below an index page, the walk goes on at the first child that is kept, and those after it are pushed
   pub step_down : (path new : SmallVec (List ℕ)) (key : List ℕ) (pid child : ℕ) (page : PageOfKind) (rest : List ℕ) (whole : List (Page (List ℕ))) → IsWalk t path → IsAt t (length path.items) pid
       → Some page ≡ page_at Pages pid → IsIndex page → values_of (children_within key None (child_entries page)) ≡ child ∷ rest
       → new.items ≡ path.items ++ rest ∷ [] → new.capacity ≡ path.capacity → walk_from t (length path.items) key pid ++ walk_left t path.items ≡ whole → IsPushed t new key child whole

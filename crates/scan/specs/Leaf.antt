@@ -8,11 +8,11 @@ use Rattle.keys.specs.Range.{is_below}
 abbrev pub from : {V : Type 0} → Bytes → Pairs V → Pairs V
 from k es = filter (λ e. not (is_below e.0 k)) es
 
--- the pairs behind a key
+-- the pairs after a key
 abbrev pub behind : {V : Type 0} → Bytes → Pairs V → Pairs V
 behind k es = filter (λ e. is_below k e.0) es
 
--- the next pair, where there is one, and those behind it
+-- the next pair, where there is one, and those after it
 abbrev pub left_after : {V : Type 0} → Option (Bytes × V) → Pairs V → Pairs V
 left_after None es = []
 left_after (Some e) es = e ∷ behind e.0 es

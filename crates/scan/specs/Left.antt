@@ -9,7 +9,7 @@ use Rattle.scan.specs.Prefix.{begins_with}
 use Rattle.scan.specs.declared.rows.End.{End}
 use Rattle.scan.specs.declared.rows.End.TheVariants.{Open, Before, Beginning}
 
--- the pairs that a leaf has left, and behind them those of other leaves
+-- the pairs that a leaf has left, and after them those of other leaves
 abbrev pub pairs_left : Pairs Bytes → List (Page Bytes) → Pairs Bytes
 pairs_left leaf leaves = leaf ++ pairs leaves
 

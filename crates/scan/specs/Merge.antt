@@ -8,7 +8,7 @@ use Rattle.keys.specs.Range.{is_below}
 use Rattle.delta_chain.specs.Layers.{with_run}
 use Rattle.delta_chain.specs.Merging.{first_order}
 
--- changes behind a first one, where there is one
+-- changes after a first one, where there is one
 abbrev pub changes_after : {V : Type 0} → Option (Bytes × Option V) → Changes V → Changes V
 changes_after None cs = []
 changes_after (Some c) cs = c ∷ cs

@@ -20,7 +20,7 @@ pids_left (Some c) = values_of (drop c.1 c.0)
 abbrev pub entries_at : List (ℕ × PageOfKind) → ℕ → Names
 entries_at ps pid = entries (as_index (page_at ps pid))
 
--- the pids of the leaves that are so many levels below these pages, in order
+-- the pids of the leaves n levels below these pages, in order
 abbrev pub leaves_under : List (ℕ × PageOfKind) → ℕ → List ℕ → List ℕ
 leaves_under ps zero pids = pids
 leaves_under ps (suc n) pids = leaves_under ps n (values_of (joined (map (index_at ps) pids)))
@@ -30,7 +30,7 @@ abbrev pub leaves_from_first : (Bytes × ℕ → List ℕ) → (List ℕ → Lis
 leaves_from_first first under [] = []
 leaves_from_first first under (e ∷ es) = first e ++ under (values_of es)
 
--- of the leaves n levels below a page, those from a key on: below the first child whose range meets such keys, and behind it
+-- of the leaves n levels below a page, those from a key on: below the first child whose range meets such keys, and after it
 abbrev pub leaves_from : List (ℕ × PageOfKind) → ℕ → Bytes → ℕ → List ℕ
 leaves_from ps zero key pid = pid ∷ []
 leaves_from ps (suc n) key pid = leaves_from_first (λ e. leaves_from ps n key e.1) (leaves_under ps n) (children_within key None (entries_at ps pid))
@@ -52,7 +52,7 @@ leaf_under ps pid = as_leaf (page_at ps pid)
 abbrev pub leaf_pages : List (ℕ × PageOfKind) → List ℕ → List (Page Bytes)
 leaf_pages ps pids = map (leaf_under ps) pids
 
--- the pairs of leaves, each behind those of the one before it
+-- the pairs of leaves, those of one after those of the one before
 abbrev pub pairs : List (Page Bytes) → Pairs Bytes
 pairs ls = flat_map entries ls
 

@@ -27,7 +27,7 @@ abbrev pub counted : List (List ℕ) → ℕ → ℕ
 counted [] at = 0
 counted (level ∷ levels) at = slice_index level at + counted levels (at / 16)
 
--- levels that have room for so many places: each level for the groups of the one below
+-- levels that have room for `places` places: each level for the groups of the one below
 abbrev pub AreWide : ℕ → List (List ℕ) → Type 0
 AreWide places [] = places ≤ 1
 AreWide places (level ∷ levels) = (places ≤ length level) × AreWide ((places - 1) / 16 + 1) levels

@@ -15,7 +15,7 @@ pub record IsWalk (t : TreeInMemory) (path : SmallVec (List ℕ)) : Type 0 where
   pub known : ArePathOf (tree_of t).pages (pred t.height) path.items
   pub room : path.capacity ≡ most_levels
 
--- so many levels below the root, there is this page
+-- `depth` levels below the root, there is this page
 pub record IsAt (t : TreeInMemory) (depth : ℕ) (pid : ℕ) : Type 0 where
   pub within : depth ≤ pred t.height
   pub known : IsKnown (tree_of t).pages (pred t.height - depth) pid

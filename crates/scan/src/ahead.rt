@@ -85,7 +85,7 @@ impl<'a> Ahead<'a> {
     }
 }
 
-// The run's change at this place, with those behind it; none at the run's end.
+// The run's change at this place, with those after it; none at the run's end.
 fn head_at<'a>(run: &'a Run<Value<Global>, Global>, at: usize) -> Option<Head<'a>>
     ensures { changes_of result ≡ drop at run.now }
 {

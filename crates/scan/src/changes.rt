@@ -77,8 +77,8 @@ fn least<'a>(runs: &[Ahead<'a>]) -> Option<(usize, Change<'a>)>
     }
 }
 
-// Each run goes past this key, and none is behind it. The run at the place begins with it, so that the key's bytes needn't be
-// looked at there.
+// Each run goes past this key, and none begins before it. The run at the place begins with it, so that the key's bytes
+// needn't be looked at there.
 fn pass_all<'a>(runs: &mut [Ahead<'a>], place: usize, key: &KeyRef<'_>)
     requires place { StartsAt key.now (slice_index_or runs.old place []) }
     requires starts { AllByRecursion (StartsFrom key.now) runs.old }

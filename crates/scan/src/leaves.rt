@@ -18,11 +18,11 @@ use std::marker::Model;
 /// A leaf: its low key, and its values.
 pub(crate) type Leaf<'a> = (&'a [u8], &'a LateChain<Value<Global>, Global>);
 
-// The index pages on the way to a leaf, from the root down, each with its children behind that way. A tree has at most 64
+// The index pages on the way to a leaf, from the root down, each with its children after that way. A tree has at most 64
 // levels, so it needs no memory.
 type Path<'a> = SmallVec<PathStep<'a>, 64>;
 
-/// The leaves of a tree behind one that was come to, from left to right. From one to the next it goes up only as far as
+/// The leaves of a tree after one that was come to, from left to right. From one to the next it goes up only as far as
 /// there are no more children, and takes no memory. Contracts see it as these pages.
 #[derive(Drop)]
 pub(crate) struct Leaves<'a> {
@@ -44,7 +44,7 @@ impl<'a> Model for Leaves<'a> {
 }
 
 impl<'a> Leaves<'a> {
-    // The leaf for the key, and those behind it.
+    // The leaf for the key, and those after it.
     pub(crate) fn new(alloc: Global, tree: &'a Tree<Global>, key: &[u8]) -> (Leaf<'a>, Self)
         requires home { AreAllHome tree.now }
         requires height { tree.now.height ≤ most_levels }
@@ -70,7 +70,7 @@ impl<'a> Iterator for Leaves<'a> {
     }
 }
 
-// Goes down from this page to the leaf for the key, the children behind the way onto the path.
+// Goes down from this page to the leaf for the key, the children after the way onto the path.
 fn descend<'a>(tree: &'a Tree<Global>, path: &mut Path<'a>, from: Pid, key: &[u8]) -> Leaf<'a>
     requires walk { IsWalk tree.now path.old }
     requires known { IsAt tree.now (length path.old.items) from }
@@ -99,7 +99,7 @@ fn descend<'a>(tree: &'a Tree<Global>, path: &mut Path<'a>, from: Pid, key: &[u8
     }
 }
 
-// The next leaf on the path, which leads to those behind it afterwards.
+// The next leaf on the path, which leads to those after it afterwards.
 fn next_leaf<'a>(tree: &'a Tree<Global>, path: &mut Path<'a>) -> Option<Leaf<'a>>
     requires { IsWalk tree.now path.old }
     ensures walk { IsWalk tree.now path.new }

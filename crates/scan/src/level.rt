@@ -70,7 +70,7 @@ fn raise(counts: &mut [usize], from: usize, end: usize)
     }
 }
 
-/// The levels over this many places, of which none is noted: the places, their groups, the groups of these, and so on up to
+/// The levels over this many places, none of them noted: the places, their groups, the groups of these, and so on up to
 /// one.
 pub(crate) fn levels_over(alloc: Global, places: usize) -> Result<Vec<Level>, AllocError>
     ensures wide { IfOk result (λ levels. AreWide places levels.items) }

@@ -24,7 +24,7 @@ pub(crate) struct Merge<'a> {
     base: &'a Base<Value<Global>, Global>,
     // The place of the base's next pair.
     at: usize,
-    // The next of all changes, and the runs behind it.
+    // The next of all changes, and the runs after it.
     change: Option<Change<'a>>,
     runs: Runs<'a>,
 }
@@ -114,7 +114,7 @@ pub(crate) fn next_pair<'a>(merge: &mut Merge<'a>) -> Option<(&'a [u8], &'a Valu
     }
 }
 
-// The place behind the key, of pairs from this place on; none where the first of these stands before the key.
+// The place after the key, of pairs from this place on; none where the first of these stands before the key.
 fn past(base: &Base<Value<Global>, Global>, at: usize, key: &KeyRef<'_>) -> Option<usize>
     ensures { MatchOption result (first_order (drop at base.now) key.now ≡ Less)
         (λ next. StartsFrom key.now (drop at base.now) × (drop next base.now ≡ behind key.now (drop at base.now))) }

@@ -52,9 +52,9 @@ impl<'a> Model for Rows<'a> {
 }
 
 impl<'a> Rows<'a> {
-    /// The first `limit` pairs of the tree whose keys are `lo` or above, and below `hi` where it is given. The tree is a
-    /// proper one of at most 64 levels, of which no page is away. Where `hi` is given, it costs one way down more, up to the first key from
-    /// there on: over all leaves that deletes have emptied there.
+    /// The first `limit` pairs of the tree whose keys are `lo` or above, and below `hi` where it is given. The tree is a proper one of at
+    /// most 64 levels, and no page of it is away. Where `hi` is given, it costs one way down more, up to the first key from there on: over
+    /// all leaves that deletes have emptied there.
     pub fn new(
         alloc: Global,
         tree: &'a Tree<Global>,
@@ -239,7 +239,7 @@ fn walk_from<'a>(alloc: Global, tree: &'a Tree<Global>, key: &[u8]) -> (LeafPair
     (LeafPairs::new(alloc, first.1.whole(), key), leaves)
 }
 
-// The next pair of the leaf, or else of the leaves behind it.
+// The next pair of the leaf, or else of the leaves after it.
 fn next_pair<'a>(
     alloc: Global,
     leaf: &mut LeafPairs<'a>,

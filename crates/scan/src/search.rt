@@ -66,7 +66,7 @@ impl<'a> Iterator for Search<'a> {
     }
 }
 
-// The first pair behind the key: with it those behind the key begin.
+// The first pair after the key: with it those after the key begin.
 fn next_behind<'a>(
     chain: &'a Chain<Value<Global>, Global>,
     key: &[u8],

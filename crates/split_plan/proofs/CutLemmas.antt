@@ -28,7 +28,7 @@ ends_within n p i h = div-le_of_le-mul p (mul-le-mul_right n h)
 sum_by : (a l p m n : ℕ) → a * p ≤ m → l * p ≤ n → (a + l) * p ≤ m + n
 sum_by a l p m n h k = omega arith
 
--- where each piece could have so many entries, the end is so much greater than the beginning
+-- where each piece could have l entries, the end is at least l greater than the beginning
 at_least : (n p i l : ℕ) → 0 < p → l * p ≤ n → i * n / p + l ≤ suc i * n / p
 at_least n p i l h k =
     let e : suc i * n ≡ i * n + n = omega arith in
@@ -38,7 +38,7 @@ at_least n p i l h k =
 most_by : (a p m n fan : ℕ) → m < suc a * p → n ≤ p * fan → m + n < suc (a + fan) * p
 most_by a p m n fan h k = omega arith
 
--- where p pieces of this size take all entries, the end is at most so much greater
+-- where p pieces of this size take all entries, the end is greater by at most that size
 at_most : (n p i fan : ℕ) → 0 < p → n ≤ p * fan → suc i * n / p ≤ i * n / p + fan
 at_most n p i fan h k =
     let a : ℕ = i * n / p in
@@ -55,7 +55,7 @@ at_most n p i fan h k =
 enough_by : (q n fan : ℕ) → 0 < fan → n + (fan - 1) < suc q * fan → n ≤ q * fan
 enough_by q n fan h l = omega arith
 
--- so many pieces of fan entries take all of them
+-- that number of pieces of fan entries takes all of them
 count_is_enough : (fan n : ℕ) → 0 < fan → n ≤ piece_count fan n * fan
 count_is_enough fan n h =
     let q : ℕ = (n + (fan - 1)) / fan in

@@ -65,7 +65,7 @@ first_none : (m n : Option ℕ) → first_of m n ≡ None → n ≡ None
 first_none None n h = h
 first_none (Some v) n h = absurd (cc)
 
--- a key of the first name isn't named behind it
+-- a key of the first name isn't named after it
 none_behind : (x : List ℕ × ℕ) (ns : Names) (q : List ℕ) → is_eq (order q x.0) ≡ true → IsRising (x ∷ ns) → value_at q ns ≡ None
 none_behind x ns q e r = value_at_rest x ns q r ∙ ap (λ (b : Bool). cond b None (value_at q (x ∷ ns))) e
 

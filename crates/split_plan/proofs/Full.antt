@@ -1,4 +1,4 @@
--- Lists of which none is empty.
+-- Lists where none is empty.
 use Rattle.std.specs.Prelude.{◌<◌, List, length}
 use Rattle.std.specs.List.{AllByRecursion}
 

@@ -8,7 +8,7 @@ use Rattle.page_runs.specs.Worked.{Worked, is_thin, is_thin_class}
 use Rattle.split_plan.specs.Groups.{Gathered, with_child, gathered, with_leading, groups, cut_by}
 use Rattle.split_plan.proofs.GroupLemmas.{groups-joined}
 
--- sizes of groups, the first of which has this many members more; these are one group where there is none
+-- sizes of groups, where the first has this many members more; these are one group where there is none
 abbrev pub more_in_first : ℕ → List ℕ → List ℕ
 more_in_first zero sizes = sizes
 more_in_first (suc n) [] = suc n ∷ []

@@ -60,7 +60,7 @@ module _ {V : Type 0} where
 
   -- ---- the pages of pieces
 
-  -- the pages of so many of p pieces, from piece i on
+  -- the pages of a number of p pieces, from piece i on
   abbrev pub pages_at : List ℕ → List (List ℕ × V) → ℕ → ℕ → ℕ → List (Page V)
   pages_at low es p i zero = []
   pages_at low es p i (suc more) =

@@ -1,4 +1,4 @@
--- Lemmas on what parents are told, for the proofs of this crate and of those above it.
+-- Lemmas on the terms that parents get, for the proofs of this crate and of those above it.
 use Rattle.std.specs.Prelude.{◌≡◌, ℕ, ◌+◌, ◌<◌, false, List, [], ◌∷◌, ◌++◌, take, drop, length, Option, Some, None}
 use Rattle.std.proofs.Common.{refl, sym, ap, ◌∙◌, subst, arith, take-append-drop}
 use Rattle.keys.specs.Order.{IsRising}

@@ -6,7 +6,7 @@ use Rattle.std.specs.List.{AllByRecursion}
 abbrev pub piece_count : ℕ → ℕ → ℕ
 piece_count fan n = max 1 ((n + (fan - 1)) / fan)
 
--- so many of p pieces, from piece i on; piece i runs from i n / p up to and without (i + 1) n / p
+-- a number of p pieces, from piece i on; piece i runs from i n / p up to and without (i + 1) n / p
 abbrev pub pieces : {X : Type 0} → List X → ℕ → ℕ → ℕ → List (List X)
 pieces es p i zero = []
 pieces es p i (suc more) = slice_range es (i * length es / p) (suc i * length es / p) ∷ pieces es p (suc i) more
@@ -15,7 +15,7 @@ pieces es p i (suc more) = slice_range es (i * length es / p) (suc i * length es
 abbrev pub cut : {X : Type 0} → ℕ → List X → List (List X)
 cut fan es = pieces es (piece_count fan (length es)) 0 (piece_count fan (length es))
 
--- each piece has at most, and at least, so many entries
+-- each piece has at most `most`, and at least `least` entries
 abbrev pub AllAtMost : {X : Type 0} → ℕ → List (List X) → Type 0
 AllAtMost most bs = AllByRecursion (λ b. length b ≤ most) bs
 

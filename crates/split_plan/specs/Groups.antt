@@ -34,7 +34,7 @@ abbrev pub begins_thin : {X : Type 0} → (X → Bool) → List X → Bool
 begins_thin is_thin [] = false
 begins_thin is_thin (x ∷ xs) = is_thin x
 
--- parts of a list, cut off from its front one after the other: each has this many elements, if there are so many
+-- parts of a list, cut off from its front one after the other: each has this many elements, if there are as many
 abbrev pub cut_by : {X : Type 0} → List ℕ → List X → List (List X)
 cut_by [] xs = []
 cut_by (n ∷ ns) xs = take n xs ∷ cut_by ns (drop n xs)

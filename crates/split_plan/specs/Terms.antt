@@ -1,4 +1,4 @@
--- What a parent is told of the changes of its children.
+-- The run that a parent gets for the changes of its children.
 use Rattle.std.specs.Prelude.{ℕ, List, [], ◌∷◌, map, flat_map, Option, Some, None}
 use Rattle.std.specs.declared.cmp.Ordering.{Ordering}
 use Rattle.std.specs.declared.cmp.Ordering.TheVariants.{Less, Greater}
@@ -23,13 +23,13 @@ freed_of cs = flat_map freed_by cs
 abbrev pub terms : {V : Type 0} → List (Change V) → Changes ℕ
 terms cs = with_run (absent (names (freed_of cs))) (present (names (fresh_of cs)))
 
--- what the terms say of a key, where new pieces and freed members have these pids at it
+-- the term of a key, where new pieces and freed members have these pids at it
 abbrev pub term_at : Option ℕ → Option ℕ → Option (Option ℕ)
 term_at (Some pid) freed = Some (Some pid)
 term_at None (Some pid) = Some None
 term_at None None = None
 
--- how the first name of one list stands to that of another; an empty list is as one that begins above every key
+-- how the first name of one list compares to that of another; an empty list is as one that begins above every key
 abbrev pub front_order : Names → Names → Ordering
 front_order [] ms = Greater
 front_order (n ∷ ns) [] = Less

@@ -29,7 +29,7 @@ pub(crate) fn joined<'a, V: Kind>(
     Ok(entries)
 }
 
-// Puts the pairs behind the others.
+// Appends the pairs.
 fn push_pairs<'a, V>(
     entries: &mut Vec<(&'a [u8], &'a V)>,
     pairs: &Pairs<'a, V, Global>,
@@ -63,7 +63,7 @@ pub(crate) fn cut_pages<'a, V: Kind>(
     Ok(pages)
 }
 
-// How many pieces so many entries are cut into.
+// How many pieces `entries` entries are cut into.
 fn piece_count(fan: u32, entries: usize) -> usize
     requires { 0 < fan }
     ensures { result ≡ piece_count fan entries }
@@ -71,7 +71,7 @@ fn piece_count(fan: u32, entries: usize) -> usize
     entries.div_ceil(fan as usize).max(1)
 }
 
-// Where the piece at this place begins; the one behind the last, where the entries end.
+// Where the piece at this place begins; the one after the last, where the entries end.
 fn begin(at: usize, entries: usize, pieces: usize) -> usize
     requires some { 0 < pieces }
     requires within { at ≤ pieces }

@@ -22,7 +22,7 @@ use std::marker::{Model, PhantomData};
 pub struct GroupWork<'a> {
     /// Where the new pages are allocated.
     pub alloc: Global,
-    /// The store's settings, of which `fan` is looked at.
+    /// The store's settings; `fan` is read.
     pub settings: Settings,
     // The members of its jobs are lent.
     lent: PhantomData<&'a PageInMemory<Global>>,

@@ -1,5 +1,5 @@
-//! Splits and merges: which children of a parent are rewritten together, what is made of them, and what the parent is
-//! told.
+//! Splits and merges: which children of a parent are rewritten together, what is made of them, and the run that the
+//! parent gets.
 //!
 //! `specs/` says how entries are cut, how children are grouped, what stands in a group's place and which terms its
 //! parent gets.

@@ -1,9 +1,9 @@
-//! What a parent's entry says of a child.
+//! What a parent's entry holds of a child.
 use keys::{Key, Pid};
 use std::alloc::Global;
 use std::marker::Model;
 
-/// What a parent's entry says of a child: its low key and its page id. Contracts see it as this pair.
+/// What a parent's entry holds of a child: its low key and its page id. Contracts see it as this pair.
 #[derive(Drop)]
 pub struct Name {
     pub low: Key<Global>,

@@ -1,4 +1,4 @@
-//! What a parent is told of its children.
+//! The run that a parent gets once its children are rewritten.
 ghost use Rattle.std.specs.Prelude.{◌≡◌, ◌<◌, ◌+◌, [], ◌∷◌, ⊤, length, IfOk, MatchOption};
 ghost use Rattle.keys.specs.Order.{IsRising};
 ghost use Rattle.delta_chain.specs.Layers.{with_run};
@@ -67,7 +67,7 @@ fn next_term(
     }
 }
 
-// How the first freed name stands to the first fresh one; an empty list is as one that begins above every key.
+// How the first freed name compares to the first fresh one; an empty list is as one that begins above every key.
 fn front_order(freed: &VecDeque<Name>, fresh: &VecDeque<Name>) -> Ordering
     ensures { result ≡ front_order freed.now.items fresh.now.items }
 {

@@ -114,7 +114,7 @@ module _ (es : List (List ℕ × ℕ)) (at : ℕ) (end : Option (List ℕ)) wher
   pub no_next : length es ≤ at → next_key (drop at es) end ≡ end
   no_next l = ap (λ (x : List (List ℕ × ℕ)). next_key x end) (drop_all at es l)
 
--- one more place behind others, from what the entries from its own on come to
+-- one more place after others, from what the entries from its own on come to
 pub push_place : (out : List Place) (es : List (List ℕ × ℕ)) (at : ℕ) (k : List ℕ) (pid : ℕ) (end next : Option (List ℕ)) (all : List Place)
     → slice_get (keys_of es) at ≡ Some k → slice_get (values_of es) at ≡ Some pid → next_key (drop (at + 1) es) end ≡ next
     → out ++ children (drop at es) end ≡ all → (out ++ record { pid = pid; low = k; end = next } ∷ []) ++ children (drop (at + 1) es) end ≡ all

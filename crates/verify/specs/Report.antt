@@ -13,7 +13,7 @@ report t =
     let l : Levels = levels_of t in
     record { pages = length (all_pids l.level l.above); height = t.height; pairs = length (contents t) }
 
--- why there is no report: what is found, or else, and also then, want of memory
+-- why there is no report: what is found, or else, and also then, lack of memory
 abbrev pub IsFaultOf : Option Finding → Fault → Type 0
 IsFaultOf None fault = fault ≡ NoMemory
 IsFaultOf (Some f) fault = (fault ≡ NoMemory) ⊎ (fault ≡ BadStructure f)

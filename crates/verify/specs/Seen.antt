@@ -26,18 +26,18 @@ seen_as (Some rule) pairs = Broken rule
 abbrev pub seen_at : Settings → Level → List (ℕ × PageOfKind) → Place → Verdict
 seen_at s level ps at = seen_as (broken_at s level ps [] at) (length (entries (as_leaf (page_at ps at.pid))))
 
--- what is found at a page of which this is seen, where these pids have been met
+-- what is found at a page where this is seen, and these pids have been met
 abbrev pub found_by : List ℕ → ℕ → Verdict → Option Finding
 found_by met pid (Broken rule) = Some (record { rule = rule; pid = pid })
 found_by met pid (Sound pairs) = if is_among pid met then Some (record { rule = 9; pid = pid }) else None
 
--- the first finding of places of which these are seen
+-- the first finding of places where these are seen
 abbrev pub first_found : List ℕ → List Place → List Verdict → Option Finding
 first_found met [] seen = None
 first_found met (at ∷ ats) [] = None
 first_found met (at ∷ ats) (s ∷ seen) = or_else (found_by met at.pid s) (first_found (at.pid ∷ met) ats seen)
 
--- the pairs of the pages of which these are seen
+-- the pairs of the pages where these are seen
 abbrev pub pairs_of : Verdict → ℕ
 pairs_of (Broken rule) = 0
 pairs_of (Sound pairs) = pairs

@@ -124,7 +124,7 @@ fn base_within<V, B: BaseList<V>>(base: &B, low: &[u8], end: Option<&[u8]>) -> b
     true
 }
 
-/// Whether each key that the runs and the base name lies in the range. What lies under the lent runs is of no account.
+/// Whether each key that the runs and the base name lies in the range. What lies under the lent runs doesn't matter.
 pub(crate) fn names_within<V, A: Allocator + Copy, B: BaseList<V>>(
     runs: &ChainRef<'_, V, A>,
     base: &B,
@@ -144,7 +144,7 @@ pub(crate) fn names_within<V, A: Allocator + Copy, B: BaseList<V>>(
 }
 
 /// Whether the base and each run are within the settings, in their numbers of entries and in the lengths of keys and cells. What lies
-/// under the lent runs is of no account.
+/// under the lent runs doesn't matter.
 pub(crate) fn fits_sizes<V: CellSize, A: Allocator + Copy, B: BaseList<V>>(
     runs: &ChainRef<'_, V, A>,
     base: &B,

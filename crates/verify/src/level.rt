@@ -20,8 +20,8 @@ use rayon::prelude::*;
 use std::alloc::{AllocError, Global};
 use std::thread::Threads;
 
-/// Looks for what is wrong at these places of a level, where the pages met so far are known, and meets their pages. It gives
-/// the number of pairs that they hold. It is refused for the first thing that is wrong, or for want of memory.
+/// Looks for what is wrong at these places of a level, where the pages met so far are known, and meets their pages. It
+/// returns the number of pairs that they hold. It is refused for the first thing that is wrong, or for lack of memory.
 pub(crate) fn pass_level(
     rt: &(impl Threads + Sync),
     alloc: Global,
@@ -81,7 +81,7 @@ fn meet_all(places: &[Place<'_>], seen: &[Verdict], met: &mut Met) -> Result<u12
     Ok(pairs)
 }
 
-// Meets a page of which this is seen. It gives the number of its pairs.
+// Meets a page with this verdict. It returns the number of its pairs.
 fn meet_page(pid: Pid, seen: Verdict, met: &mut Met) -> Result<usize, Fault>
     ensures ok { OnOk result (found_by met.old pid seen ≡ None) }
     ensures pairs { IfOk result (λ pairs. pairs ≡ pairs_of seen) }
@@ -120,7 +120,7 @@ pub(crate) fn places_below<'a>(
     Ok(below)
 }
 
-// Puts the places of the children of the page at a place behind the others.
+// Appends the places of the children of the page at a place.
 fn push_children<'a>(
     alloc: Global,
     tree: &'a Tree<Global>,
@@ -140,7 +140,7 @@ fn push_children<'a>(
     push_places(&entries, at.end, below)
 }
 
-// Puts the places of the children that these entries name behind the others, the last up to this end.
+// Appends the places of the children that these entries name, the last up to this end.
 fn push_places<'a>(
     entries: &Pairs<'a, Pid, Global>,
     end: Option<&'a [u8]>,

@@ -21,7 +21,7 @@ use std::alloc::{AllocError, Global};
 pub(crate) enum Level {
     /// The lowest.
     Leaves,
-    /// One above, whose pages have so many children at least.
+    /// One above, whose pages have at least this many children.
     Above(usize),
 }
 
@@ -30,11 +30,11 @@ pub(crate) enum Level {
 pub(crate) enum Verdict {
     /// It breaks this rule, and none before it.
     Broken(u32),
-    /// Nothing is wrong with it, and it holds so many pairs; an index page holds none.
+    /// Nothing is wrong with it, and it holds this many pairs; an index page holds none.
     Sound(usize),
 }
 
-/// Looks at the page at a place of the level. It is refused only for want of memory.
+/// Looks at the page at a place of the level. It is refused only for lack of memory.
 pub(crate) fn look(
     alloc: Global,
     tree: &Tree<Global>,
@@ -122,7 +122,7 @@ fn look_at_index(
     Ok(Verdict::Sound(0))
 }
 
-// Whether there are so many children at least, and the first is at the low key.
+// Whether there are at least `least` children, and the first is at the low key.
 fn is_headed(children: &Pairs<'_, Pid, Global>, least: usize, low: &[u8]) -> bool
     ensures { result ≡ (nat_le least (length children.now) && is_same_key (first_key children.now) low.now) }
 {

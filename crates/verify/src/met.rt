@@ -40,7 +40,7 @@ impl Met {
         self.pids.contains(&pid.0)
     }
 
-    /// Meets the page id. It says whether that is the first time.
+    /// Meets the page id, and returns whether that is the first time.
     pub(crate) fn meet(&mut self, pid: Pid) -> Result<bool, AllocError>
         ensures first { IfOk result (λ first. first ≡ not (is_among pid self.old)) }
         ensures met { OnOk result (self.new ≡ insert_key nat_cmp self.old pid) }

@@ -11,7 +11,7 @@ use keys::{Settings, compare};
 use std::alloc::Global;
 
 /// The first of the rules on every page that the one of these runs and this base breaks: on its low key, its range, its sizes and its
-/// depth. That the keys of each run and of the base rise, nothing in memory can break. What lies under the lent runs is of no account.
+/// depth. That the keys of each run and of the base rise, nothing in memory can break. What lies under the lent runs doesn't matter.
 pub(crate) fn broken_rule<V: CellSize, B: BaseList<V>>(
     settings: &Settings,
     at: &Place<'_>,

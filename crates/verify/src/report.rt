@@ -1,6 +1,6 @@
 //! The report on a proper tree.
 
-/// What is told of a tree in which nothing is wrong.
+/// The report on a tree in which nothing is wrong.
 #[derive(Clone, Copy, Debug, PartialEq, Eq)]
 pub struct Report {
     /// The pages that the walk from the root reaches.

@@ -16,10 +16,10 @@ use mapping::Tree;
 use std::alloc::{AllocError, Global};
 use std::thread::Threads;
 
-/// Looks whether the tree, of which no page is away, is proper under the settings: it goes down from the root, level by
-/// level, looks at the pages of each level together, and last for pages that it hasn't met. Where nothing is wrong it gives
-/// the report. Else it is refused with `Fault::BadStructure` and the first finding: of the highest level that has one, from
-/// left to right. It is refused besides only for want of memory, with `Fault::NoMemory`.
+/// Checks whether the tree, none of whose pages is away, is proper under the settings: it goes down from the root, level by
+/// level, looks at the pages of each level together, and last for pages that it hasn't met. Where nothing is wrong it
+/// returns the report. Else it is refused with `Fault::BadStructure` and the first finding: of the highest level that has
+/// one, from left to right. It is refused besides only for lack of memory, with `Fault::NoMemory`.
 pub fn verify(
     rt: &(impl Threads + Sync),
     alloc: Global,

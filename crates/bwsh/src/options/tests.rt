@@ -6,7 +6,7 @@ use engine::Crew;
 use std::alloc::{AllocError, Global};
 use std::test::Fail;
 
-// Whether a line tells these numbers: fan, chain, key, value, segment, segments.
+// Whether a line gives these numbers: fan, chain, key, value, segment, segments.
 fn tells(alloc: Global, line: &str, numbers: [u32; 6]) -> Result<bool, AllocError> {
     let words = words_of(alloc, line)?;
     let Ok(told) = options(alloc, &words) else {
@@ -23,7 +23,7 @@ fn tells(alloc: Global, line: &str, numbers: [u32; 6]) -> Result<bool, AllocErro
     )
 }
 
-// Whether a line tells so many workers, and this grain.
+// Whether a line gives this many workers, and this grain.
 fn tells_crew(alloc: Global, line: &str, workers: u32, grain: u32) -> Result<bool, AllocError> {
     let words = words_of(alloc, line)?;
     let Ok(told) = options(alloc, &words) else {
@@ -32,7 +32,7 @@ fn tells_crew(alloc: Global, line: &str, workers: u32, grain: u32) -> Result<boo
     Ok(told.crew == Crew { workers, grain })
 }
 
-// Whether words tell this file, if any, and whether it is made anew.
+// Whether words give this file, if any, and whether it is made anew.
 fn tell_file(
     alloc: Global,
     words: &[String],
@@ -56,7 +56,7 @@ fn tells_file(
     tell_file(alloc, &words, path, create)
 }
 
-// How a line ends: 1 if it tells settings, 2 if it is refused, 0 if it asks for help.
+// How a line ends: 1 if it gives settings, 2 if it is refused, 0 if it asks for help.
 fn end_of(alloc: Global, line: &str) -> Result<i32, AllocError> {
     let words = words_of(alloc, line)?;
     match options(alloc, &words) {

@@ -159,7 +159,7 @@ fn a_store_in_a_file_is_upgraded(rt: HostRuntime) -> Result<(), Fail> {
     Ok(())
 }
 
-// Asserts that a crew is refused, before settings that are and before this disk, and behind a bad line.
+// Asserts that a crew is refused, before settings that are and before this disk, and after a bad line.
 fn check_refused_crew<R: AllocGlobal + Abort + Threads + Sync + Files>(
     rt: &R,
     crew: &str,
@@ -362,7 +362,7 @@ enum Call {
     Sync,
 }
 
-// The files of a system, of which those calls of this kind fail that have a number from one up to another, counted from 0.
+// The files of a system, where the calls of this kind fail whose numbers are from one up to another, counted from 0.
 #[derive(Drop)]
 pub(super) struct Faults {
     system: HostRuntime,
@@ -385,7 +385,7 @@ impl Faults {
         }
     }
 
-    // Those of which none fails.
+    // Those where none fails.
     pub(super) fn none(system: HostRuntime) -> Faults {
         Faults::of(system, Call::None, 0, 0, ErrorKind::Other)
     }
@@ -670,7 +670,7 @@ fn calls_of_a_file_fail(rt: HostRuntime) -> Result<(), Fail> {
     Ok(())
 }
 
-// How many syncs a session makes of its file, each of which ends it where it fails.
+// How many syncs a session makes of its file; one that fails ends it.
 fn syncs<R: AllocGlobal + Threads + Sync>(
     rt: &R,
     system: HostRuntime,

@@ -4,7 +4,7 @@ use Rattle.std.specs.Map.{keys_of}
 use Rattle.consolidate.specs.PutBack.{put_back}
 use Rattle.consolidate.proofs.put_back.Given as goal
 
--- the cells behind the place are back, and the first ones are still in the base
+-- the cells from the place on are back, and the first ones are still in the base
 abbrev pub invariant-loop-left : goal.invariant-loop-left
 invariant-loop-left g l = record {
   within : l.left ≤ length l.fn.base;

@@ -35,7 +35,7 @@ impl<D: Disk> Store<D> {
     ///
     /// A store that has failed is `Fault::Failed`, and then a crew out of range `Fault::BadCrew`. A log in one segment is
     /// `Fault::NothingToClean`; the disk isn't called then. Else the log is read: the fault at its least position is `Fault::BadSegment`
-    /// or `Fault::BadFrame`; then the first page of which it says what fits no page is `Fault::BadStructure`, of rule 1. Then there are
+    /// or `Fault::BadFrame`; then the first page whose frames fit no page is `Fault::BadStructure`, of rule 1. Then there are
     /// `Fault::Spent`, where a position or the number would be above 2^62, and `Fault::Full`, where what is to be written needs more
     /// segments than there are. Besides, where the log isn't in one segment, there are `Fault::NoMemory`, and `Fault::Device` where a
     /// call of the disk failed. After `Device` the store has failed, and the disk stands for the same pages still; after any other

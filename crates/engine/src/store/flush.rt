@@ -42,7 +42,7 @@ fn version_with(text: Text) -> Version
     }
 }
 
-// Plans the commit of a text of a tree, which has something to write, behind the log of its store. It looks at no disk.
+// Plans the commit of a text of a tree, which has something to write, at the end of its store's log. It reads no disk.
 pub(super) fn plan(
     rt: &(impl Threads + Sync),
     crew: Crew,

@@ -67,7 +67,7 @@ impl<D: Disk> Store<D> {
         self.log.head
     }
 
-    /// The position where the log ends, in bytes, by which byte `offset` of segment n has the position `n * seg_size + offset`. It only
+    /// The position where the log ends, in bytes: byte `offset` of segment n has the position `n * seg_size + offset`. It only
     /// grows: by what a flush, an upgrade or a clean writes, with what it leaves of a segment.
     pub fn tail(&self) -> u64
         ensures { result ≡ self.now.store.tail }

@@ -28,7 +28,7 @@ impl<D: Disk> Store<D> {
         gate: &impl Gate,
         step: Step<'_>,
     ) -> Result<Answer, Fault>
-        // As it should, of bytes that a read gave, whatever the disk does.
+        // On any disk, the step is the defined one on the bytes that reads returned.
         ensures ok { IfOk result (λ answer. (bytes : Bytes) × IsStepDone (D.view self.old.disk).is_honest
             self.old.settings self.old.store (D.view self.old.disk).seen (step_of step.entry) answer self.new.store bytes) }
         ensures rest { (self.new.settings ≡ self.old.settings) × Kept (D.view self.old.disk) (D.view self.new.disk) }
@@ -67,10 +67,10 @@ impl<D: Disk> Store<D> {
         }
     }
 
-    /// Does the steps one after the other, up to the first that is refused, and returns the answer to each at its place. Where
-    /// one is refused, its place is told, with the answers to those before it and the fault, which are those that `batch`, `flush`,
-    /// `clean` and `upgrade` give; then the store is as those before it left it, but that it has failed after `Fault::Device`. Where there is
-    /// no memory for the list of answers, that is place 0 with `Fault::NoMemory`. No steps are always done, whatever the crew.
+    /// Does the steps one after the other, up to the first that is refused, and returns the answer to each at its place. Where one is
+    /// refused, the error is its place, with the answers to those before it and the fault, which are those that `batch`, `flush`, `clean`
+    /// and `upgrade` give; then the store is as those before it left it, but that it has failed after `Fault::Device`. Where there is no
+    /// memory for the list of answers, that is place 0 with `Fault::NoMemory`. No steps are always done, whatever the crew.
     pub fn play(
         &mut self,
         rt: &(impl Threads + Sync),

@@ -17,7 +17,7 @@ use recovery::recover;
 use std::alloc::Global;
 use std::thread::Threads;
 
-// Makes all that was written to the disk last.
+// Syncs the disk.
 fn settle<D: Disk>(disk: &mut D) -> Result<(), DiskFault>
     ensures kept { Kept (D.view disk.old) (D.view disk.new) }
     ensures failed { CountsFailure result (D.failed disk.old) (D.failed disk.new) }
@@ -82,8 +82,8 @@ impl<D: Disk> Store<D> {
         }
     }
 
-    /// Opens the store of a disk that another program may have left between its write and its sync: makes all that was written to the
-    /// disk last, and then does as `Store::recover`, so that all that is promised of crashes holds from here on. It writes nothing.
+    /// Opens the store of a disk that another program may have left between its write and its sync: syncs the disk, and then does as
+    /// `Store::recover`, so that all that is promised of crashes holds from here on. It writes nothing.
     ///
     /// A crew out of range is `Fault::BadCrew`, and where a call of the disk failed there is `Fault::Device`; else as `Store::recover`.
     /// After an `Err` the disk is handed back, with what a read gives as it was.

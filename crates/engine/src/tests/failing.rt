@@ -1,4 +1,4 @@
-//! Disks of which a call fails.
+//! Disks on which a call fails.
 pub(crate) mod cleans;
 pub(crate) mod examples;
 pub(crate) mod faults;

@@ -4,7 +4,7 @@ use Rattle.bwsh.specs.Line.{line_says}
 use Rattle.bwsh.specs.BatchFile.{text_says, first_bad, orders_of}
 use Rattle.bwsh.proofs.batch_file.parse.Given as goal
 
--- the orders so far, and those of the lines that are left behind the pending commands, are those of the text; where one is pending its line
+-- the orders so far, and those of the lines that are left after the pending commands, are those of the text; where one is pending its line
 -- says it
 abbrev pub invariant-loop-bytes : goal.invariant-loop-bytes
 invariant-loop-bytes l = record {

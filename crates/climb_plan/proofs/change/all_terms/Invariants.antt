@@ -3,7 +3,7 @@ use Rattle.std.specs.Prelude.{vec_capacity}
 use Rattle.climb_plan.specs.Rewriting.{terms_by_parent, CanBeTold}
 use Rattle.climb_plan.proofs.change.all_terms.Given as goal
 
--- the runs so far, and those of the parents behind the place, are all of them; and there is room for the rest
+-- the runs so far, and those of the parents from the place on, are all of them; and there is room for the rest
 abbrev pub invariant-loop-parent : goal.invariant-loop-parent
 invariant-loop-parent l = record {
   can : CanBeTold (drop l.parent-index l.parents) (map (λ names. names.items) l.freed.items) l.rest;

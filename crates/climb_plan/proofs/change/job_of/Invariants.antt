@@ -4,7 +4,7 @@ use Rattle.split_plan.specs.Pieces.{pages_lent}
 use Rattle.climb_plan.specs.Rewriting.{all_seen}
 use Rattle.climb_plan.proofs.change.job_of.Given as goal
 
--- the pages so far, and those behind the place, are all of them; and there is room for the rest
+-- the pages so far, and those from the place on, are all of them; and there is room for the rest
 abbrev pub invariant-loop-member : goal.invariant-loop-member
 invariant-loop-member l = record {
   made : pages_lent l.members.items ++ map (λ x. x.page) (all_seen (drop l.member-index l.group)) ≡ map (λ x. x.page) (all_seen l.group);

@@ -4,7 +4,7 @@ use Rattle.split_plan.specs.Pieces.{pages_lent}
 use Rattle.climb_plan.specs.Rewriting.{all_seen}
 use Rattle.climb_plan.proofs.change.jobs_of.Given as goal
 
--- the jobs so far, and those of the groups behind the place, are all of them; and there is room for the rest
+-- the jobs so far, and those of the groups from the place on, are all of them; and there is room for the rest
 abbrev pub invariant-loop-group : goal.invariant-loop-group
 invariant-loop-group l = record {
   made : map (λ job. pages_lent job.members.items) l.jobs.items ++ map (λ g. map (λ x. x.page) (all_seen g.items)) (drop l.group-index l.groups) ≡ map (λ g. map (λ x. x.page) (all_seen g.items)) l.groups;

@@ -285,7 +285,7 @@ static ROWS: [Row; 27] = [
             6 low=g log=No index runs=1: g=2 n=4\n\
             7 low= log=No index runs=0: =5 g=6\n",
     },
-    // Of six leaves five are thin and join the first. Their entries make two, of which the second begins where a freed leaf began.
+    // Of six leaves five are thin and join the first. Their entries make two, and the second begins where a freed leaf began.
     Row {
         name: "five thin leaves",
         settings: T,
@@ -357,7 +357,7 @@ static ROWS: [Row; 27] = [
         outcome: "N; 3 ValueTooLong 1; 2 KeyTooLong 1; s; root 0, height 1\n\
             0 low= log=Upto0 leaf runs=1: a=sixteen_bytes_ok\n",
     },
-    // A scan's bounds are keys, of which the lower one comes first.
+    // A scan's bounds are keys, and the lower one comes first.
     Row {
         name: "long bounds",
         settings: S,
@@ -383,7 +383,7 @@ static ROWS: [Row; 27] = [
         outcome: "2 KeyTooLong 0; 2 KeyTooLong 1; W0; 2 KeyTooLong 1; 3 ValueTooLong 0; root 0, height 1\n\
             0 low= log=Upto0 leaf runs=0:\n",
     },
-    // Keys of 22 to 25 bytes, of which those of up to 23 stand in place; runs of three changes, of one and of two.
+    // Keys of 22 to 25 bytes; those of up to 23 stand in place; runs of three changes, of one and of two.
     Row {
         name: "keys in place and in memory of their own",
         settings: U,
@@ -436,7 +436,7 @@ fn the_rows_come_out(rt: HostRuntime) {
     }
 }
 
-// Also where a batch is refused for want of memory, in a round of one worker or of two, a second time it is answered so. To be run
+// Also where a batch is refused for lack of memory, in a round of one worker or of two, a second time it is answered so. To be run
 // with each allocation refused in turn too (`bench/README.md`). Then at most one row has no outcome.
 #[test]
 fn a_refused_batch_can_be_tried_again(rt: HostRuntime) {

@@ -164,8 +164,8 @@ fn a_late_base_is_as_one_that_was_made(rt: HostRuntime) {
     }
 }
 
-// Also where a step is refused for want of memory: it is answered a second time, and nothing is lost. To be run with each allocation refused in turn
-// too (`bench/README.md`). Then at most one of the four doesn't come to its end.
+// Also where a step is refused for lack of memory: it is answered a second time, and nothing is lost. To be run with each allocation
+// refused in turn too (`bench/README.md`). Then at most one of the four doesn't come to its end.
 #[test]
 fn a_late_base_outlives_refused_memory(rt: HostRuntime) {
     outcomes_of(&rt, ALONE, rt.alloc(), Tries::Twice).check_refused(&rt, ALONE, 4);

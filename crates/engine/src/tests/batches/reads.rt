@@ -18,7 +18,7 @@ pub(crate) const BATCHES: [&str; 3] = [
     "fa=3 -g",
 ];
 
-// The keys that stand first, last and at the edges of pages, of which some were put again.
+// The keys that stand first, last and at the edges of pages, some of them put again.
 static PRESENT: [(&str, &str); 11] = [
     ("a", "1"),
     ("aa", "2"),

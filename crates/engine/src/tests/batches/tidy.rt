@@ -12,7 +12,7 @@ use std::alloc::{AllocError, Global};
 use std::test::Fail;
 use std::thread::Threads;
 
-// Pages of which one with three entries is thin, an index page too.
+// Under these settings a page with three entries is thin, an index page too.
 const QUEUE: Settings = Settings {
     fan: 16,
     seg_size: 1_024,

@@ -180,7 +180,7 @@ fn store_after_two_stops(
 }
 
 // Steps that are stopped at a call, and what may come back then where the disk wasn't settled first. A flush that has nothing to write makes no
-// call, so it makes nothing last that an earlier process left.
+// call, so it syncs nothing that an earlier process left.
 static UNSETTLED: [(&[&str], u64, &str); 4] = [
     (&["c=3", "flush"], 1, "13 NoSlot"),
     (&["c=3", "flush"], 2, "13 NoSlot"),

@@ -96,20 +96,20 @@ static ROWS: [Row; 8] = [
         changes: &[(783, 2), (784, 0), (767, 1)],
         fault: "15 BadFrame 0 254",
     },
-    // The last run of page 0 is said to be of page 2, an index page.
+    // The last run of page 0 is given to page 2, an index page.
     Row {
         changes: &[(796, 2)],
         fault: "16 BadStructure 1 2",
     },
-    // A fault of the bytes goes before that.
+    // A fault of the bytes takes precedence.
     Row {
         changes: &[(796, 2), (767, 1)],
         fault: "15 BadFrame 0 254",
     },
 ];
 
-// A new store on a disk that shows these bytes for others once the flushes of log 16 are done, and of which the call of this number
-// fails; of number 0 none does.
+// A new store on a disk that shows these bytes for others once the flushes of log 16 are done, and whose call of this number fails;
+// with number 0 none does.
 fn damaged_store(
     alloc: Global,
     changes: &'static [(usize, u8)],
@@ -151,8 +151,8 @@ fn a_damaged_log_is_not_cleaned(rt: HostRuntime) -> Result<(), Fail> {
     Ok(())
 }
 
-// A clean reads a slot, two segments and a gate. A read that fails after a damaged segment goes before the damage, and the gate isn't
-// read where nothing is to be written.
+// A clean reads a slot, two segments and a gate. A read that fails after a damaged segment takes precedence over the damage, and the
+// gate isn't read where nothing is to be written.
 #[test]
 fn a_read_that_fails_goes_before_damage(rt: HostRuntime) -> Result<(), Fail> {
     for (call, wanted) in [(3, "9 Device; "), (4, "14 BadSegment 0; ")] {

@@ -1,4 +1,4 @@
-//! A clean of which a call of the disk fails, reads too, and one to which memory is refused.
+//! A clean in which a call of the disk fails, reads too, and one to which memory is refused.
 use crate::tests::cleans::rows::LONG_STORE;
 use crate::tests::harness::crews::ALONE;
 use crate::tests::harness::failing_disk::failing_store;
@@ -36,7 +36,7 @@ fn answer_of_failing(
     Ok(text)
 }
 
-// A slot, two segments and a gate are read; and then there are seven writes and syncs, of which the last but one opens the gate.
+// A slot, two segments and a gate are read; then there are seven writes and syncs, and the last but one opens the gate.
 #[test]
 fn a_store_has_failed_where_a_call_of_its_clean_fails(rt: HostRuntime) -> Result<(), Fail> {
     let last = CALLS_BEFORE + 11;

@@ -1,4 +1,5 @@
-//! Flushes, cleans and an upgrade of which a write or a sync fails, once or from there on: what is answered then, and which store the disk holds.
+//! Flushes, cleans and an upgrade in which a write or a sync fails, once or from there on: what is answered then, and which store the disk
+//! holds.
 use crate::store::Store;
 use crate::tests::cleans::rows::LONG_STORE;
 use crate::tests::failing::cleans::BEFORE_CLEAN;
@@ -134,7 +135,7 @@ pub(crate) static FAULT_ROWS: [FaultRow; 6] = [
     },
 ];
 
-// A store of these bytes, on a disk of which calls fail.
+// A store of these bytes, on a disk on which calls fail.
 fn store_of(
     rt: &(impl Threads + Sync),
     alloc: Global,
@@ -173,7 +174,7 @@ fn answer_of_failing(
     Ok(text)
 }
 
-// Looks at a call that fails, once and from there on, and has written so many bytes, where it writes. Up to the write that opens the
+// Looks at a call that fails, once and from there on, and has written `written` bytes, where it writes. Up to the write that opens the
 // gate the disk holds the store of before, and from then on the other one.
 fn look_where_a_call_fails(
     rt: &(impl Abort + Threads + Sync),

@@ -150,7 +150,7 @@ static FAILING_ROWS: [FailingRow; 3] = [
     },
 ];
 
-// Steps of which each is refused once a store has failed, whatever else is wrong with it, and those after it are not begun.
+// Steps that are each refused once a store has failed, whatever else is wrong with it, and those after it are not begun.
 const REFUSED_STEPS: [&[&str]; 5] = [
     &[FIVE_PUTS, "flush"],
     &["a", "flush"],
@@ -279,7 +279,7 @@ fn a_play_stops_where_a_step_is_refused(rt: HostRuntime) -> Result<(), Fail> {
 }
 
 // Whether this is left by a flush or an upgrade of b, after a flush of a, that was answered like this, and leaves this store where it is done:
-// after want of memory each byte is as it was, and where the disk's record found no memory there is the one store or the other.
+// after lack of memory each byte is as it was, and where the disk's record found no memory there is the one store or the other.
 fn is_after_write(written: Result<u64, Fault>, is_same: bool, left: &str, after: &str) -> bool {
     match written {
         Ok(sequence) => sequence == 3 && left == after,

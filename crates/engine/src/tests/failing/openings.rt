@@ -1,4 +1,5 @@
-//! A store that is opened on a disk of which a call fails: the fault is answered, the disk is handed back as it was, and the next opening succeeds.
+//! A store that is opened on a disk on which a call fails: the fault is answered, the disk is handed back as it was, and the next opening
+//! succeeds.
 use crate::store::Store;
 use crate::tests::harness::crews::ALONE;
 use crate::tests::harness::failing_disk::{FailingDisk, failing_store};

@@ -1,4 +1,4 @@
-//! A disk of which a call fails.
+//! A disk on which a call fails.
 ghost use Rattle.std.specs.Prelude.{◌≡◌, false, length, ⊤};
 ghost use Rattle.flush_log.specs.Disk.{CountsFailure};
 
@@ -9,7 +9,7 @@ use flush_log::{Disk, DiskFault};
 use keys::Fault;
 use std::alloc::{AllocError, Global};
 
-// A disk that keeps a list of its calls, of which the one with this number, counted from 1, fails and does nothing. Once it has had as many
+// A disk that keeps a list of its calls; the one with this number, counted from 1, fails and does nothing. Once it has had as many
 // as `damaged_after` says, its reads give zeros, and count no more.
 #[derive(Drop)]
 pub(crate) struct FailingDisk {

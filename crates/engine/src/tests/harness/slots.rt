@@ -2,7 +2,7 @@
 use crate::tests::harness::frames::EMPTY_LEAF;
 use crate::tests::harness::stores::is_old;
 
-// What a slot says. Sequence number 0 stands for a slot of zeros.
+// The fields of a slot. Sequence number 0 stands for a slot of zeros.
 #[derive(Clone, Copy)]
 pub(crate) struct SlotRow {
     pub(crate) sequence: u64,

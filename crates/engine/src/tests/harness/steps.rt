@@ -66,7 +66,7 @@ fn write_number(
     }
 }
 
-// Does the step that the word says, and appends what it answers: `flush`, `clean`, `upgrade`, a flush that cleans, the bytes that are
+// Does the step of this word, and appends what it answers: `flush`, `clean`, `upgrade`, a flush that cleans, the bytes that are
 // pending, the numbers of the log, or else the batch. Returns why it is refused.
 fn write_step<D: Disk>(
     rt: &(impl Threads + Sync),
@@ -118,7 +118,7 @@ fn write_tried<D: Disk>(
     Ok(refused)
 }
 
-// What the store answers to the steps that the words say, one after the other, up to one that is refused: of that its place and the
+// What the store answers to the steps of these words, one after the other, up to one that is refused: of that its place and the
 // fault. There is no answer where a step finds no memory, as often as it is begun.
 pub(crate) fn play_tried<D: Disk>(
     rt: &(impl Threads + Sync),

@@ -41,7 +41,7 @@ pub(crate) const LONG_AND_Z: [&str; 11] = [
 
 pub(crate) const NINE_BYTES: &str = "a=123456789 b=123456789 c=123456789";
 
-// The upper bound that the word says: the star is none.
+// The upper bound of this word: the star is none.
 fn bound(alloc: Global, word: &str) -> Result<Option<Key<Global>>, AllocError> {
     if word == "*" {
         return Ok(None);
@@ -85,7 +85,7 @@ fn command(alloc: Global, word: &str) -> Result<Command<Global>, AllocError> {
     }
 }
 
-// The commands of a batch, of which there are none in an empty word.
+// The commands of a batch; an empty word has none.
 pub(crate) fn commands(alloc: Global, batch: &str) -> Result<Vec<Command<Global>>, AllocError> {
     let mut commands = Vec::new(alloc);
     if batch.is_empty() {

@@ -186,8 +186,8 @@ fn a_refused_copy_hands_the_disk_back(rt: HostRuntime) -> Result<(), Fail> {
     Ok(())
 }
 
-// Of the keys the third one is too long, and so is the value of the third; and seventeen pairs of sixteen bytes each have no room in a log of
-// three segments, of which a flush leaves one free.
+// Of the keys the third one is too long, and so is the value of the third; and seventeen pairs of sixteen bytes each have no room in a log
+// of three segments, where a flush leaves one free.
 #[test]
 fn a_copy_that_does_not_fit_leaves_an_empty_store(rt: HostRuntime) -> Result<(), Fail> {
     let alloc = rt.alloc();

@@ -1,5 +1,4 @@
-//! Frames as bytes: the frames of the worked examples are read as what they say and written again as they stand, and bytes
-//! that are no frame are refused.
+//! Frames as bytes: the frames of the worked examples are decoded and encoded again, and bytes that are no frame are refused.
 ghost use Rattle.std.specs.Prelude.{◌≡◌, None};
 ghost use Rattle.keys.specs.Limits.{first_bad_field};
 
@@ -71,7 +70,7 @@ fn with_low(alloc: Global, low: &[u8], entries: &[u8]) -> Result<Vec<u8>, AllocE
     Ok(text)
 }
 
-// What a frame says, as its low key, a colon and its entries; and its page id.
+// A frame as text: its low key, a colon and its entries; and its page id.
 fn said(alloc: Global, frame: &Frame) -> Result<(Vec<u8>, u64), AllocError> {
     match frame {
         Frame::FullLeaf { pid, low, base, .. } => {
@@ -91,7 +90,7 @@ fn said(alloc: Global, frame: &Frame) -> Result<(Vec<u8>, u64), AllocError> {
     }
 }
 
-// Whether the bytes are read, in a log of this format, as a frame that says this, and has all of them.
+// Whether the bytes decode, in a log of this format, to a frame that prints so, and has all of them.
 fn is_read(
     alloc: Global,
     format: &Format,
@@ -215,7 +214,7 @@ fn bytes_that_are_no_frame_are_refused(rt: HostRuntime) -> Result<(), Fail> {
         b"\x06\0\0\0\x18\0\0\0\0\0\0\0\x01\0\x01c\0\x02\x01\0\0\x013\x02\x01d\0\x014",
         b"\x06\0\0\0\x19\0\0\0\0\0\0\0\x01\0\x01c\0\x02\x01\0\0\x013\0\x02cd\0\x014",
         b"\x06\0\0\0\x17\0\0\0\0\0\0\0\x01\0\x01c\0\x02\x01\0\0\x013\x01\0\0\x014",
-        // A second key that is before the first one, and one of 17 bytes, of which it shares 16.
+        // A second key that is before the first one, and one of 17 bytes that shares 16 of them.
         b"\x06\0\0\0\x18\0\0\0\0\0\0\0\x01\0\x01c\0\x02\x01\0\0\x013\0\x01b\0\x014",
         b"\x06\0\0\0\x27\0\0\0\0\0\0\0\x01\0\x10abcdefghijklmnop\0\x02\x10\0\0\x013\x10\x01q\0\x014",
         // A frame that is cut off.

@@ -173,7 +173,7 @@ fn numbers_are_those_of_the_log(rt: HostRuntime) {
     outcomes.check(&rt, ALONE, 11);
 }
 
-// Also where a step is refused for want of memory, a second time it is answered so. To be run with each allocation refused in turn too.
+// Also where a step is refused for lack of memory, a second time it is answered so. To be run with each allocation refused in turn too.
 // Then at most one row has no answer.
 #[test]
 fn pending_bytes_without_memory_can_be_asked_for_again(rt: HostRuntime) {

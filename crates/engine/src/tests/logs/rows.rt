@@ -474,7 +474,7 @@ fn the_rows_come_out(rt: HostRuntime) {
     }
 }
 
-// Also where a step is refused for want of memory, a second time it is answered so. To be run with each allocation refused in turn
+// Also where a step is refused for lack of memory, a second time it is answered so. To be run with each allocation refused in turn
 // too (`bench/README.md`). Then at most one row has no outcome.
 #[test]
 fn a_refused_step_can_be_tried_again(rt: HostRuntime) {

@@ -57,7 +57,7 @@ fn faults_print_number_name_and_what_they_carry(rt: HostRuntime) -> Result<(), F
     Ok(())
 }
 
-// Of a page whose one run says b.
+// Of a page whose one run names b.
 #[test]
 fn a_page_gives_its_entries(rt: HostRuntime) -> Result<(), Fail> {
     let alloc = rt.alloc();
@@ -131,7 +131,7 @@ fn page_of_runs(alloc: Global, count: u64) -> Result<Chain<Pid, Global>, PushErr
     Ok(chain)
 }
 
-// What the newest run that names the key says of it, of those that may name it; none where no run does.
+// The change of the newest run that names the key, of those that may name it; none where no run does.
 fn looked_up(chain: &Chain<Pid, Global>, key: &[u8]) -> Option<u64> {
     let mut rest = chain.lent_for(key);
     for _ in 0..chain.depth() {

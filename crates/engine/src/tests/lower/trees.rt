@@ -215,7 +215,7 @@ static ROWS: [Row; 16] = [
         height: u32::MAX,
         answer: "16 BadStructure 3 0",
     },
-    // Another low key than the parent's entry says.
+    // Another low key than the parent's entry has.
     Row {
         pages: &[
             PageRow {

@@ -14,7 +14,7 @@ use keys::Fault;
 use std::alloc::Global;
 use std::thread::Threads;
 
-// An example: its steps, of which the last is a flush or a clean, what an empty flush afterwards answers, and the store as it is shown.
+// An example: its steps, the last one a flush or a clean, what an empty flush afterwards answers, and the store as it is shown.
 pub(crate) struct BackRow {
     pub(crate) name: &'static str,
     pub(crate) steps: &'static [&'static str],
@@ -153,7 +153,7 @@ static ROWS: [BackRow; 12] = [
         flushed: "; flushed 3; ",
         store: UPGRADED_STORE,
     },
-    // Frames of both versions say what pages hold.
+    // Pages that are made of frames of both versions.
     BackRow {
         name: "log 15.1, and a flush more",
         steps: &[FIVE_PUTS, "flush", "upgrade", "a=9", "flush"],

@@ -3,7 +3,7 @@ use crew::{Event, Mark, Round};
 use std::alloc::{AllocError, Global};
 use std::test::Fail;
 
-// Whether the pieces are home with these marks, once these events have happened to so many workers.
+// Whether the pieces are home with these marks, once these events have happened to `workers` workers.
 fn are_home(
     pieces: &[Vec<char>],
     alloc: Global,

@@ -18,7 +18,7 @@ pub(crate) struct Hold {
     pub(crate) entered: [u64; 5],
 }
 
-// Such a gate, and a work whose jobs are numbers, in pieces of `grain`, of which it makes themselves.
+// Such a gate, and a work whose jobs are numbers, in pieces of `grain`, and which makes of each the number itself.
 #[derive(Drop)]
 pub(crate) struct Holding {
     hold: Hold,
@@ -134,7 +134,7 @@ impl Work for Holding {
     }
 }
 
-// A round of so many jobs.
+// A round of `jobs` jobs.
 struct RoundRow {
     name: &'static str,
     crew: Crew,

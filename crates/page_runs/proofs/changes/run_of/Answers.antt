@@ -4,7 +4,7 @@ use Rattle.keys.specs.Order.{IsRising}
 use Rattle.delta_chain.proofs.Rising.{goes_last-rising}
 use Rattle.page_runs.proofs.changes.run_of.Goals as goal
 
--- The changes rise, so the next one goes behind those in the run.
+-- The changes rise, so the next one goes after those in the run.
 pub push_next-requires : goal.push_next-requires
 push_next-requires c =
     let run : List (List ℕ × Option (List ℕ)) = c.loop-key.run in

@@ -5,14 +5,14 @@ use Rattle.page_search.proofs.DigitLemmas.{binary_digits-zero, binary_digits-hal
 use Rattle.page_search.proofs.PlaceLemmas.{below-through, above-onward}
 use Rattle.page_search.proofs.search.place.Goals as goal
 
--- what is left behind the middle, and what is left before it, has a digit less
+-- what is left after the middle, and what is left before it, has a digit less
 digits_behind : (low high : ℕ) → low < high → binary_digits (high - (low + (high - low) / 2 + 1)) + 1 ≤ binary_digits (high - low)
 digits_behind low high l = binary_digits-half (high - (low + (high - low) / 2 + 1)) (high - low) (omega arith) (omega arith)
 
 digits_before : (low high : ℕ) → low < high → binary_digits (low + (high - low) / 2 - low) + 1 ≤ binary_digits (high - low)
 digits_before low high l = binary_digits-half (low + (high - low) / 2 - low) (high - low) (omega arith) (omega arith)
 
--- the places where the key would go, behind the middle and before it, have a digit less and no fewer
+-- the places where the key would go, after the middle and before it, have a digit less and no fewer
 gaps_behind : (low high : ℕ) → low < high → binary_digits ((high - low + 1) / 2) ≤ binary_digits ((high - (low + (high - low) / 2 + 1) + 1) / 2) + 1
 gaps_behind low high l = binary_digits-twice ((high - (low + (high - low) / 2 + 1) + 1) / 2) ((high - low + 1) / 2) (omega arith)
 

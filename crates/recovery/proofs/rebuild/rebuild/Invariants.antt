@@ -3,7 +3,7 @@ use Rattle.recovery.specs.Rebuild.{page_of_parts}
 use Rattle.recovery.proofs.RebuildLemmas.{IsToldUpto}
 use Rattle.recovery.proofs.rebuild.rebuild.Given as goal
 
--- the frames in front of the bytes that are left tell the page so far
+-- the frames in front of the bytes that are left make the page so far
 abbrev pub invariant-loop-rest : goal.invariant-loop-rest
 invariant-loop-rest l = IsToldUpto l.format l.frames (page_of_parts l.page) l.rest
 
