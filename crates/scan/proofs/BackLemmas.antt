@@ -144,7 +144,7 @@ module _ {V : Type 0} where
   parted_by false hi e es n ih =
       ap (λ (x : List (List ℕ × V)). e ∷ x) (ih ∙ ap (λ (x : List (List ℕ × V)). x ++ Rest hi es) (n refl)) ∙ sym (ap (λ (x : List (List ℕ × V)). x ++ e ∷ Rest hi es) (n refl))
 
-  -- rising pairs are those before an end, and behind them the others
+  -- rising pairs are those before an end, and after them the others
   pub parted : (hi : Option (List ℕ)) (es : List (List ℕ × V)) → IsRising es → es ≡ before hi es ++ Rest hi es
   unfolding IsStrictlySortedBy
   parted hi [] r = refl
@@ -160,7 +160,7 @@ module _ {V : Type 0} where
   take_by true hi n e es z ih = let one : 1 + n ≡ suc n = omega arith in ap (λ (i : ℕ). take i (e ∷ es)) one ∙ ap (λ (x : List (List ℕ × V)). e ∷ x) ih
   take_by false hi n e es z ih = ap (λ (i : ℕ). take (0 + i) (e ∷ es)) (z refl).0 ∙ sym (z refl).1
 
-  -- the first so many are those
+  -- the first of that number are those
   pub take-count_before : (hi : Option (List ℕ)) (es : List (List ℕ × V)) → IsRising es → take (count_before hi (keys_of es)) es ≡ before hi es
   unfolding IsStrictlySortedBy
   take-count_before hi [] r = refl
@@ -182,7 +182,7 @@ module _ {V : Type 0} where
       ap (λ (a : List ℕ). pair a v ∷ []) s ∙ ap (λ (b : V). pair e.0 b ∷ []) t
   one_more (e ∷ es) (suc at) k v h i = ap (λ (x : List (List ℕ × V)). e ∷ x) (one_more es at k v h i)
 
-  -- the last of so many first pairs, with those before it
+  -- the last of the first pairs, with those before it
   pub last_place : (es : List (List ℕ × V)) (count at : ℕ) (k : List ℕ) (v : V) → slice_get (keys_of es) at ≡ Some k → slice_get (values_of es) at ≡ Some v → at + 1 ≡ min count (length es) → take at es ++ (k, v) ∷ [] ≡ take count es
   last_place es count at k v h i e =
       let next : suc at ≡ min count (length es) = omega (arith, e) in
@@ -200,7 +200,7 @@ module _ {V : Type 0} where
   one_more_value (e ∷ es) zero v h = let s : v ≡ e.1 = cc in ap (λ (b : V). b ∷ []) s
   one_more_value (e ∷ es) (suc at) v h = ap (λ (x : List V). e.1 ∷ x) (one_more_value es at v h)
 
-  -- the last value of so many first pairs
+  -- the last value of the first pairs
   pub last_value : (es : List (List ℕ × V)) (count at : ℕ) (v : V) → slice_get (values_of es) at ≡ Some v → at + 1 ≡ min count (length es) → values_of (take count es) ≡ values_of (take at es) ++ v ∷ []
   last_value es count at v h e =
       let next : suc at ≡ min count (length es) = omega (arith, e) in
@@ -218,7 +218,7 @@ children_by false hi n e es z ih =
     let none : n ≡ 0 = (z refl).0 in
     ap (λ (i : ℕ). take (max (0 + i) 1) (e ∷ es)) none ∙ ap (λ (x : List (List ℕ × ℕ)). e ∷ x) (none_taken es ∙ sym (z refl).1)
 
--- the children that may have keys before an end are so many, and one at least
+-- how many children may have keys before an end: one at least
 pub children_taken : (hi : Option (List ℕ)) (es : List (List ℕ × ℕ)) (n : ℕ) → IsRising es → n ≡ count_before hi (keys_of es) → take (max n 1) es ≡ children_before hi es
 unfolding IsStrictlySortedBy
 children_taken hi [] n r h = of_nothing (max n 1)

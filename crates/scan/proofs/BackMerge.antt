@@ -268,7 +268,7 @@ module _ {V : Type 0} where
   rising-take (suc n) [] r = tt
   rising-take (suc n) (e ∷ es) r = (all_taken (λ j. order e.0 j ≡ Less) n es r.0, rising-take n es r.1)
 
-  -- the last of so many pairs beside a key
+  -- the last of the first pairs beside a key
   module _ (es : List (List ℕ × V)) (left count : ℕ) (j k : List ℕ) (rising : IsRising es) (c : count ≡ min left (length es)) (some : 0 < count) (h : slice_get (keys_of es) (count - 1) ≡ Some j) where
     item : (v : V) × (slice_get (values_of es) (count - 1) ≡ Some v)
     item = item_at es (count - 1) j h
@@ -306,7 +306,7 @@ pub said_before : {V X : Type 0} (f : X → List ℕ × Option V) (x : Option X)
 said_before f None runs later h = h
 said_before f (Some c) runs later h = h
 
--- where a pair stands above the last change, no change stands at the last pair or behind it
+-- where a pair stands above the last change, no change stands at the last pair or after it
 module _ {V : Type 0} (k : List ℕ) (cs : Changes V) (es : List (List ℕ × V)) where
   pub pairs_are_last : IsRising es → behind k cs ≡ [] → HasBehind k es → ArePairsLast cs es
   pairs_are_last r n b = record {

@@ -160,7 +160,7 @@ module _ (es : Pairs) (hi : Option (List ℕ)) (limit : ℕ) where
 
 -- ---- a step
 
--- one row, and those behind it
+-- one row, and those after it
 pub row_given_back : (limit : ℕ) (start : Option (List ℕ)) (k v w : List ℕ) (all es : Pairs) → 0 < limit → all ≡ es ++ (k, v) ∷ [] → w ≡ v → true ≡ is_from start k → rows_left_back limit start all ≡ (k, w) ∷ rows_left_back (limit - 1) start es
 row_given_back limit start k v w all es l h same b =
     row_given (Some limit) (Some (limit - 1)) (is_from start) k v w (reverse all) (reverse es) (goes_on_some (Some limit) limit refl l) (ap (λ (x : Pairs). reverse x) h ∙ reverse-last es (k, v)) same b

@@ -165,7 +165,7 @@ module _ (t : TreeInMemory) where
   abbrev Top : ℕ
   Top = pred t.height
 
-  -- children at this level are pushed, behind which the walk goes on
+  -- children at this level are pushed, and the walk goes on after them
   pushed_back : (path new : SmallVec (List ℕ)) (m : ℕ) (hi : Option (List ℕ)) (child : ℕ) (rest : List ℕ) → length path.items + suc m ≡ Top → IsWalk t path → new.items ≡ path.items ++ rest ∷ [] → new.capacity ≡ path.capacity
       → IsKnown Pages m child → AllByRecursion (IsKnown Pages m) rest → IsPushedBack t new hi child (leaf_pages Pages ((leaves_before Pages Top path.items ++ leaves_under Pages m rest) ++ leaves_back Pages m hi child))
   pushed_back path new m hi child rest h w i c k a =

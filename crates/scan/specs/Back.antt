@@ -14,7 +14,7 @@ use Rattle.scan.specs.Path.{entries_at, leaves_under, leaf_pages, pairs}
 
 -- ---- rows
 
--- the rows of a range from the greatest key down: the first so many
+-- the rows of a range from the greatest key down, at most as many as the limit
 abbrev pub rows_back : {V : Type 0} → Bytes → Option Bytes → ℕ → Pairs V → Pairs V
 rows_back lo hi limit m = take limit (reverse (in_range lo hi m))
 
@@ -23,11 +23,11 @@ abbrev pub is_from : Option Bytes → Bytes → Bool
 is_from None k = true
 is_from (Some start) k = not (is_below k start)
 
--- the pairs of leaves, and behind them what a leaf has left
+-- the pairs of leaves, and after them what a leaf has left
 abbrev pub pairs_before : List (Page Bytes) → Pairs Bytes → Pairs Bytes
 pairs_before leaves leaf = pairs leaves ++ leaf
 
--- of these from the last one down, to one that is below the start, the first so many
+-- of these from the last one down, to one that is below the start, at most as many as the limit
 abbrev pub rows_left_back : ℕ → Option Bytes → Pairs Bytes → Pairs Bytes
 rows_left_back limit start es = take limit (take_while (λ e. is_from start e.0) (reverse es))
 
@@ -58,7 +58,7 @@ abbrev pub changes_before : {V : Type 0} → Option (Bytes × Option V) → Chan
 changes_before None cs = []
 changes_before (Some c) cs = cs ++ c ∷ []
 
--- of what runs say together this is the last: they say it, and none says anything of a key above
+-- of the changes of runs this is the last: they have it, and none has a change of a key above
 pub record IsLastSaid {V : Type 0} (c : Bytes × Option V) (runs : List (Changes V)) : Type 0 where
   pub said : value_at c.0 (said_by runs) ≡ Some c.1
   pub none_above : AllByRecursion (λ run. behind c.0 run ≡ []) runs
@@ -69,7 +69,7 @@ pub record HasBehind {V : Type 0} (k : Bytes) (es : Pairs V) : Type 0 where
   pub ends : EndsWith last es
   pub above : is_below k last.0 ≡ true
 
--- no change stands at the last of the pairs or behind it, and without pairs there is none
+-- no change stands at the last of the pairs or after it, and without pairs there is none
 pub record ArePairsLast {V : Type 0} (cs : Changes V) (es : Pairs V) : Type 0 where
   pub none : es ≡ [] → cs ≡ []
   pub none_from : (e : Bytes × V) → EndsWith e es → from e.0 cs ≡ []

@@ -82,7 +82,7 @@ impl<'a> MergeBack<'a> {
         self.change = last_change(&mut self.runs);
     }
 
-    // The last change, unless a pair of the base stands behind it. A pair that has its key is passed.
+    // The last change, unless a pair of the base stands after it. A pair that has its key is passed.
     pub(crate) fn take_change(&mut self) -> Option<Change<'a>>
         ensures { MatchOption result ((self.new ≡ self.old) × ArePairsLast self.old.changes self.old.pairs)
             (λ c. (merged self.old ≡ merged self.new ++ pair_if c.0 (option_copied c.1)) × (length self.new.changes < length self.old.changes)) }
@@ -95,7 +95,7 @@ impl<'a> MergeBack<'a> {
         mem::replace(&mut self.change, last_change(&mut self.runs))
     }
 
-    // The base's last pair, behind which there is no change.
+    // The base's last pair, after which there is no change.
     pub(crate) fn take_pair(&mut self) -> Option<(&'a [u8], &'a Value<Global>)>
         requires { ArePairsLast self.old.changes self.old.pairs }
         ensures { MatchOption result ((merged self.old ≡ []) × (merged self.new ≡ [])) (λ p. merged self.old ≡ merged self.new ++ (p.0.now, p.1.now) ∷ []) }
@@ -121,7 +121,7 @@ pub(crate) fn last_pair<'a>(merge: &mut MergeBack<'a>) -> Option<(&'a [u8], &'a 
     }
 }
 
-// How many of the base's first pairs are below the key; none where the last of these stands behind the key.
+// How many of the base's first pairs are below the key; none where the last of these stands after the key.
 fn short_of(base: &Base<Value<Global>, Global>, count: usize, key: &KeyRef<'_>) -> Option<usize>
     ensures { MatchOption result (HasBehind key.now (take count base.now))
         (λ left. (behind key.now (take count base.now) ≡ []) × (take left base.now ≡ before (Some key.now) (take count base.now))) }
@@ -142,7 +142,7 @@ fn fill<'a>(runs: &mut RunsBack<'a>, chain: &'a Chain<Value<Global>, Global>, hi
     requires { depth_of chain.now ≤ 16 }
     ensures { runs.new.items ≡ map (before (option_copied hi.entry)) chain.now.runs }
 {
-    // The capacity is looked up for what it says: there is room for 16 in any case.
+    // The capacity is looked up for the proof: there is room for 16 in any case.
     let _room = runs.capacity();
     runs.clear();
     let mut rest = chain.lent();
