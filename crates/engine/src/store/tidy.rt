@@ -97,19 +97,19 @@ fn thin_leaves(
     Ok(thin)
 }
 
-// The page ids of those of the leaves that the stage has commands for.
-fn due_leaves(
+// The low keys of those of the leaves that the stage has commands for.
+fn due_lows<'a>(
     alloc: Global,
-    tree: &Tree<Global>,
+    tree: &'a Tree<Global>,
     settings: &Settings,
     thin: &[ThinLeaf],
     stage: Stage,
-) -> Result<Vec<u64>, AllocError> {
+) -> Result<Vec<&'a [u8]>, AllocError> {
     let chain = u64::from(settings.chain);
     let mut due = Vec::new(alloc);
     let mut joined = None;
     for leaf in thin {
-        let Some((_low, depth)) = thin_leaf(tree, leaf.pid, settings.fan) else {
+        let Some((low, depth)) = thin_leaf(tree, leaf.pid, settings.fan) else {
             continue;
         };
         let is_due = match stage {
@@ -121,7 +121,7 @@ fn due_leaves(
             Stage::JoinAll => depth >= chain,
         };
         if is_due {
-            due.push(leaf.pid)?;
+            due.push(low)?;
             joined = Some(leaf.parent);
         }
     }
@@ -177,8 +177,8 @@ fn push_neutral(
 }
 
 impl<D: Disk> Store<D> {
-    // Commands for those of these pages that are leaves with few pairs, which change nothing of what the store holds.
-    fn neutral_batch(&self, pids: &[u64]) -> Result<Vec<Command<Global>>, Fault>
+    // Commands for those of these leaves that the stage names, which change nothing of what the store holds.
+    fn neutral_batch(&self, thin: &[ThinLeaf], stage: Stage) -> Result<Vec<Command<Global>>, Fault>
         ensures neutral { IfOk result (λ commands.
             map_after_all (contents self.now.store.tree) commands.items
             ≡ contents self.now.store.tree) }
@@ -186,11 +186,10 @@ impl<D: Disk> Store<D> {
     {
         // Only for the proof.
         the_contents_of_a_proper_tree_rise();
+        let due = due_lows(self.alloc, &self.tree, &self.settings, thin, stage)?;
         let mut commands = Vec::new(self.alloc);
-        for pid in pids {
-            if let Some((low, _depth)) = thin_leaf(&self.tree, *pid, self.settings.fan) {
-                push_neutral(self.alloc, low, self.get(low), &mut commands)?;
-            }
+        for low in due {
+            push_neutral(self.alloc, low, self.get(low), &mut commands)?;
         }
         Ok(commands)
     }
@@ -210,8 +209,7 @@ impl<D: Disk> Store<D> {
             × (self.new.has_failed ≡ self.old.has_failed) }
         ensures refused { IfErr result (IsTidyFault self.old.settings) }
     {
-        let due = due_leaves(self.alloc, &self.tree, &self.settings, thin, stage)?;
-        let commands = self.neutral_batch(&due)?;
+        let commands = self.neutral_batch(thin, stage)?;
         if commands.is_empty() {
             return Ok(());
         }
