@@ -24,8 +24,8 @@ use Rattle.bwsh.specs.declared.session.Ending.{Ending}
 use Rattle.bwsh.specs.declared.session.Ending.TheVariants.{Words, Bad, Device}
 use Rattle.bwsh.specs.declared.session.Ending.TheVariants as endings
 use Rattle.bwsh.specs.BatchFile.{text_says, first_bad, orders_of}
-use Rattle.bwsh.specs.Session.{status_of_end, Reads, later, Start, IsStart, IsStartBy, IsShown, AreLeft, AreLeftFrom, new_start, found_start, refusal_of, behind, map_behind, own_lines, answer_lines, printed, printed_by, accepted, orders_end, first_refusal, stopped_by, end_after, lines_after, session_end, session_lines, IsReadEnding, IsUnopened, IsHonestStore, Opens, IsForWords, BeginsWith, Prints, PrintsOneText, Runs, RunsOn, RunsFrom, Answers, EndsBy}
-use Rattle.bwsh.specs.Options.{Told, AsksFor, AsksForHelp, AreRefused, is_refusal, IsRightKind, told_of}
+use Rattle.bwsh.specs.Session.{status_of_end, Reads, later, Start, IsStart, IsStartBy, IsShown, AreLeft, AreLeftFrom, new_start, found_start, refusal_of, behind, map_behind, own_lines, answer_lines, printed, printed_by, accepted, orders_end, first_refusal, stopped_by, end_after, lines_after, session_end, session_lines, version_text, IsReadEnding, IsUnopened, IsHonestStore, Opens, IsForWords, BeginsWith, Prints, PrintsOneText, Runs, RunsOn, RunsFrom, Answers, EndsBy}
+use Rattle.bwsh.specs.Options.{Told, AsksFor, AsksForText, AreRefused, is_refusal, IsRightKind, told_of}
 use Rattle.bwsh.specs.declared.options.asked.Options.{Options}
 use Rattle.clap.specs.declared.error.kind.ErrorKind.{ErrorKind}
 use Rattle.clap.specs.declared.error.kind.ErrorKind.TheVariants.{DisplayHelp, OutOfMemory}
@@ -316,18 +316,23 @@ module _ (told : Told) (known old new : Option (List ℕ)) where
 
 -- ---- what follows of any session
 
--- the words ask for help, or tell what all that the text orders is printed for
+-- the words ask for a text, or tell what all that the text orders is printed for
 abbrev IsAllDone : List (List ℕ) → Option (List ℕ) → Option (List ℕ) → Option (List ℕ) → Type 0
-IsAllDone words known old new = AsksForHelp words ⊎ ((told : Told) × AsksFor words told × IfSome known (IsDoneOn told old new))
+IsAllDone words known old new = AsksForText words ⊎ ((told : Told) × AsksFor words told × IfSome known (IsDoneOn told old new))
 
--- the words ask for help, or nothing is printed, or they tell what a beginning of all that the text orders is printed for
+-- the words ask for a text, or nothing is printed, or they tell what a beginning of all that the text orders is printed for
 abbrev HasBegun : List (List ℕ) → Option (List ℕ) → Option (List ℕ) → Option (List ℕ) → Type 0
 HasBegun words known old new =
-    AsksForHelp words ⊎ Appends old new [] ⊎ ((told : Told) × AsksFor words told × IfSome known (HasBegunOn told old new))
+    AsksForText words ⊎ Appends old new [] ⊎ ((told : Told) × AsksFor words told × IfSome known (HasBegunOn told old new))
 
 -- words that tell something are not refused
 not_refused : (words : List (List ℕ)) (told : Told) → AsksFor words told → AreRefused words → ⊥
 not_refused words told (given, tells, is) refused = cc
+
+-- nor are words that ask for a text
+text_not_refused : (words : List (List ℕ)) → AsksForText words → AreRefused words → ⊥
+text_not_refused words (inl helps) refused = cc
+text_not_refused words (inr (told, tells, is)) refused = not_refused words told tells refused
 
 pub status-one : (end : Result (Unit {0}) Ending) (status : ℕ) → status ≡ status_of_end end → (status ≡ 0) ⊎ (status ≡ 2) ⊎ (status ≡ 3) ⊎ (status ≡ 4)
 status-one (Ok done) status e = inl e
@@ -349,7 +354,7 @@ module _ (words : List (List ℕ)) (known old new : Option (List ℕ)) (unread u
   refused_end (Err (Bad line why)) p s = absurd (omega arith)
   refused_end (Err (endings.Fault fault)) p s = absurd (omega arith)
   refused_end (Err Device) p s = absurd (omega arith)
-  refused_end (Err (Words error)) (inl (told, tells, answers)) s = absurd (told_words told known old new error answers)
+  refused_end (Err (Words error)) (inl (told, tells, runs, answers)) s = absurd (told_words told known old new error answers)
   refused_end (Err (Words error)) (inr (inl (not_read, asks, printed_help))) s =
       let four = one_text old new (Words error) printed_help in absurd (omega arith)
   refused_end (Err (Words error)) (inr (inr (not_read, not_touched, inl (refused, for_words)))) s = refused
@@ -364,8 +369,8 @@ module _ (words : List (List ℕ)) (known old new : Option (List ℕ)) (unread u
 
   when_refused : (end : Result (Unit {0}) Ending) → EndsBy words known old new unread untouched end → AreRefused words
       → ((status_of_end end ≡ 2) ⊎ (status_of_end end ≡ 4)) × unread × untouched
-  when_refused end (inl (told, tells, answers)) refused = absurd (not_refused words told tells refused)
-  when_refused end (inr (inl (not_read, asks, printed_help))) refused = absurd (cc)
+  when_refused end (inl (told, tells, runs, answers)) refused = absurd (not_refused words told tells refused)
+  when_refused end (inr (inl (not_read, asks, printed_help))) refused = absurd (text_not_refused words asks refused)
   when_refused end (inr (inr (not_read, not_touched, inl (is_refused, for_words)))) refused = (inl (for_words_status end for_words), not_read, not_touched)
   when_refused end (inr (inr (not_read, not_touched, inr e))) refused = (inr (ap status_of_end e), not_read, not_touched)
 
@@ -383,7 +388,7 @@ module _ (words : List (List ℕ)) (known old new : Option (List ℕ)) (unread u
   done_end (Err (Bad line why)) s p = absurd (omega arith)
   done_end (Err (endings.Fault fault)) s p = absurd (omega arith)
   done_end (Err Device) s p = absurd (omega arith)
-  done_end (Ok done) s (inl (told, tells, answers)) = inr (told, tells, told_done told known old new done answers)
+  done_end (Ok done) s (inl (told, tells, runs, answers)) = inr (told, tells, told_done told known old new done answers)
   done_end (Ok done) s (inr (inl (not_read, asks, printed_help))) = inl asks
   done_end (Ok done) s (inr (inr (not_read, not_touched, inl (refused, for_words)))) = absurd for_words
   done_end (Ok done) s (inr (inr (not_read, not_touched, inr e))) = absurd (cc)
@@ -394,7 +399,7 @@ module _ (words : List (List ℕ)) (known old new : Option (List ℕ)) (unread u
   bad_end (Err (Words error)) s p = absurd (omega arith)
   bad_end (Err (endings.Fault fault)) s p = absurd (omega arith)
   bad_end (Err Device) s p = absurd (omega arith)
-  bad_end (Err (Bad line why)) s (inl (told, tells, answers)) = told_bad told known old new line why answers
+  bad_end (Err (Bad line why)) s (inl (told, tells, runs, answers)) = told_bad told known old new line why answers
   bad_end (Err (Bad line why)) s (inr (inl (not_read, asks, printed_help))) =
       let four = one_text old new (Bad line why) printed_help in absurd (omega arith)
   bad_end (Err (Bad line why)) s (inr (inr (not_read, not_touched, inl (refused, for_words)))) = absurd for_words
@@ -402,7 +407,7 @@ module _ (words : List (List ℕ)) (known old new : Option (List ℕ)) (unread u
 
   beginning_end : (end : Result (Unit {0}) Ending) → (untouched → Appends old new []) → EndsBy words known old new unread untouched end
       → HasBegun words known old new
-  beginning_end end kept (inl (told, tells, answers)) = inr (inr (told, tells, told_front told known old new end answers))
+  beginning_end end kept (inl (told, tells, runs, answers)) = inr (inr (told, tells, told_front told known old new end answers))
   beginning_end end kept (inr (inl (not_read, asks, printed_help))) = inl asks
   beginning_end end kept (inr (inr (not_read, not_touched, q))) = inr (inl (kept not_touched))
 
@@ -444,6 +449,15 @@ module _ (words : List (List ℕ)) (known old new : Option (List ℕ)) (unread u
       → (kind ≢ DisplayHelp → kind ≢ OutOfMemory → IsForWords end × untouched) → unread → EndsBy words known old new unread untouched end
   EndsBy-words (inl memory) helps starves refuses not_read =
       let (e, same) = starves memory in inr (inr (not_read, same, inr e))
-  EndsBy-words (inr (inl (help, asks))) helps starves refuses not_read = inr (inl (not_read, asks, helps help))
+  EndsBy-words (inr (inl (help, asks))) helps starves refuses not_read = inr (inl (not_read, inl asks, helps help))
   EndsBy-words (inr (inr (no_help_nor_memory, refused))) helps starves refuses not_read =
       let (for_words, same) = refuses (not_help kind no_help_nor_memory) (not_memory kind no_help_nor_memory) in inr (inr (not_read, same, inl (refused, for_words)))
+
+-- words that tell something: the version is printed, or the batch file is run
+pub EndsBy-told : (words : List (List ℕ)) (known old new : Option (List ℕ)) (unread untouched : Type 0) (end : Result (Unit {0}) Ending) (told : Told) → AsksFor words told
+    → (told.ways.version ≡ true → unread × Prints old new (version_text ∷ []) (Ok tt) end) → (told.ways.version ≡ false → Answers told known old new end)
+    → EndsBy words known old new unread untouched end
+EndsBy-told words known old new unread untouched end told tells shows runs = by told.ways.version refl where
+  by : (b : Bool) → told.ways.version ≡ b → EndsBy words known old new unread untouched end
+  by true is = let (not_read, printed) = shows is in inr (inl (not_read, inr (told, tells, is), (version_text, printed)))
+  by false is = inl (told, tells, is, runs is)

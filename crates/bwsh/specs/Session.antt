@@ -33,7 +33,7 @@ use Rattle.bwsh.specs.declared.session.Ending.TheVariants.{Words, Bad, Device}
 use Rattle.bwsh.specs.declared.session.Ending.TheVariants as endings
 use Rattle.bwsh.specs.BatchFile.{text_says, first_bad, orders_of}
 use Rattle.bwsh.specs.Line.{why_text}
-use Rattle.bwsh.specs.Options.{Text, Told, AsksFor, AsksForHelp, AreRefused}
+use Rattle.bwsh.specs.Options.{Text, Told, AsksFor, AsksForText, AreRefused}
 use Rattle.bwsh.specs.Shown.{shown_reply, shown_flushed, shown_cleaned, shown_upgraded, shown_report}
 
 -- the exit status of a session that ends before all is done
@@ -63,6 +63,10 @@ told_text (Err early) = ending_text early
 -- what is told of words that cannot be read, with its line feed
 abbrev pub unread_text : Bytes
 unread_text = codes "error: a word of the command line is no text" ++ 10 ∷ []
+
+-- what is printed for the version, with its line feed
+abbrev pub version_text : Bytes
+version_text = codes "bwsh 0.1.0" ++ 10 ∷ []
 
 -- the ending of a session whose text is not read
 abbrev pub ending_by : TextFault → Ending
@@ -338,11 +342,11 @@ IsForWords (Err (Words error)) = Unit {0}
 IsForWords (Err _) = ⊥
 
 -- how a session with these words ends and what it prints, but for memory and devices: as it should for what they tell; or
--- with nothing read, and help where they ask for it; or with nothing printed either, where they are refused
+-- with nothing read, and help or the version where they ask for it; or with nothing printed either, where they are refused
 abbrev pub EndsBy : List Bytes → Option Bytes → Option Bytes → Option Bytes → Type 0 → Type 0 → Result (Unit {0}) Ending → Type 0
 EndsBy words known old new unread untouched end =
-    ((told : Told) × AsksFor words told × Answers told known old new end)
-    ⊎ (unread × AsksForHelp words × PrintsOneText old new end)
+    ((told : Told) × AsksFor words told × (told.ways.version ≡ false) × Answers told known old new end)
+    ⊎ (unread × AsksForText words × PrintsOneText old new end)
     ⊎ (unread × untouched × ((AreRefused words × IsForWords end) ⊎ (end ≡ Err (endings.Fault NoMemory))))
 
 -- a session with these words ends with this status: it has an end that is right as `EndsBy` says, and that is told

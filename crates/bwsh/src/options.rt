@@ -1,14 +1,14 @@
 //! The words of the command line: the settings of the store, the crew that works on it, and the file that it is in.
-ghost use Rattle.std.specs.Prelude.{◌≡◌, IfOk, IfErr, Some, codes, false, option_map, string_bytes, true};
+ghost use Rattle.std.specs.Prelude.{◌≡◌, IfOk, IfErr, Some, false, option_map, string_bytes, true};
 ghost use Rattle.clap.specs.Words.{FailsBy, app_of, fault_of, found_of, kind_of, matches_of, one_of, rows_of, rule_of, without_minus};
-ghost use Rattle.bwsh.specs.Options.{AsksFor, Given, IsRightKind, Text, crew_of, disk_of, is_given, is_number, number_of, settings_of, texts, told_of};
+ghost use Rattle.bwsh.specs.Options.{AsksFor, Given, IsRightKind, Text, crew_of, disk_of, is_given, is_number, number_of, settings_of, takes_nothing, texts, told_of, ways_of};
 ghost use Rattle.bwsh.specs.CommandLine.{AreGivable, bwsh, finished_rows, flag_rule, number_rule, text_rule};
 
 mod asked;
 #[cfg(test)]
 mod tests;
 
-pub use asked::Options;
+pub use asked::{Options, Ways};
 use clap::{Arg, ArgAction, ArgMatches, Command, Error, value_parser};
 use engine::Crew;
 use keys::Settings;
@@ -38,8 +38,13 @@ const DISK: &str =
 const CREATE: &str =
     "Makes the file anew, with the settings of this command line; what it held is lost";
 
+const VERSION: &str = "Prints the version of this program";
+
 // What the help says behind the options.
 const AFTER_HELP: &str = "\
+All of standard input is read before anything is run: where one of its lines is bad, nothing is run.
+Nothing lasts without a flush or an upgrade: what was ordered after the last of them ends with the
+program. --create replaces what stands at its path, whether that is a store or another file.
 A store in a file has the settings with which the file was made. Those of the command line are for a
 store in memory, and for a file that is made anew; otherwise they are ignored. Workers and grain are
 no settings of a store: they are for this session alone, which answers the same with any of them.
@@ -68,7 +73,7 @@ Keys and values are words of printed ASCII. In them %XX is the byte of two hexad
 %20 for a space, and % alone is the word of no bytes.
 
 Exit status:
-  0  All is done, or help was asked for
+  0  All is done, or help or the version was asked for
   2  The words of the command line are refused; nothing was read
   3  A line of the batch file is bad; nothing was run
   4  A fault: settings, workers, a grain or a batch that are refused, a full log, one with nothing to
@@ -128,7 +133,8 @@ fn command<'a>(alloc: Global) -> Result<Command<'a>, AllocError>
         .arg(number(alloc, "workers", "1", WORKERS))?
         .arg(number(alloc, "grain", "64", GRAIN))?
         .arg(path(alloc, "disk", DISK))?
-        .arg(flag(alloc, "create", CREATE))
+        .arg(flag(alloc, "create", CREATE))?
+        .arg(flag(alloc, "version", VERSION))
 }
 
 // What clap finds in the words.
@@ -182,16 +188,26 @@ fn disk(alloc: Global, matches: &ArgMatches<'_>) -> Result<Option<String>, Alloc
     }
 }
 
-// Whether the file is to be made anew.
-fn create(matches: &ArgMatches<'_>) -> bool
-    ensures { (given : Given) → AreGivable given → rows_of (found_of matches.now) ≡ finished_rows given → result ≡ is_given (codes "create") given }
+// Whether the option of this name, which takes nothing, was given.
+fn flag_at(matches: &ArgMatches<'_>, name: &str) -> bool
+    ensures { takes_nothing name.now ≡ true → (given : Given) → AreGivable given → rows_of (found_of matches.now) ≡ finished_rows given
+        → result ≡ is_given name.now given }
 {
-    matches.get_flag("create")
+    matches.get_flag(name)
+}
+
+// The ways of the session that were found.
+fn ways(matches: &ArgMatches<'_>) -> Ways
+    ensures { (given : Given) → AreGivable given → rows_of (found_of matches.now) ≡ finished_rows given → result ≡ ways_of given }
+{
+    Ways {
+        version: flag_at(matches, "version"),
+    }
 }
 
 /// Reads the words behind the program's name: `[--fan N] [--chain N] [--max-key N] [--max-value N] [--seg-size N]
-/// [--segments N] [--workers N] [--grain N] [--disk PATH] [--create]`, in any order, `--fan=N` too, and `--help` or `-h`. A
-/// number that is not given has its default. Whether the numbers are in range is for `Settings::check` and `Crew::check` to say.
+/// [--segments N] [--workers N] [--grain N] [--disk PATH] [--create] [--version]`, in any order,
+/// `--fan=N` too, and `--help` or `-h`. A number that is not given has its default. Whether the numbers are in range is for `Settings::check` and `Crew::check` to say.
 pub fn options(alloc: Global, words: &[String]) -> Result<Options, Error>
     ensures ok { IfOk result (λ o. AsksFor (texts words.now) (told_of o)) }
     ensures err { IfErr result (λ e. IsRightKind (texts words.now) (kind_of e)) }
@@ -202,6 +218,7 @@ pub fn options(alloc: Global, words: &[String]) -> Result<Options, Error>
         settings: settings(&matches),
         crew: crew(&matches),
         disk,
-        create: create(&matches),
+        create: flag_at(&matches, "create"),
+        ways: ways(&matches),
     })
 }

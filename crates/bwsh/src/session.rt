@@ -1,5 +1,5 @@
 //! A session: the batch file is read, and run by a crew on the store that the command line tells: a new one in memory, or one in a file.
-ghost use Rattle.std.specs.Prelude.{false, IsTrue, replicate, ◌≡◌, ◌≢◌, ◌↔◌, ◌⊎◌, ℕ, [], ◌∷◌, ◌++◌, map, None, Some, IfSome, Result, Ok, Err, IsOk, IfOk, OnOk, OnErr, IsOkUnless, MatchResult, take, length, ◌≤◌};
+ghost use Rattle.std.specs.Prelude.{false, true, IsTrue, replicate, ◌≡◌, ◌≢◌, ◌↔◌, ◌⊎◌, ℕ, [], ◌∷◌, ◌++◌, map, None, Some, IfSome, Result, Ok, Err, IsOk, IfOk, OnOk, OnErr, IsOkUnless, MatchResult, take, length, ◌≤◌};
 ghost use Rattle.std.specs.List.{flat_map, list_any};
 ghost use Rattle.std.specs.String.{string_bytes};
 ghost use Rattle.std.specs.IoError.{error_kind};
@@ -17,8 +17,8 @@ ghost use Rattle.bwsh.specs.declared.session.Ending.{Ending};
 ghost use Rattle.bwsh.specs.declared.session.Ending.TheVariants.{Device};
 ghost use Rattle.bwsh.specs.declared.session.Ending.TheVariants as endings;
 ghost use Rattle.bwsh.specs.BatchFile.{text_says, first_bad, orders_of, writes};
-ghost use Rattle.bwsh.specs.Options.{Told, AsksFor, AsksForHelp, AreRefused, told_of};
-ghost use Rattle.bwsh.specs.Session.{status_of, status_of_end, ending_text, unread_text, ending_by, printed_by, BeginsWith, IsBegun, IsTold, IsReadEnding, IsForWords, Prints, PrintsOneText, Reads, RunsOn, RunsOrder, RunsFrom, Start, IsStart, IsShown, Opens, IsHonestStore, Answers, EndsBy, EndsTold, step_in, new_start, found_start};
+ghost use Rattle.bwsh.specs.Options.{Told, AsksFor, AsksForText, AreRefused, told_of};
+ghost use Rattle.bwsh.specs.Session.{status_of, status_of_end, ending_text, unread_text, version_text, ending_by, printed_by, BeginsWith, IsBegun, IsTold, IsReadEnding, IsForWords, Prints, PrintsOneText, Reads, RunsOn, RunsOrder, RunsFrom, Start, IsStart, IsShown, Opens, IsHonestStore, Answers, EndsBy, EndsTold, step_in, new_start, found_start};
 ghost use Rattle.bwsh.specs.Shown.{shown_reply, shown_flushed, shown_cleaned, shown_upgraded, shown_report, shown_answer};
 
 use crate::batch_file::{Order, TextFault, parse};
@@ -41,6 +41,9 @@ use std::{fmt, io};
 
 // Bytes that hold the line of each ending but that for refused words.
 const LINE: usize = 64;
+
+// What is printed for the version.
+const VERSION: &[u8] = b"bwsh 0.1.0\n";
 
 // What is told of words that cannot be read.
 const UNREAD: &[u8] = b"error: a word of the command line is no text\n";
@@ -553,6 +556,14 @@ fn show_help<O: Write>(alloc: Global, help: &clap::Error, out: &mut O) -> Result
     flush(done, out)
 }
 
+// Prints the version that was asked for.
+fn show_version<O: Write>(out: &mut O) -> Result<(), Ending>
+    ensures { Prints (O.contents out.old) (O.contents out.new) (version_text ∷ []) (Ok tt) result }
+{
+    let done = write_bytes(VERSION, out);
+    flush(done, out)
+}
+
 // Answers words that tell no settings: with help where they ask for it. Nothing else is printed here.
 fn answer_words<O: Write>(alloc: Global, error: clap::Error, out: &mut O) -> Result<(), Ending>
     ensures help { kind_of error ≡ DisplayHelp → PrintsOneText (O.contents out.old) (O.contents out.new) result }
@@ -564,6 +575,26 @@ fn answer_words<O: Write>(alloc: Global, error: clap::Error, out: &mut O) -> Res
         clap::error::ErrorKind::OutOfMemory => Err(Ending::Fault(Fault::NoMemory)),
         _ => Err(Ending::Words(error)),
     }
+}
+
+// Does what the options ask for: prints the version, or runs the batch file.
+fn obey_options<R: AllocGlobal + Threads + Sync + Files, I: Read, O: Write>(
+    rt: &R,
+    told: &Options,
+    input: &mut I,
+    out: &mut O,
+) -> Result<(), Ending>
+where
+    R::File: LockFile,
+    ensures version { told.now.ways.version ≡ true → (input.new ≡ input.old)
+        × Prints (O.contents out.old) (O.contents out.new) (version_text ∷ []) (Ok tt) result }
+    ensures answers { told.now.ways.version ≡ false →
+        Answers (told_of told.now) (I.remaining input.old) (O.contents out.old) (O.contents out.new) result }
+{
+    if told.ways.version {
+        return show_version(out);
+    }
+    run(rt, told, input, out)
 }
 
 // Does what the words ask for.
@@ -578,7 +609,7 @@ where
     ensures { EndsBy (map string_bytes words.now) (I.remaining input.old) (O.contents out.old) (O.contents out.new) (input.new ≡ input.old) (out.new ≡ out.old) result }
 {
     match options(rt.alloc(), words) {
-        Ok(told) => run(rt, &told, input, out),
+        Ok(told) => obey_options(rt, &told, input, out),
         Err(error) => answer_words(rt.alloc(), error, out),
     }
 }
@@ -636,7 +667,7 @@ pub fn unread_words<E: Write>(error: io::Error, err: &mut E) -> u8
 /// file that `input` holds is run on it, as `run` says. The answers go to `out`, in lines; what stopped the
 /// session goes to `err`.
 ///
-/// - 0: all is done; or the words ask for help, which went to `out`, and nothing was read.
+/// - 0: all is done; or the words ask for help or the version, which went to `out`, and nothing was read.
 /// - 2: the words are refused. Nothing was read.
 /// - 3: a line of the batch file is bad. Nothing was run, and no file was opened.
 /// - 4: a fault. The answers to what was run before it stand in `out`, or some first of them where memory was refused
@@ -658,17 +689,17 @@ where
     ensures untouched { AreRefused (map string_bytes words.now) → (input.new ≡ input.old) × (out.new ≡ out.old) }
 
     // What stands on the output with each status: always a beginning of what the orders of the input answer on the store that the
-    // words tell, unless that is help. In memory and in a file that is made anew it is a new one of the settings that they tell;
+    // words tell, unless that is help or the version. In memory and in a file that is made anew it is a new one of the settings that they tell;
     // else it is the one that the bytes of the file stand for, whichever these are. With a crew out of range there is none, and
     // else the crew doesn't matter. A clean is done of what the disk shows: in memory that is what was left, and a file may show
     // anything.
-    ensures done { result ≡ 0 → AsksForHelp (map string_bytes words.now) ⊎ ((told : Told) × AsksFor (map string_bytes words.now) told
+    ensures done { result ≡ 0 → AsksForText (map string_bytes words.now) ⊎ ((told : Told) × AsksFor (map string_bytes words.now) told
         × IfSome (I.remaining input.old) (λ text. (first_bad 1 (text_says text) ≡ None)
         × ((start : Start) × IsStart told start × IsOk start × (shown : Reads) × IsShown told start shown (orders_of [] (text_says text))
         × Appends (O.contents out.old) (O.contents out.new) (printed_by start shown text)))) }
     ensures bad { result ≡ 3 → Appends (O.contents out.old) (O.contents out.new) []
         × IfSome (I.remaining input.old) (λ text. first_bad 1 (text_says text) ≢ None) }
-    ensures beginning { AsksForHelp (map string_bytes words.now) ⊎ Appends (O.contents out.old) (O.contents out.new) []
+    ensures beginning { AsksForText (map string_bytes words.now) ⊎ Appends (O.contents out.old) (O.contents out.new) []
         ⊎ ((told : Told) × AsksFor (map string_bytes words.now) told × IfSome (I.remaining input.old) (λ text. (start : Start) × IsStart told start
         × (shown : Reads) × IsShown told start shown (orders_of [] (text_says text))
         × ((front : Bytes) × BeginsWith (printed_by start shown text) front × Appends (O.contents out.old) (O.contents out.new) front))) }

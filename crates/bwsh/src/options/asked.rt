@@ -13,4 +13,13 @@ pub struct Options {
     pub disk: Option<String>,
     /// Whether that file is made anew, so that what it held is lost. Without a file it changes nothing.
     pub create: bool,
+    /// In which ways the session differs from one without options.
+    pub ways: Ways,
+}
+
+/// In which ways a session differs from one without options. Each is off unless it is asked for.
+#[derive(Clone, Copy, Debug, Default, PartialEq, Eq)]
+pub struct Ways {
+    /// The version is printed, and nothing is read or done.
+    pub version: bool,
 }

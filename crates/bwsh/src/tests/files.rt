@@ -1,7 +1,7 @@
 //! Sessions on stores in files, and disks over files.
 use super::{CLEANED, CLEANED_OUT, OneWord, check, push_words, words_of};
 use crate::batch_file::{Order, parse};
-use crate::options::Options;
+use crate::options::{Options, Ways};
 use crate::session::{run, session};
 use bstr::ByteSlice;
 use engine::{
@@ -33,8 +33,7 @@ const CREW: Crew = Crew {
     grain: 1,
 };
 
-// What these lines print on the store of this file, and then how they end. It is made anew with pages of this many entries; or it is
-// the one that the file holds, with settings on the command line that would be refused.
+// What these lines print, and how they end: on a new store in this file with this fan, or on the one there, beside settings that are refused.
 fn answered<R: AllocGlobal + Threads + Sync + Files>(
     rt: &R,
     path: &str,
@@ -53,6 +52,7 @@ where
         crew: CREW,
         disk: Some(String::from_str(alloc, path)?),
         create: fan.is_some(),
+        ways: Ways::default(),
     };
     let mut input = input;
     let mut written = Vec::new(alloc);
@@ -692,8 +692,7 @@ fn syncs<R: AllocGlobal + Threads + Sync>(
     Ok(20)
 }
 
-// An old file is synced before it is read, and a new store once; a flush makes three, or none where there is nothing to write; and an
-// upgrade three, or none where the log has version 2 already.
+// An old file is synced before it is read, and a new store once; a flush and an upgrade make three, or none with nothing to write.
 #[test]
 fn syncs_are_counted(rt: HostRuntime) -> Result<(), Fail> {
     let file = env::temp_dir(&rt)?.join(rt.alloc(), "bwsh_syncs")?;

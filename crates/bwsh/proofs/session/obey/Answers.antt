@@ -1,8 +1,14 @@
 use Rattle.std.proofs.Common.{◌≡◌, map, refl}
 use Rattle.std.specs.String.{string_bytes}
 use Rattle.clap.specs.Words.{kind_of}
-use Rattle.bwsh.proofs.EndLemmas.{EndsBy-words}
+use Rattle.bwsh.specs.Options.{told_of}
+use Rattle.bwsh.proofs.EndLemmas.{EndsBy-told, EndsBy-words}
 use Rattle.bwsh.proofs.session.obey.Goals as goal
+
+pub returns-in-Ok : goal.returns-in-Ok
+returns-in-Ok g c =
+    EndsBy-told (map string_bytes c.args.words.now) _ _ _ (c.obey_options.new.input ≡ c.args.input.now) (c.obey_options.new.out ≡ c.args.out.now) c.obey_options.result
+    (told_of c.in-Ok.told) c.in-Ok.ensures.ok c.obey_options.ensures.version c.obey_options.ensures.answers
 
 pub returns-in-Err : goal.returns-in-Err
 returns-in-Err g c =
