@@ -25,7 +25,7 @@ use Rattle.bwsh.specs.declared.session.Ending.TheVariants.{Words, Bad, Device}
 use Rattle.bwsh.specs.declared.session.Ending.TheVariants as endings
 use Rattle.bwsh.specs.BatchFile.{text_says, first_bad, orders_of}
 use Rattle.bwsh.specs.Session.{status_of_end, Reads, later, Start, IsStart, IsStartBy, IsShown, AreLeft, AreLeftFrom, new_start, found_start, refusal_of, behind, map_behind, own_lines, answer_lines, printed, printed_by, accepted, orders_end, first_refusal, stopped_by, end_after, lines_after, session_end, session_lines, version_text, IsReadEnding, IsUnopened, IsHonestStore, Opens, IsForWords, BeginsWith, Prints, PrintsOneText, Runs, RunsOn, RunsFrom, Answers, EndsBy}
-use Rattle.bwsh.specs.Options.{Told, AsksFor, AsksForText, AreRefused, is_refusal, IsRightKind, told_of}
+use Rattle.bwsh.specs.Options.{Told, AsksFor, AsksForText, AsksToExplain, AreRefused, is_refusal, IsRightKind, told_of}
 use Rattle.bwsh.specs.declared.options.asked.Options.{Options}
 use Rattle.clap.specs.declared.error.kind.ErrorKind.{ErrorKind}
 use Rattle.clap.specs.declared.error.kind.ErrorKind.TheVariants.{DisplayHelp, OutOfMemory}
@@ -461,3 +461,10 @@ EndsBy-told words known old new unread untouched end told tells shows runs = by 
   by : (b : Bool) → told.ways.version ≡ b → EndsBy words known old new unread untouched end
   by true is = let (not_read, printed) = shows is in inr (inl (not_read, inr (told, tells, is), (version_text, printed)))
   by false is = inl (told, tells, is, runs is)
+
+-- more is told only where it is asked for
+pub more_if_asked : (words : List (List ℕ)) (told : Told) (more : List ℕ) → AsksFor words told → (told.ways.explain ≡ false → more ≡ []) → AsksToExplain words ⊎ (more ≡ [])
+more_if_asked words told more tells plain = by told.ways.explain refl where
+  by : (b : Bool) → told.ways.explain ≡ b → AsksToExplain words ⊎ (more ≡ [])
+  by true is = inl (told, tells, is)
+  by false is = inr (plain is)

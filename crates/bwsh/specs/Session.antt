@@ -33,7 +33,7 @@ use Rattle.bwsh.specs.declared.session.Ending.TheVariants.{Words, Bad, Device}
 use Rattle.bwsh.specs.declared.session.Ending.TheVariants as endings
 use Rattle.bwsh.specs.BatchFile.{text_says, first_bad, orders_of}
 use Rattle.bwsh.specs.Line.{why_text}
-use Rattle.bwsh.specs.Options.{Text, Told, AsksFor, AsksForText, AreRefused}
+use Rattle.bwsh.specs.Options.{Text, Told, AsksFor, AsksForText, AsksToExplain, AreRefused}
 use Rattle.bwsh.specs.Shown.{shown_reply, shown_flushed, shown_cleaned, shown_upgraded, shown_report}
 
 -- the exit status of a session that ends before all is done
@@ -264,9 +264,13 @@ BeginsWith {X} xs front = (rest : List X) × (xs ≡ front ++ rest)
 abbrev pub IsBegun : Option Bytes → Option Bytes → Bytes → Type 0
 IsBegun old new text = (front : Bytes) × BeginsWith text front × Appends old new front
 
--- known bytes grow by a beginning of what is told of this end, where a clause can say what that is
-abbrev pub IsTold : Result (Unit {0}) Ending → Option Bytes → Option Bytes → Type 0
-IsTold end old new = IfSome (told_text end) (IsBegun old new)
+-- known bytes grow by a beginning of what is told of this end, where a clause can say what that is, and of this after it
+abbrev pub IsToldWith : Bytes → Result (Unit {0}) Ending → Option Bytes → Option Bytes → Type 0
+IsToldWith more end old new = IfSome (told_text end) (λ text. IsBegun old new (text ++ more))
+
+-- so it is, and more than that is told only for words that ask for an explanation
+abbrev pub IsTold : List Bytes → Result (Unit {0}) Ending → Option Bytes → Option Bytes → Type 0
+IsTold words end old new = (more : Bytes) × (AsksToExplain words ⊎ (more ≡ [])) × IsToldWith more end old new
 
 -- known bytes grow by all of the lines where the end is the right one; memory can be refused behind some whole lines, and a device can fail anywhere
 abbrev pub Prints : Option Bytes → Option Bytes → List Bytes → Result (Unit {0}) Ending → Result (Unit {0}) Ending → Type 0
@@ -352,4 +356,4 @@ EndsBy words known old new unread untouched end =
 -- a session with these words ends with this status: it has an end that is right as `EndsBy` says, and that is told
 abbrev pub EndsTold : List Bytes → Option Bytes → Option Bytes → Option Bytes → Option Bytes → Option Bytes → Type 0 → Type 0 → ℕ → Type 0
 EndsTold words known old new told_old told_new unread untouched status =
-    (end : Result (Unit {0}) Ending) × (status ≡ status_of_end end) × EndsBy words known old new unread untouched end × IsTold end told_old told_new
+    (end : Result (Unit {0}) Ending) × (status ≡ status_of_end end) × EndsBy words known old new unread untouched end × IsTold words end told_old told_new

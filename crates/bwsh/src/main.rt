@@ -3,11 +3,16 @@
 
 pub mod batch;
 pub mod batch_file;
+mod explain;
 pub mod laws;
 pub mod line;
+pub mod notes;
 pub mod number;
+mod opening;
 pub mod options;
+mod output;
 pub mod program;
+mod running;
 pub mod session;
 pub mod show;
 #[cfg(test)]

@@ -40,6 +40,9 @@ const CREATE: &str =
 
 const VERSION: &str = "Prints the version of this program";
 
+const EXPLAIN: &str =
+    "Writes a second line after that of a bad line or a fault: where it came from, and what to do";
+
 // What the help says behind the options.
 const AFTER_HELP: &str = "\
 All of standard input is read before anything is run: where one of its lines is bad, nothing is run.
@@ -134,7 +137,8 @@ fn command<'a>(alloc: Global) -> Result<Command<'a>, AllocError>
         .arg(number(alloc, "grain", "64", GRAIN))?
         .arg(path(alloc, "disk", DISK))?
         .arg(flag(alloc, "create", CREATE))?
-        .arg(flag(alloc, "version", VERSION))
+        .arg(flag(alloc, "version", VERSION))?
+        .arg(flag(alloc, "explain", EXPLAIN))
 }
 
 // What clap finds in the words.
@@ -202,11 +206,12 @@ fn ways(matches: &ArgMatches<'_>) -> Ways
 {
     Ways {
         version: flag_at(matches, "version"),
+        explain: flag_at(matches, "explain"),
     }
 }
 
 /// Reads the words behind the program's name: `[--fan N] [--chain N] [--max-key N] [--max-value N] [--seg-size N]
-/// [--segments N] [--workers N] [--grain N] [--disk PATH] [--create] [--version]`, in any order,
+/// [--segments N] [--workers N] [--grain N] [--disk PATH] [--create] [--version] [--explain]`, in any order,
 /// `--fan=N` too, and `--help` or `-h`. A number that is not given has its default. Whether the numbers are in range is for `Settings::check` and `Crew::check` to say.
 pub fn options(alloc: Global, words: &[String]) -> Result<Options, Error>
     ensures ok { IfOk result (λ o. AsksFor (texts words.now) (told_of o)) }

@@ -1,37 +1,31 @@
 //! A session: the batch file is read, and run by a crew on the store that the command line tells: a new one in memory, or one in a file.
-ghost use Rattle.std.specs.Prelude.{false, true, IsTrue, replicate, ◌≡◌, ◌≢◌, ◌↔◌, ◌⊎◌, ℕ, [], ◌∷◌, ◌++◌, map, None, Some, IfSome, Result, Ok, Err, IsOk, IfOk, OnOk, OnErr, IsOkUnless, MatchResult, take, length, ◌≤◌};
-ghost use Rattle.std.specs.List.{flat_map, list_any};
+ghost use Rattle.std.specs.Prelude.{false, true, replicate, ◌≡◌, ◌≢◌, ◌↔◌, ◌⊎◌, [], ◌∷◌, ◌++◌, map, None, IfSome, Result, Ok, Err, IsOk, IfOk, OnOk, OnErr, MatchResult};
+ghost use Rattle.std.specs.List.{list_any};
 ghost use Rattle.std.specs.String.{string_bytes};
 ghost use Rattle.std.specs.IoError.{error_kind};
-ghost use Rattle.std.specs.Io.KnownBytes.{Appends, Keeps};
+ghost use Rattle.std.specs.Io.KnownBytes.{Appends};
 ghost use Rattle.clap.specs.Words.{kind_of};
-ghost use Rattle.crew.specs.Crew.{is_crew};
 ghost use Rattle.clap.specs.declared.error.kind.ErrorKind.TheVariants.{DisplayHelp, OutOfMemory};
 ghost use Rattle.keys.specs.Bytes.{Bytes};
-ghost use Rattle.keys.specs.Limits.{first_bad_field};
 ghost use Rattle.keys.specs.declared.fault.Fault.TheVariants.{NoMemory};
 ghost use Rattle.keys.specs.declared.fault.Fault.TheVariants as faults;
-ghost use Rattle.flush_log.specs.Segments.{disk_size};
-ghost use Rattle.engine.specs.Plays.{step_of, answer_of};
 ghost use Rattle.bwsh.specs.declared.session.Ending.{Ending};
 ghost use Rattle.bwsh.specs.declared.session.Ending.TheVariants.{Device};
 ghost use Rattle.bwsh.specs.declared.session.Ending.TheVariants as endings;
 ghost use Rattle.bwsh.specs.BatchFile.{text_says, first_bad, orders_of, writes};
-ghost use Rattle.bwsh.specs.Options.{Told, AsksFor, AsksForText, AreRefused, told_of};
-ghost use Rattle.bwsh.specs.Session.{status_of, status_of_end, ending_text, unread_text, version_text, ending_by, printed_by, BeginsWith, IsBegun, IsTold, IsReadEnding, IsForWords, Prints, PrintsOneText, Reads, RunsOn, RunsOrder, RunsFrom, Start, IsStart, IsShown, Opens, IsHonestStore, Answers, EndsBy, EndsTold, step_in, new_start, found_start};
-ghost use Rattle.bwsh.specs.Shown.{shown_reply, shown_flushed, shown_cleaned, shown_upgraded, shown_report, shown_answer};
+ghost use Rattle.bwsh.specs.Options.{Told, AsksFor, AsksForText, AsksToExplain, AreRefused, told_of};
+ghost use Rattle.bwsh.specs.Session.{status_of, status_of_end, ending_text, unread_text, version_text, ending_by, printed_by, BeginsWith, IsBegun, IsToldWith, IsReadEnding, IsForWords, Prints, PrintsOneText, Reads, Start, IsStart, IsShown, Answers, EndsBy, EndsTold};
 
 use crate::batch_file::{Order, TextFault, parse};
+use crate::explain::explained;
 use crate::line::Why;
+use crate::notes::{Notes, Source};
+use crate::opening::{new_store_in_file, store_in_file, store_in_memory};
 use crate::options::{Options, options};
-use crate::show::{show_cleaned, show_flushed, show_reply, show_report, show_upgraded};
-use cleaner::laws::a_clean_keeps_the_store;
-use climb_plan::laws::the_plan_holds_the_map_after_the_commands;
-use engine::{
-    Answer, BadCrew, Crew, Disk, FileDisk, LockFile, MemDisk, NoGate, Report, Step, Store,
-};
-use flush_log::disk_size;
-use keys::{Fault, Reply, Settings};
+use crate::output::{ask, flush, write_bytes};
+use crate::running::run_opened;
+use engine::{BadCrew, LockFile};
+use keys::Fault;
 use std::alloc::{AllocError, Global};
 use std::fmt::{InlineText, Write as _};
 use std::io::{ErrorKind, Read, Write};
@@ -135,368 +129,22 @@ fn read_fault(error: io::Error) -> Ending
 }
 
 // Reads all of the input, and returns the orders of its text.
-fn read_orders<I: Read>(alloc: Global, input: &mut I) -> Result<Vec<Order>, Ending>
+fn read_orders<I: Read>(
+    alloc: Global,
+    input: &mut I,
+    notes: &mut Notes,
+) -> Result<Vec<Order>, Ending>
     ensures { (text : Bytes) × IfSome (I.remaining input.old) (λ known. text ≡ known)
         × MatchResult result (λ orders. (first_bad 1 (text_says text) ≡ None) × (orders.items ≡ orders_of [] (text_says text))) (IsReadEnding (first_bad 1 (text_says text))) }
 {
     let mut text = Vec::new(alloc);
     if let Err(error) = input.read_to_end(&mut text) {
+        notes.failed(Source::Input, Some(error));
         return Err(read_fault(error));
     }
-    Ok(parse(alloc, &text)?)
-}
-
-// Appends the lines of the replies. After an `Err` the first of them stand there.
-fn show_replies(replies: &[Reply<Global>], lines: &mut Vec<u8>) -> Result<(), AllocError>
-    ensures ok { OnOk result (lines.new.items ≡ lines.old.items ++ flat_map shown_reply replies.now) }
-    ensures err { OnErr result ((shown : ℕ) × (lines.new.items ≡ lines.old.items ++ flat_map shown_reply (take shown replies.now))) }
-{
-    for reply in replies {
-        show_reply(reply, lines)?;
-    }
-    Ok(())
-}
-
-// Writes some of the bytes, and returns how many: none where the call was interrupted.
-fn write_some<O: Write>(bytes: &[u8], out: &mut O) -> Result<usize, Ending>
-    ensures ok { IfOk result (λ taken. (taken ≤ length bytes.now) × Appends (O.contents out.old) (O.contents out.new) (take taken bytes.now)) }
-    ensures err { OnErr result (Keeps (O.contents out.old) (O.contents out.new)) }
-    ensures device { IsOkUnless result Ending.Device }
-{
-    match out.write(bytes) {
-        Ok(0) => Err(Ending::Device),
-        Ok(taken) => Ok(taken),
-        Err(error) if error.kind() == ErrorKind::Interrupted => Ok(0),
-        Err(_) => Err(Ending::Device),
-    }
-}
-
-// Writes the bytes. Where the output fails, the first of them stand there; `write_all` would not say so.
-fn write_bytes<O: Write>(bytes: &[u8], out: &mut O) -> Result<(), Ending>
-    ensures ok { OnOk result (Appends (O.contents out.old) (O.contents out.new) bytes.now) }
-    ensures err { OnErr result ((front : Bytes) × BeginsWith bytes.now front × Appends (O.contents out.old) (O.contents out.new) front) }
-    ensures device { IsOkUnless result Ending.Device }
-{
-    let mut rest = bytes;
-    for _ in 0..u64::MAX {
-        if rest.is_empty() {
-            return Ok(());
-        }
-        let taken = write_some(rest, out)?;
-        rest = &rest[taken..];
-    }
-    Err(Ending::Device)
-}
-
-// Writes the lines of the replies, in the memory of `lines`. Where memory is refused, those that were made
-// before are written.
-fn write_replies<O: Write>(
-    replies: &[Reply<Global>],
-    lines: &mut Vec<u8>,
-    out: &mut O,
-) -> Result<(), Ending>
-    ensures { Prints (O.contents out.old) (O.contents out.new) (map shown_reply replies.now) (Ok tt) result }
-{
-    lines.clear();
-    let shown = show_replies(replies, lines);
-    write_bytes(lines, out)?;
-    Ok(shown?)
-}
-
-// Writes the line of a flush that left this sequence number, in the memory of `lines`.
-fn write_flushed<O: Write>(sequence: u64, lines: &mut Vec<u8>, out: &mut O) -> Result<(), Ending>
-    ensures { Prints (O.contents out.old) (O.contents out.new) (shown_flushed sequence ∷ []) (Ok tt) result }
-{
-    lines.clear();
-    show_flushed(sequence, lines)?;
-    write_bytes(lines, out)
-}
-
-// Writes the line of a clean that left the log beginning in this segment, in the memory of `lines`.
-fn write_cleaned<O: Write>(head: u64, lines: &mut Vec<u8>, out: &mut O) -> Result<(), Ending>
-    ensures { Prints (O.contents out.old) (O.contents out.new) (shown_cleaned head ∷ []) (Ok tt) result }
-{
-    lines.clear();
-    show_cleaned(head, lines)?;
-    write_bytes(lines, out)
-}
-
-// Writes the line of an upgrade that left this sequence number, in the memory of `lines`.
-fn write_upgraded<O: Write>(sequence: u64, lines: &mut Vec<u8>, out: &mut O) -> Result<(), Ending>
-    ensures { Prints (O.contents out.old) (O.contents out.new) (shown_upgraded sequence ∷ []) (Ok tt) result }
-{
-    lines.clear();
-    show_upgraded(sequence, lines)?;
-    write_bytes(lines, out)
-}
-
-// Writes the line of the report, in the memory of `lines`.
-fn write_report<O: Write>(report: &Report, lines: &mut Vec<u8>, out: &mut O) -> Result<(), Ending>
-    ensures { Prints (O.contents out.old) (O.contents out.new) (shown_report report.now ∷ []) (Ok tt) result }
-{
-    lines.clear();
-    show_report(report, lines)?;
-    write_bytes(lines, out)
-}
-
-// Writes the lines of an answer.
-fn write_answer<O: Write>(answer: &Answer, lines: &mut Vec<u8>, out: &mut O) -> Result<(), Ending>
-    ensures { Prints (O.contents out.old) (O.contents out.new) (shown_answer (answer_of answer.now)) (Ok tt) result }
-{
-    match answer {
-        Answer::Replies(replies) => write_replies(replies, lines, out),
-        Answer::Flushed(sequence) => write_flushed(*sequence, lines, out),
-        Answer::Cleaned(head) => write_cleaned(*head, lines, out),
-        Answer::Upgraded(sequence) => write_upgraded(*sequence, lines, out),
-    }
-}
-
-// Writes the lines of the answers.
-fn write_answers<O: Write>(
-    answers: &[Answer],
-    lines: &mut Vec<u8>,
-    out: &mut O,
-) -> Result<(), Ending>
-    ensures { Prints (O.contents out.old) (O.contents out.new) (flat_map shown_answer (map answer_of answers.now)) (Ok tt) result }
-{
-    for answer in answers {
-        write_answer(answer, lines, out)?;
-    }
-    Ok(())
-}
-
-// Why a session ends whose store answered this.
-fn store_fault(fault: Fault) -> Ending
-    ensures { ((fault ≡ Fault.Device) × (result ≡ Ending.Device)) ⊎ ((fault ≢ Fault.Device) × (result ≡ Ending.Fault fault)) }
-{
-    match fault {
-        Fault::Device => Ending::Device,
-        _ => Ending::Fault(fault),
-    }
-}
-
-// Plays a step, and writes what it answers.
-fn run_step<R: Threads + Sync, D: Disk, O: Write>(
-    rt: &R,
-    crew: Crew,
-    store: &mut Store<D>,
-    step: Step<'_>,
-    lines: &mut Vec<u8>,
-    out: &mut O,
-) -> Result<(), Ending>
-    requires crew { IsTrue (is_crew crew) }
-    requires fine { store.old.has_failed ≡ false }
-    ensures runs { (order : Order) → step_in order ≡ Some (step_of step.entry) →
-        RunsOrder (D.view store.old.disk).is_honest store.old.settings store.old.store (D.view store.old.disk).seen order
-        (O.contents out.old) (O.contents out.new) result store.new.store (D.view store.new.disk).seen }
-    ensures settings { store.new.settings ≡ store.old.settings }
-    ensures honest { (D.view store.new.disk).is_honest ≡ (D.view store.old.disk).is_honest }
-    ensures failed { OnOk result (store.new.has_failed ≡ store.old.has_failed) }
-{
-    // Only for the proof.
-    the_plan_holds_the_map_after_the_commands::<Global>();
-    a_clean_keeps_the_store();
-    match store.play(rt, crew, &NoGate, &[step]) {
-        Ok(answers) => write_answers(&answers, lines, out),
-        Err(refused) => Err(store_fault(refused.2)),
-    }
-}
-
-// Runs an order, and writes what it answers.
-fn run_order<R: AllocGlobal + Threads + Sync, D: Disk, O: Write>(
-    rt: &R,
-    crew: Crew,
-    store: &mut Store<D>,
-    order: &Order,
-    lines: &mut Vec<u8>,
-    out: &mut O,
-) -> Result<(), Ending>
-    requires crew { IsTrue (is_crew crew) }
-    requires fine { store.old.has_failed ≡ false }
-    ensures runs { RunsOrder (D.view store.old.disk).is_honest store.old.settings store.old.store (D.view store.old.disk).seen order.now
-        (O.contents out.old) (O.contents out.new) result store.new.store (D.view store.new.disk).seen }
-    ensures settings { store.new.settings ≡ store.old.settings }
-    ensures honest { (D.view store.new.disk).is_honest ≡ (D.view store.old.disk).is_honest }
-    ensures failed { OnOk result (store.new.has_failed ≡ store.old.has_failed) }
-{
-    match order {
-        Order::Batch(batch) => {
-            let commands = batch.commands(rt.alloc())?;
-            run_step(
-                rt,
-                crew,
-                store,
-                Step::Batch(commands.as_slice()),
-                lines,
-                out,
-            )
-        }
-        Order::Flush => run_step(rt, crew, store, Step::Flush, lines, out),
-        Order::Clean => run_step(rt, crew, store, Step::Clean, lines, out),
-        Order::Upgrade => run_step(rt, crew, store, Step::Upgrade, lines, out),
-        Order::Verify => {
-            let report = store.verify(rt)?;
-            write_report(&report, lines, out)
-        }
-    }
-}
-
-// Runs the orders one after the other, and writes what each answers before the next runs.
-fn run_orders<R: AllocGlobal + Threads + Sync, D: Disk, O: Write>(
-    rt: &R,
-    crew: Crew,
-    store: &mut Store<D>,
-    orders: &[Order],
-    out: &mut O,
-) -> Result<(), Ending>
-    requires crew { IsTrue (is_crew crew) }
-    requires fine { store.old.has_failed ≡ false }
-    ensures { RunsOn (D.view store.old.disk).is_honest store.old.settings store.old.store (D.view store.old.disk).seen orders.now
-        (O.contents out.old) (O.contents out.new) result }
-{
-    let mut lines = Vec::new(rt.alloc());
-    for order in orders {
-        run_order(rt, crew, store, order, &mut lines, out)?;
-    }
-    Ok(())
-}
-
-// Hands on to the device what was written. A fault of the output goes before one that was found earlier.
-fn flush<O: Write>(done: Result<(), Ending>, out: &mut O) -> Result<(), Ending>
-    ensures bytes { Keeps (O.contents out.old) (O.contents out.new) }
-    ensures end { (result ≡ done) ⊎ (result ≡ Err Ending.Device) }
-{
-    match out.flush() {
-        Ok(()) => done,
-        Err(_) => Err(Ending::Device),
-    }
-}
-
-// A new store on a disk that has room for it.
-fn store_made<D: Disk + Drop>(
-    alloc: Global,
-    disk: D,
-    settings: Settings,
-) -> Result<Store<D>, Ending>
-    requires good { first_bad_field settings ≡ None }
-    requires room { disk_size settings ≤ (D.view disk).size }
-    ensures opens { (file : Bytes) → (IsTrue (D.view disk).is_honest → (D.view disk).seen ≡ file) →
-        Opens D.view (new_start settings file) result }
-    ensures honest { IfOk result (λ store. (D.view store.disk).is_honest ≡ (D.view disk).is_honest) }
-    ensures fine { IfOk result (λ store. store.has_failed ≡ false) }
-{
-    match Store::create(alloc, disk, settings) {
-        Ok(store) => Ok(store),
-        Err(refused) => Err(store_fault(refused.0)),
-    }
-}
-
-// A new store on a disk in memory, which has just the room that it needs.
-fn store_in_memory(alloc: Global, settings: Settings) -> Result<Store<MemDisk<Global>>, Ending>
-    ensures opens { Opens ⟦<MemDisk<Global> as Disk>⟧.view (new_start settings (replicate (disk_size settings) 0)) result }
-    ensures honest { IsHonestStore ⟦<MemDisk<Global> as Disk>⟧.view result }
-    ensures fine { IfOk result (λ store. store.has_failed ≡ false) }
-{
-    settings.check()?;
-    let disk = MemDisk::new(alloc, disk_size(&settings) as usize)?;
-    store_made(alloc, disk, settings)
-}
-
-// The disk of the file that there is. It is open for writing only where the session writes, and is held then.
-fn old_disk<R: Files>(rt: &R, path: &str, writes: bool) -> io::Result<FileDisk<R::File>>
-where
-    R::File: LockFile,
-{
-    if writes {
-        FileDisk::open(rt, path)
-    } else {
-        FileDisk::open_shared(rt, path)
-    }
-}
-
-// A new store in the file, which is made anew. Where the settings are refused the file isn't touched.
-fn new_store_in_file<R: AllocGlobal + Files>(
-    rt: &R,
-    path: &str,
-    settings: Settings,
-) -> Result<Store<FileDisk<R::File>>, Ending>
-where
-    R::File: LockFile,
-    ensures opens { (file : Bytes) → Opens ⟦<FileDisk<R::File> as Disk>⟧.view (new_start settings file) result }
-    ensures fine { IfOk result (λ store. store.has_failed ≡ false) }
-{
-    settings.check()?;
-    match FileDisk::create(rt, path, disk_size(&settings)) {
-        Ok(disk) => store_made(rt.alloc(), disk, settings),
-        Err(_) => Err(Ending::Device),
-    }
-}
-
-// The store that the disk holds, which is settled first: an earlier program may have ended between its write and its sync, and
-// all that this session does stands on what it reads. Nothing is written.
-fn store_found<R: AllocGlobal + Threads + Sync, D: Disk + Drop>(
-    rt: &R,
-    crew: Crew,
-    disk: D,
-) -> Result<Store<D>, Ending>
-    requires crew { IsTrue (is_crew crew) }
-    ensures opens { (file : Bytes) × (IsTrue (D.view disk).is_honest → file ≡ (D.view disk).seen) × Opens D.view (found_start file) result }
-    ensures fine { IfOk result (λ store. store.has_failed ≡ false) }
-{
-    match Store::open(rt, rt.alloc(), disk, crew) {
-        Ok(store) => Ok(store),
-        Err(refused) => Err(store_fault(refused.0)),
-    }
-}
-
-// The store that the file holds.
-fn store_in_file<R: AllocGlobal + Threads + Sync + Files>(
-    rt: &R,
-    crew: Crew,
-    path: &str,
-    writes: bool,
-) -> Result<Store<FileDisk<R::File>>, Ending>
-where
-    R::File: LockFile,
-    requires crew { IsTrue (is_crew crew) }
-    ensures opens { (file : Bytes) × Opens ⟦<FileDisk<R::File> as Disk>⟧.view (found_start file) result }
-    ensures fine { IfOk result (λ store. store.has_failed ≡ false) }
-{
-    match old_disk(rt, path, writes) {
-        Ok(disk) => store_found(rt, crew, disk),
-        Err(_) => Err(Ending::Device),
-    }
-}
-
-// Runs the orders on the store that was opened, and hands on to the device what was written.
-fn run_opened<R: AllocGlobal + Threads + Sync, D: Disk + Drop, O: Write>(
-    rt: &R,
-    crew: Crew,
-    opened: Result<Store<D>, Ending>,
-    orders: &[Order],
-    out: &mut O,
-) -> Result<(), Ending>
-    requires crew { IsTrue (is_crew crew) }
-    requires fine { IfOk opened (λ store. store.has_failed ≡ false) }
-    ensures { (start : Start) → Opens D.view start opened →
-        RunsFrom (IsHonestStore D.view opened) start orders.now (O.contents out.old) (O.contents out.new) result }
-{
-    let mut store = opened?;
-    let done = run_orders(rt, crew, &mut store, orders, out);
-    flush(done, out)
-}
-
-// Asks the output whether it is there, since a file that is opened while it is closed would get its descriptor, and with
-// that the answers. A call that was interrupted was begun.
-fn ask<O: Write>(out: &mut O) -> Result<(), Ending>
-    ensures bytes { Appends (O.contents out.old) (O.contents out.new) [] }
-    ensures device { IsOkUnless result Ending.Device }
-{
-    match out.write(&[]) {
-        Ok(_) => Ok(()),
-        Err(error) if error.kind() == ErrorKind::Interrupted => Ok(()),
-        Err(_) => Err(Ending::Device),
-    }
+    let orders = parse(alloc, &text)?;
+    notes.read(text);
+    Ok(orders)
 }
 
 // Whether one of the orders writes to the disk of its store.
@@ -517,32 +165,35 @@ fn has_writing(orders: &[Order]) -> bool
 /// reads; a lock that is refused is a fault of the file. A file in which no store is found, or that can't be opened or locked, stays as
 /// it was. One that can't be made anew is left as `FileDisk::of_zeros` says; or, where only the writes of a new store failed, with its
 /// new length, and with zeros but for what was written of them.
+///
+/// `notes` gets what an explanation of the end needs.
 pub fn run<R: AllocGlobal + Threads + Sync + Files, I: Read, O: Write>(
     rt: &R,
     told: &Options,
     input: &mut I,
     out: &mut O,
+    notes: &mut Notes,
 ) -> Result<(), Ending>
 where
     R::File: LockFile,
     ensures { Answers (told_of told.now) (I.remaining input.old) (O.contents out.old) (O.contents out.new) result }
 {
-    let orders = read_orders(rt.alloc(), input)?;
+    let orders = read_orders(rt.alloc(), input, notes)?;
     ask(out)?;
     let crew = told.crew;
     crew.check()?;
     match &told.disk {
         None => {
-            let opened = store_in_memory(rt.alloc(), told.settings);
-            run_opened(rt, crew, opened, &orders, out)
+            let opened = store_in_memory(rt.alloc(), told.settings, notes);
+            run_opened(rt, crew, opened, &orders, out, notes)
         }
         Some(path) if told.create => {
-            let opened = new_store_in_file(rt, path, told.settings);
-            run_opened(rt, crew, opened, &orders, out)
+            let opened = new_store_in_file(rt, path, told.settings, notes);
+            run_opened(rt, crew, opened, &orders, out, notes)
         }
         Some(path) => {
-            let opened = store_in_file(rt, crew, path, has_writing(&orders));
-            run_opened(rt, crew, opened, &orders, out)
+            let opened = store_in_file(rt, crew, path, has_writing(&orders), notes);
+            run_opened(rt, crew, opened, &orders, out, notes)
         }
     }
 }
@@ -577,39 +228,51 @@ fn answer_words<O: Write>(alloc: Global, error: clap::Error, out: &mut O) -> Res
     }
 }
 
-// Does what the options ask for: prints the version, or runs the batch file.
+// Does what the options ask for: prints the version, or runs the batch file. `more` gets the explanation of its end, where it is
+// asked for.
 fn obey_options<R: AllocGlobal + Threads + Sync + Files, I: Read, O: Write>(
     rt: &R,
     told: &Options,
     input: &mut I,
     out: &mut O,
+    more: &mut Vec<u8>,
 ) -> Result<(), Ending>
 where
     R::File: LockFile,
+    requires { more.old.items ≡ [] }
     ensures version { told.now.ways.version ≡ true → (input.new ≡ input.old)
         × Prints (O.contents out.old) (O.contents out.new) (version_text ∷ []) (Ok tt) result }
     ensures answers { told.now.ways.version ≡ false →
         Answers (told_of told.now) (I.remaining input.old) (O.contents out.old) (O.contents out.new) result }
+    ensures more { told.now.ways.explain ≡ false → more.new.items ≡ [] }
 {
     if told.ways.version {
         return show_version(out);
     }
-    run(rt, told, input, out)
+    let mut notes = Notes::new(rt.alloc(), told.ways.explain);
+    let done = run(rt, told, input, out, &mut notes);
+    if told.ways.explain {
+        *more = explained(rt.alloc(), told, &notes, &done).into_bytes();
+    }
+    done
 }
 
-// Does what the words ask for.
+// Does what the words ask for. `more` gets the explanation of its end, where it is asked for.
 fn obey<R: AllocGlobal + Threads + Sync + Files, I: Read, O: Write>(
     rt: &R,
     words: &[String],
     input: &mut I,
     out: &mut O,
+    more: &mut Vec<u8>,
 ) -> Result<(), Ending>
 where
     R::File: LockFile,
-    ensures { EndsBy (map string_bytes words.now) (I.remaining input.old) (O.contents out.old) (O.contents out.new) (input.new ≡ input.old) (out.new ≡ out.old) result }
+    requires { more.old.items ≡ [] }
+    ensures ends { EndsBy (map string_bytes words.now) (I.remaining input.old) (O.contents out.old) (O.contents out.new) (input.new ≡ input.old) (out.new ≡ out.old) result }
+    ensures more { AsksToExplain (map string_bytes words.now) ⊎ (more.new.items ≡ []) }
 {
     match options(rt.alloc(), words) {
-        Ok(told) => obey_options(rt, &told, input, out),
+        Ok(told) => obey_options(rt, &told, input, out, more),
         Err(error) => answer_words(rt.alloc(), error, out),
     }
 }
@@ -631,17 +294,25 @@ fn tell<E: Write>(ending: &Ending, err: &mut E) -> Result<(), Ending>
     write_bytes(line.as_str().as_bytes(), err)
 }
 
-// Tells why the session ends early, if it does, and returns the exit status. Where that cannot be told, nothing is
-// left to tell it to.
-fn end<E: Write>(done: Result<(), Ending>, err: &mut E) -> u8
+// Tells why the session ends early, and then more of it.
+fn tell_all<E: Write>(ending: &Ending, more: &[u8], err: &mut E) -> Result<(), Ending>
+    ensures { IfSome (ending_text ending.now) (λ text. IsBegun (E.contents err.old) (E.contents err.new) (text ++ more.now)) }
+{
+    tell(ending, err)?;
+    write_bytes(more, err)
+}
+
+// Tells why the session ends early, if it does, and then more of it, and returns the exit status. Where that cannot be told, nothing
+// is left to tell it to.
+fn end<E: Write>(done: Result<(), Ending>, more: &[u8], err: &mut E) -> u8
     ensures status { result ≡ status_of_end done }
     ensures quiet { IfOk done (λ _. err.new ≡ err.old) }
-    ensures told { IsTold done (E.contents err.old) (E.contents err.new) }
+    ensures told { IsToldWith more.now done (E.contents err.old) (E.contents err.new) }
 {
     match done {
         Ok(()) => 0,
         Err(ending) => {
-            let _ = tell(&ending, err);
+            let _ = tell_all(&ending, more, err);
             ending.status()
         }
     }
@@ -655,7 +326,7 @@ pub fn unread_words<E: Write>(error: io::Error, err: &mut E) -> u8
     ensures told { result ≡ 2 → IsBegun (E.contents err.old) (E.contents err.new) unread_text }
 {
     match error.kind() {
-        ErrorKind::OutOfMemory => end(Err(Ending::Fault(Fault::NoMemory)), err),
+        ErrorKind::OutOfMemory => end(Err(Ending::Fault(Fault::NoMemory)), &[], err),
         _ => {
             let _ = write_bytes(UNREAD, err);
             2
@@ -673,6 +344,8 @@ pub fn unread_words<E: Write>(error: io::Error, err: &mut E) -> u8
 /// - 4: a fault. The answers to what was run before it stand in `out`, or some first of them where memory was refused
 ///   or a device failed. Where that is an output that is closed or a crew out of range, nothing was run, and no file was opened.
 ///   Its line is written when the file is closed.
+///
+/// Where the words ask for `--explain`, a second line follows on that of a bad line or a fault: where it came from, and what to do.
 pub fn session<R: AllocGlobal + Threads + Sync + Files, I: Read, O: Write, E: Write>(
     rt: &R,
     words: &[String],
@@ -705,7 +378,7 @@ where
         × ((front : Bytes) × BeginsWith (printed_by start shown text) front × Appends (O.contents out.old) (O.contents out.new) front))) }
 
     // How it ends, and what is read and printed, is right for the words and the text but for memory and devices.
-    // What goes to `err` is told of this end, or a beginning of it.
+    // What goes to `err` is told of this end, or a beginning of it; and more only where the words ask to explain it.
     ensures ends { EndsTold (map string_bytes words.now)
         (I.remaining input.old) (O.contents out.old) (O.contents out.new)
         (E.contents err.old) (E.contents err.new)
@@ -714,6 +387,7 @@ where
     // A session with all done tells nothing.
     ensures quiet { result ≡ 0 → err.new ≡ err.old }
 {
-    let done = obey(rt, words, input, out);
-    end(done, err)
+    let mut more = Vec::new(rt.alloc());
+    let done = obey(rt, words, input, out, &mut more);
+    end(done, &more, err)
 }

@@ -22,4 +22,6 @@ pub struct Options {
 pub struct Ways {
     /// The version is printed, and nothing is read or done.
     pub version: bool,
+    /// Where the session ends early, a second line on standard error says where that came from, and what to do.
+    pub explain: bool,
 }

@@ -1,6 +1,7 @@
 //! Sessions on stores in files, and disks over files.
 use super::{CLEANED, CLEANED_OUT, OneWord, check, push_words, words_of};
 use crate::batch_file::{Order, parse};
+use crate::notes::Notes;
 use crate::options::{Options, Ways};
 use crate::session::{run, session};
 use bstr::ByteSlice;
@@ -56,7 +57,7 @@ where
     };
     let mut input = input;
     let mut written = Vec::new(alloc);
-    if let Err(ending) = run(rt, &told, &mut input, &mut written) {
+    if let Err(ending) = run(rt, &told, &mut input, &mut written, &mut Notes::new(alloc, false)) {
         write!(written, "{ending}")?;
     }
     Ok(written)

@@ -19,4 +19,5 @@ returns c =
     let eight = rule_added _ _ _ _ _ c.in_ok-arg-8.ensures c.number-8.ensures.local seven c.number-8.ensures.rule in
     let nine = rule_added _ _ _ _ _ c.in_ok-arg-9.ensures c.path.ensures.local eight c.path.ensures.rule in
     let ten = rule_added _ _ _ _ _ c.in_ok-arg-10.ensures c.flag.ensures.local nine c.flag.ensures.rule in
-    IfOk-weaker c.arg-11.result _ _ (λ _ added. rule_added _ _ _ _ _ added c.flag-2.ensures.local ten c.flag-2.ensures.rule) c.arg-11.ensures
+    let eleven = rule_added _ _ _ _ _ c.in_ok-arg-11.ensures c.flag-2.ensures.local ten c.flag-2.ensures.rule in
+    IfOk-weaker c.arg-12.result _ _ (λ _ added. rule_added _ _ _ _ _ added c.flag-3.ensures.local eleven c.flag-3.ensures.rule) c.arg-12.ensures
