@@ -123,6 +123,7 @@ HELP = [
     b"Nothing lasts without a flush",
     b"--create replaces what stands",
     b"--explain",
+    b"--stat",
 ]
 
 
@@ -181,6 +182,37 @@ def explained_streams(programs: Programs) -> Outcome:
     return Outcome(wrong or differs(run(words, b"put a 1\n"), 0, b"new\n"))
 
 
+# The lines of a log of two segments, what they print, what follows on them, and how that ends.
+LOADED = b"put a 1\nput b 2\nput c 3\nput d 4\nput e 5\nflush\n" + 4 * LONG_PUT + b"put z 9\n"
+LOADED_OUT = b"".join([5 * b"new\n", b"flushed 2\n", *(b"replaced\nflushed %d\n" % number for number in range(3, 7)), b"new\n"])
+NUMBERED = [
+    (b"", b"stat sequence 6 head 0 tail 309 segments 2 of 4 pages 3 pairs 6\n", b""),
+    (b"clean\n", b"cleaned 1\nstat sequence 7 head 1 tail 464 segments 1 of 4 pages 3 pairs 6\n", b""),
+    (b"clean\nflush\n", b"cleaned 1\nflushed 8\nstat sequence 8 head 1 tail 486 segments 1 of 4 pages 3 pairs 6\n", b""),
+    (b"clean\nclean\n", b"cleaned 1\n", b"fault 11 NothingToClean\n"),
+]
+
+
+def numbers(programs: Programs) -> Outcome:
+    """The numbers of a new store, and of one that was flushed and cleaned; none where a session ends early."""
+    words = [programs.store, *SMALL, "--stat"]
+    wrong = differs(run(words), 0, b"stat sequence 1 head 0 tail 33 segments 1 of 4 pages 1 pairs 0\n")
+    for text, out, err in NUMBERED:
+        wrong = wrong or differs(run(words, LOADED + text), 4 if err else 0, LOADED_OUT + out, err)
+    return Outcome(wrong or differs(run(words, b"frob\n"), 3, b"", b"line 1: unknown command\n"))
+
+
+def numbers_of_a_file(programs: Programs) -> Outcome:
+    """A session that only prints numbers shares its file."""
+    with new_folder() as folder:
+        path = Path(folder) / "store"
+        made = run([programs.store, *SMALL, "--disk", path, "--create"])
+        with path.open("rb") as shared:
+            fcntl.flock(shared, fcntl.LOCK_SH)
+            ran = run([programs.store, "--disk", path, "--stat"])
+        return Outcome(differs(made, 0, b"") or differs(ran, 0, b"stat sequence 1 head 0 tail 33 segments 1 of 4 pages 1 pairs 0\n"))
+
+
 def cases(programs: Programs) -> list[Case]:
     return [
         Case("prints the version", version, (programs,)),
@@ -188,4 +220,6 @@ def cases(programs: Programs) -> list[Case]:
         *(Case(f"explains {row[3].decode().strip()}", explained, (programs, *row)) for row in EXPLAINED),
         Case("explains files", explained_file, (programs,)),
         Case("explains streams", explained_streams, (programs,)),
+        Case("prints numbers", numbers, (programs,)),
+        Case("prints numbers of a file that is shared", numbers_of_a_file, (programs,)),
     ]

@@ -23,8 +23,8 @@ use Rattle.bwsh.specs.declared.batch_file.Order.{Order}
 use Rattle.bwsh.specs.declared.session.Ending.{Ending}
 use Rattle.bwsh.specs.declared.session.Ending.TheVariants.{Words, Bad, Device}
 use Rattle.bwsh.specs.declared.session.Ending.TheVariants as endings
-use Rattle.bwsh.specs.BatchFile.{text_says, first_bad, orders_of}
-use Rattle.bwsh.specs.Session.{status_of_end, Reads, later, Start, IsStart, IsStartBy, IsShown, AreLeft, AreLeftFrom, new_start, found_start, refusal_of, behind, map_behind, own_lines, answer_lines, printed, printed_by, accepted, orders_end, first_refusal, stopped_by, end_after, lines_after, session_end, session_lines, version_text, IsReadEnding, IsUnopened, IsHonestStore, Opens, IsForWords, BeginsWith, Prints, PrintsOneText, Runs, RunsOn, RunsFrom, Answers, EndsBy}
+use Rattle.bwsh.specs.BatchFile.{text_says, first_bad}
+use Rattle.bwsh.specs.Session.{status_of_end, Reads, later, Start, IsStart, IsStartBy, IsShown, AreLeft, AreLeftFrom, new_start, found_start, refusal_of, behind, map_behind, own_lines, answer_lines, printed, printed_by, accepted, orders_end, first_refusal, stopped_by, end_after, lines_after, session_orders, session_end, session_lines, version_text, IsReadEnding, IsUnopened, IsHonestStore, Opens, IsForWords, BeginsWith, Prints, PrintsOneText, Runs, RunsOn, RunsFrom, Answers, EndsBy}
 use Rattle.bwsh.specs.Options.{Told, AsksFor, AsksForText, AsksToExplain, AreRefused, is_refusal, IsRightKind, told_of}
 use Rattle.bwsh.specs.declared.options.asked.Options.{Options}
 use Rattle.clap.specs.declared.error.kind.ErrorKind.{ErrorKind}
@@ -142,7 +142,7 @@ module _ (told : Told) (known old : Option (List ℕ)) (text : List ℕ) (is_kno
   unfolding Answers
   Answers-unread early h =
       let (start, is) = start_of (is_crew told.crew) told.settings told.disk told.create in
-      let orders : List Order = orders_of [] (text_says text) in
+      let orders : List Order = session_orders told text in
       let shown : Reads = left_from start orders in
       (text, is_known, start, is, shown, λ memory. AreLeftFrom-left_from start orders, Prints-unread old start shown orders (first_bad 1 (text_says text)) early h)
 
@@ -154,7 +154,7 @@ module _ (told : Told) (known old : Option (List ℕ)) (text : List ℕ) (is_kno
       let is : IsStart told start = at_false (is_crew told.crew) (IsStartBy told.settings told.disk told.create start) (start ≡ Err BadCrew) out_of_range refl in
       (text, is_known, start, is, λ i. [], λ memory. tt, rw no_bad (inl (refl, Appends-nil old)))
 
-  pub Answers-run : (new : Option (List ℕ)) (end : Result (Unit {0}) Ending) (ran items : List Order) → first_bad 1 (text_says text) ≡ None → ran ≡ items → items ≡ orders_of [] (text_says text)
+  pub Answers-run : (new : Option (List ℕ)) (end : Result (Unit {0}) Ending) (ran items : List Order) → first_bad 1 (text_says text) ≡ None → ran ≡ items → items ≡ session_orders told text
       → (start : Start) → IsStart told start → (IsHonest : Type 0) → (told.disk ≡ None → IsHonest) → RunsFrom IsHonest start ran old new end → Answers told known old new end
   unfolding Answers RunsFrom
   Answers-run new end ran items no_bad e_ran e_items start is IsHonest honest p =
@@ -174,7 +174,7 @@ module _ (old mid new : Option (List ℕ)) (asked : Appends old mid []) where
   pub Answers-asked : (told : Told) (known : Option (List ℕ)) (end : Result (Unit {0}) Ending) → Answers told known mid new end → Answers told known old new end
   unfolding Answers
   Answers-asked told known end (text, is_known, start, is, shown, is_shown, p) =
-      (text, is_known, start, is, shown, is_shown, Prints-asked (session_lines start shown text) (session_end start shown text) end p)
+      (text, is_known, start, is, shown, is_shown, Prints-asked (session_lines told start shown text) (session_end told start shown text) end p)
 
 -- another crew that is in range where this one is
 pub Answers-crew : (told : Told) (crew : Crew) → is_crew crew ≡ is_crew told.crew → (known old new : Option (List ℕ)) (end : Result (Unit {0}) Ending)
@@ -234,14 +234,10 @@ words_stop : (r : Option Fault) (error : Error) → Err (Words error) ≡ stoppe
 words_stop None error e = cc
 words_stop (Some fault) error e = cc
 
-module _ (text : List ℕ) where
-  -- the orders of the text
-  abbrev ordered : List Order
-  ordered = orders_of [] (text_says text)
-
+module _ (ordered : List Order) where
   module _ (shown : Reads) where
     done_right : (bad : Option (ℕ × Why)) (start : Start) (done : Unit {0}) → Ok done ≡ end_after bad start shown ordered
-        → (bad ≡ None) × IsOk start × (flat (lines_after bad start shown ordered) ≡ printed_by start shown text)
+        → (bad ≡ None) × IsOk start × (flat (lines_after bad start shown ordered) ≡ printed_by start shown ordered)
     done_right None (Ok p) done e =
         (refl, refl, ap (λ (os : List Order). printed p.0 p.1.0 shown (contents p.1.0.tree) os) (accepted-all p.0 p.1.0 shown ordered done e))
     done_right None (Err fault) done e = absurd (cc)
@@ -258,35 +254,35 @@ module _ (text : List ℕ) where
     words_right None (Err fault) error e = cc
     words_right (Some b) start error e = cc
 
-    front_right : (bad : Option (ℕ × Why)) (start : Start) → BeginsWith (printed_by start shown text) (flat (lines_after bad start shown ordered))
+    front_right : (bad : Option (ℕ × Why)) (start : Start) → BeginsWith (printed_by start shown ordered) (flat (lines_after bad start shown ordered))
     front_right None (Ok p) =
         let m = contents p.1.0.tree in
         front-flat (answer_lines p.0 p.1.0 shown m ordered) (answer_lines p.0 p.1.0 shown m (accepted p.0 p.1.0 shown ordered)) (accepted-front p.0 m p.1.0 shown ordered)
     front_right None (Err fault) = ([], refl)
-    front_right (Some b) start = (printed_by start shown text, refl)
+    front_right (Some b) start = (printed_by start shown ordered, refl)
 
 -- ---- what follows of a session whose words tell something
 
 -- all that the text orders is printed, from a right start that has a store
 abbrev IsDoneOn : Told → Option (List ℕ) → Option (List ℕ) → List ℕ → Type 0
 IsDoneOn told old new text =
-    (first_bad 1 (text_says text) ≡ None) × ((start : Start) × IsStart told start × IsOk start × (shown : Reads) × IsShown told start shown (orders_of [] (text_says text))
-    × Appends old new (printed_by start shown text))
+    (first_bad 1 (text_says text) ≡ None) × ((start : Start) × IsStart told start × IsOk start × (shown : Reads) × IsShown told start shown (session_orders told text)
+    × Appends old new (printed_by start shown (session_orders told text)))
 
 -- a beginning of it is
 abbrev HasBegunOn : Told → Option (List ℕ) → Option (List ℕ) → List ℕ → Type 0
 HasBegunOn told old new text =
-    (start : Start) × IsStart told start × (shown : Reads) × IsShown told start shown (orders_of [] (text_says text))
-    × ((front : List ℕ) × BeginsWith (printed_by start shown text) front × Appends old new front)
+    (start : Start) × IsStart told start × (shown : Reads) × IsShown told start shown (session_orders told text)
+    × ((front : List ℕ) × BeginsWith (printed_by start shown (session_orders told text)) front × Appends old new front)
 
 module _ (told : Told) (known old new : Option (List ℕ)) where
   told_done : (done : Unit {0}) → Answers told known old new (Ok done) → IfSome known (IsDoneOn told old new)
   unfolding Answers
   told_done done (text, is_known, start, is, shown, is_shown, p) =
       IfSome-known known text (IsDoneOn told old new) is_known (by p) where
-        by : Prints old new (session_lines start shown text) (session_end start shown text) (Ok done) → IsDoneOn told old new text
+        by : Prints old new (session_lines told start shown text) (session_end told start shown text) (Ok done) → IsDoneOn told old new text
         by (inl (e, a)) =
-            let (none, opened, lines) = done_right text shown (first_bad 1 (text_says text)) start done e in
+            let (none, opened, lines) = done_right (session_orders told text) shown (first_bad 1 (text_says text)) start done e in
             (none, (start, is, opened, shown, is_shown, subst (λ (l : List ℕ). Appends old new l) lines a))
         by (inr (inl (e, q))) = absurd (cc)
         by (inr (inr (e, q))) = absurd (cc)
@@ -294,24 +290,24 @@ module _ (told : Told) (known old new : Option (List ℕ)) where
   told_bad : (line : ℕ) (why : Why) → Answers told known old new (Err (Bad line why)) → Appends old new [] × IfSome known (λ text. first_bad 1 (text_says text) ≢ None)
   unfolding Answers
   told_bad line why (text, is_known, start, is, shown, is_shown, p) = by p where
-    by : Prints old new (session_lines start shown text) (session_end start shown text) (Err (Bad line why)) → Appends old new [] × IfSome known (λ t. first_bad 1 (text_says t) ≢ None)
+    by : Prints old new (session_lines told start shown text) (session_end told start shown text) (Err (Bad line why)) → Appends old new [] × IfSome known (λ t. first_bad 1 (text_says t) ≢ None)
     by (inl (e, a)) =
-        let (some, lines) = bad_right text shown (first_bad 1 (text_says text)) start line why e in
+        let (some, lines) = bad_right (session_orders told text) shown (first_bad 1 (text_says text)) start line why e in
         (subst (λ (l : List (List ℕ)). Appends old new (flat l)) lines a, IfSome-known known text (λ (t : List ℕ). first_bad 1 (text_says t) ≢ None) is_known some)
     by (inr (inl (e, q))) = absurd (cc)
     by (inr (inr (e, q))) = absurd (cc)
 
   told_words : (error : Error) → Answers told known old new (Err (Words error)) → ⊥
   unfolding Answers
-  told_words error (text, is_known, start, is, shown, is_shown, inl (e, a)) = words_right text shown (first_bad 1 (text_says text)) start error e
+  told_words error (text, is_known, start, is, shown, is_shown, inl (e, a)) = words_right (session_orders told text) shown (first_bad 1 (text_says text)) start error e
   told_words error (text, is_known, start, is, shown, is_shown, inr (inl (e, q))) = cc
   told_words error (text, is_known, start, is, shown, is_shown, inr (inr (e, q))) = cc
 
   told_front : (end : Result (Unit {0}) Ending) → Answers told known old new end → IfSome known (HasBegunOn told old new)
   unfolding Answers
   told_front end (text, is_known, start, is, shown, is_shown, p) =
-      let (front, begins, a) = Prints-front old new (session_lines start shown text) (session_end start shown text) end p in
-      let whole = front-trans (printed_by start shown text) (flat (session_lines start shown text)) front (front_right text shown (first_bad 1 (text_says text)) start) begins in
+      let (front, begins, a) = Prints-front old new (session_lines told start shown text) (session_end told start shown text) end p in
+      let whole = front-trans (printed_by start shown (session_orders told text)) (flat (session_lines told start shown text)) front (front_right (session_orders told text) shown (first_bad 1 (text_says text)) start) begins in
       IfSome-known known text (HasBegunOn told old new) is_known (start, is, shown, is_shown, (front, whole, a))
 
 -- ---- what follows of any session

@@ -29,11 +29,12 @@ use Rattle.engine.specs.declared.step.Answer as code_answer
 use Rattle.verify.specs.Report.{report}
 use Rattle.verify.specs.declared.report.Report.{Report}
 use Rattle.bwsh.specs.declared.batch_file.Order.{Order}
-use Rattle.bwsh.specs.declared.batch_file.Order.TheVariants.{Batch, Flush, Clean, Upgrade, Verify}
+use Rattle.bwsh.specs.declared.show.StoreNumbers.{StoreNumbers}
+use Rattle.bwsh.specs.declared.batch_file.Order.TheVariants.{Batch, Flush, Clean, Upgrade, Verify, Numbers}
 use Rattle.bwsh.specs.declared.session.Ending.{Ending}
 use Rattle.bwsh.specs.declared.session.Ending.TheVariants as endings
-use Rattle.bwsh.specs.Session.{Stored, Reads, AreLeft, step_in, left_by, refused_by, behind_step, refusal_of_step, refusal_of, behind, map_behind, own_lines, answer_lines, accepted, orders_end, Prints, Runs, RunsOn, RunsOrder, LeavesStored}
-use Rattle.bwsh.specs.Shown.{shown_flushed, shown_cleaned, shown_upgraded, shown_report, shown_answer}
+use Rattle.bwsh.specs.Session.{Stored, Reads, AreLeft, step_in, left_by, refused_by, behind_step, refusal_of_step, refusal_of, behind, map_behind, own_lines, answer_lines, accepted, orders_end, numbers_of, Prints, Runs, RunsOn, RunsOrder, LeavesStored}
+use Rattle.bwsh.specs.Shown.{shown_flushed, shown_cleaned, shown_upgraded, shown_report, shown_numbers, shown_answer}
 use Rattle.bwsh.proofs.Prints.{Prints-all, Prints-behind, Prints-early}
 use Rattle.bwsh.proofs.StoreLemmas.{IsEndingOf}
 
@@ -256,6 +257,7 @@ module _ (settings : Settings) (st : Store) where
       ap (λ (q : Stored). shown_upgraded q.0.sequence ∷ []) left
       ∙ sym (ap shown_answer (answered_by of_upgrade (after_upgrade settings st file) p (subst (λ (z : Step Global). steps_to file z p) (sym same) done)).0)
   lines_of file Verify y p is done left = absurd (cc)
+  lines_of file Numbers y p is done left = absurd (cc)
 
   -- a batch that is planned holds the map after its commands
   abbrev PlansHold : Type 0
@@ -282,6 +284,7 @@ module _ (settings : Settings) (st : Store) where
       let same : (let z : Step Global = Step.Upgrade in z ≡ y) = cc in
       upgrade-leaves settings st file p.1 (answered_by of_upgrade (after_upgrade settings st file) p (subst (λ (z : Step Global). steps_to file z p) (sym same) done)).1
   map_of hold keep file Verify y p is done = absurd (cc)
+  map_of hold keep file Numbers y p is done = absurd (cc)
 
 -- a step is played on a store whose disk had the bytes `seen`, for an order
 module _ (honest : Bool) (settings : Settings) (st : Store) (seen : List ℕ) (order : Order) (x : code_step.Step) (is : step_in order ≡ Some (step_of x)) where
@@ -392,6 +395,27 @@ module _ (honest : Bool) (settings : Settings) (st : Store) (seen : List ℕ) (o
       let printed = subst (λ (r : Report). Prints old new (shown_report r ∷ []) (Ok tt) end) is p in
       subst (λ (o : Order). RunsOrder honest settings st seen o old new end st seen) (sym order_is)
       (seen, λ h. refl, answered settings st seen Verify old new end (never_refused seen) printed, OnOk-always end unmoved)
+
+-- ---- the numbers of the store
+
+module _ (honest : Bool) (settings : Settings) (st : Store) (seen : List ℕ) (order : Order) (order_is : order ≡ Numbers) where
+  numbers_given : (file : List ℕ) → refusal_of settings st file Numbers ≡ None
+  unfolding refusal_of
+  numbers_given file = refl
+
+  still : LeavesStored honest settings st seen Numbers st seen
+  unfolding behind refusal_of
+  still = record { unrefused = refl; store = refl; bytes = λ h. refl; holds = refl }
+
+  pub RunsOrder-uncounted : (old : Option (List ℕ)) (fault : Fault) → fault ≡ NoMemory → RunsOrder honest settings st seen order old old (Err (endings.Fault fault)) st seen
+  RunsOrder-uncounted old fault e = (seen, λ h. refl, stopped settings st seen order old old fault refl (inl e), tt)
+
+  pub RunsOrder-counted : (old new : Option (List ℕ)) (end : Result (Unit {0}) Ending) (numbers : StoreNumbers) → numbers ≡ numbers_of settings st
+      → Prints old new (shown_numbers numbers ∷ []) (Ok tt) end → RunsOrder honest settings st seen order old new end st seen
+  RunsOrder-counted old new end numbers is p =
+      let printed = subst (λ (n : StoreNumbers). Prints old new (shown_numbers n ∷ []) (Ok tt) end) is p in
+      subst (λ (o : Order). RunsOrder honest settings st seen o old new end st seen) (sym order_is)
+      (seen, λ h. refl, answered settings st seen Numbers old new end (numbers_given seen) printed, OnOk-always end still)
 
 -- ---- orders one after the other
 

@@ -9,7 +9,7 @@ use Rattle.bwsh.specs.declared.line.Says.TheVariants.{Go, Bad}
 use Rattle.bwsh.specs.declared.line.Says.TheVariants as says
 use Rattle.bwsh.specs.declared.line.Why.{Why}
 use Rattle.bwsh.specs.declared.batch_file.Order.{Order}
-use Rattle.bwsh.specs.declared.batch_file.Order.TheVariants.{Batch, Flush, Clean, Upgrade, Verify}
+use Rattle.bwsh.specs.declared.batch_file.Order.TheVariants.{Batch, Flush, Clean, Upgrade, Verify, Numbers}
 use Rattle.bwsh.specs.declared.batch_file.TextFault.{TextFault}
 use Rattle.bwsh.specs.declared.batch_file.TextFault.TheVariants as faults
 use Rattle.bwsh.specs.Line.{line_says}
@@ -44,6 +44,11 @@ orders_of pending (says.Upgrade ∷ rest) = last_order pending ++ Upgrade ∷ or
 orders_of pending (says.Verify ∷ rest) = last_order pending ++ Verify ∷ orders_of [] rest
 orders_of pending (_ ∷ rest) = orders_of pending rest
 
+-- these, and then the order to print the numbers, where it is asked for
+abbrev pub with_numbers : Bool → List Order → List Order
+with_numbers false orders = orders
+with_numbers true orders = orders ++ Numbers ∷ []
+
 -- the fault tells of the first bad line, or that memory was refused
 abbrev pub IsRightFault : List Says → TextFault → Type 0
 IsRightFault says (faults.Bad n why) = first_bad 1 says ≡ Some (n, why)
@@ -56,6 +61,7 @@ writes Flush = true
 writes Clean = true
 writes Upgrade = true
 writes Verify = false
+writes Numbers = false
 
 -- the order is a batch
 abbrev pub IsBatch : Order → Type 0
@@ -64,6 +70,7 @@ IsBatch Flush = ⊥
 IsBatch Clean = ⊥
 IsBatch Upgrade = ⊥
 IsBatch Verify = ⊥
+IsBatch Numbers = ⊥
 
 -- the order is no clean
 abbrev pub IsNoClean : Order → Type 0
@@ -85,6 +92,7 @@ commands_of Flush = []
 commands_of Clean = []
 commands_of Upgrade = []
 commands_of Verify = []
+commands_of Numbers = []
 
 -- the commands that lines say
 abbrev pub commands_said : List Says → List (Command Global)

@@ -1,5 +1,5 @@
 -- What a session starts on, what it runs and prints, and how it ends.
-use Rattle.std.specs.Prelude.{◌≡◌, ◌⊎◌, ℕ, suc, Bool, true, false, IsTrue, ⊤, List, [], ◌∷◌, ◌++◌, map, is_some, codes, replicate, if◌then◌else◌, Option, Some, None, IfSome, Result, Ok, Err, IfOk, OnOk}
+use Rattle.std.specs.Prelude.{◌≡◌, ◌⊎◌, ◌+◌, ◌-◌, ℕ, suc, Bool, true, false, IsTrue, ⊤, List, [], ◌∷◌, ◌++◌, map, is_some, codes, replicate, if◌then◌else◌, Option, Some, None, IfSome, Result, Ok, Err, IfOk, OnOk}
 use Rattle.std.specs.Bool.{MatchBool}
 use Rattle.std.specs.Option.{option_map, option_or}
 use Rattle.std.specs.Fmt.{decimal}
@@ -19,22 +19,23 @@ use Rattle.mapping.specs.Levels.{contents}
 use Rattle.verify.specs.Report.{report}
 use Rattle.flush_log.specs.Disk.{View}
 use Rattle.flush_log.specs.NewStore.{disk_of_new}
-use Rattle.flush_log.specs.Segments.{disk_size}
+use Rattle.flush_log.specs.Segments.{disk_size, last_segment}
 use Rattle.recovery.specs.StoreOfDisk.{first_store, store_of_disk}
 use Rattle.engine.specs.State.{State}
 use Rattle.engine.specs.Steps.{Step, Stepped, batching, after_step}
 use Rattle.bwsh.specs.declared.line.Why.{Why}
 use Rattle.bwsh.specs.declared.batch_file.Order.{Order}
-use Rattle.bwsh.specs.declared.batch_file.Order.TheVariants.{Batch, Flush, Clean, Upgrade, Verify}
+use Rattle.bwsh.specs.declared.batch_file.Order.TheVariants.{Batch, Flush, Clean, Upgrade, Verify, Numbers}
 use Rattle.bwsh.specs.declared.batch_file.TextFault.{TextFault}
 use Rattle.bwsh.specs.declared.batch_file.TextFault.TheVariants as faults
 use Rattle.bwsh.specs.declared.session.Ending.{Ending}
 use Rattle.bwsh.specs.declared.session.Ending.TheVariants.{Words, Bad, Device}
 use Rattle.bwsh.specs.declared.session.Ending.TheVariants as endings
-use Rattle.bwsh.specs.BatchFile.{text_says, first_bad, orders_of}
+use Rattle.bwsh.specs.declared.show.StoreNumbers.{StoreNumbers}
+use Rattle.bwsh.specs.BatchFile.{text_says, first_bad, orders_of, with_numbers}
 use Rattle.bwsh.specs.Line.{why_text}
 use Rattle.bwsh.specs.Options.{Text, Told, AsksFor, AsksForText, AsksToExplain, AreRefused}
-use Rattle.bwsh.specs.Shown.{shown_reply, shown_flushed, shown_cleaned, shown_upgraded, shown_report}
+use Rattle.bwsh.specs.Shown.{shown_reply, shown_flushed, shown_cleaned, shown_upgraded, shown_report, shown_numbers}
 
 -- the exit status of a session that ends before all is done
 abbrev pub status_of : Ending → ℕ
@@ -129,6 +130,7 @@ step_in Flush = Some Step.Flush
 step_in Clean = Some Step.Clean
 step_in Upgrade = Some Step.Upgrade
 step_in Verify = None
+step_in Numbers = None
 
 -- what a step leaves of what is stored, and why it is refused, if it is
 abbrev pub left_by : Stored → Stepped Global → Stored
@@ -163,16 +165,30 @@ map_behind m Flush = m
 map_behind m Clean = m
 map_behind m Upgrade = m
 map_behind m Verify = m
+map_behind m Numbers = m
+
+-- the numbers of a store of these settings
+abbrev pub numbers_of : Settings → Store → StoreNumbers
+numbers_of settings st = record {
+  sequence = st.sequence;
+  head = st.head;
+  tail = st.tail;
+  in_use = last_segment settings st.tail + 1 - st.head;
+  segments = settings.segments;
+  pages = (report st.tree).pages;
+  pairs = (report st.tree).pairs;
+}
 
 -- the lines that an order answers, with their line feeds, where the store holds this map before it, and its disk shows these bytes:
 -- to a batch the replies of the map, the lines of each as one text; to a flush and to an upgrade the sequence number that it leaves;
--- to a clean the head segment; to a verify the report on the tree
+-- to a clean the head segment; to a verify the report on the tree; and the numbers of the store
 abbrev pub own_lines : Settings → Store → Bytes → Pairs Bytes → Order → List Bytes
 own_lines settings st file m (Batch commands) = map shown_reply (replies_to m commands)
 own_lines settings st file m Flush = shown_flushed (behind settings st file Flush).0.sequence ∷ []
 own_lines settings st file m Clean = shown_cleaned (behind settings st file Clean).0.head ∷ []
 own_lines settings st file m Upgrade = shown_upgraded (behind settings st file Upgrade).0.sequence ∷ []
 own_lines settings st file m Verify = shown_report (report st.tree) ∷ []
+own_lines settings st file m Numbers = shown_numbers (numbers_of settings st) ∷ []
 
 -- the lines that orders answer one after the other, of a store whose disk shows these bytes before each; each leaves its store and its
 -- map to the next
@@ -186,10 +202,10 @@ answer_lines settings st shown m (order ∷ rest) =
 abbrev pub printed : Settings → Store → Reads → Pairs Bytes → List Order → Bytes
 printed settings st shown m orders = flat (answer_lines settings st shown m orders)
 
--- all that the orders of a text print from this start, were each accepted: nothing, where there is no store
-abbrev pub printed_by : Start → Reads → Bytes → Bytes
-printed_by (Ok p) shown text = printed p.0 p.1.0 shown (contents p.1.0.tree) (orders_of [] (text_says text))
-printed_by (Err fault) shown text = []
+-- all that these orders print from this start, were each accepted: nothing, where there is no store
+abbrev pub printed_by : Start → Reads → List Order → Bytes
+printed_by (Ok p) shown orders = printed p.0 p.1.0 shown (contents p.1.0.tree) orders
+printed_by (Err fault) shown orders = []
 
 -- why a store refuses the first of the orders that it refuses, if there is one; each that is accepted leaves its store to the next
 abbrev pub first_refusal : Settings → Store → Reads → List Order → Option Fault
@@ -241,13 +257,17 @@ lines_after (Some bad) start shown orders = []
 lines_after None (Err fault) shown orders = []
 lines_after None (Ok p) shown orders = answer_lines p.0 p.1.0 shown (contents p.1.0.tree) (accepted p.0 p.1.0 shown orders)
 
+-- the orders of a session on this text: what its lines order, and then the numbers, where the words ask for them
+abbrev pub session_orders : Told → Bytes → List Order
+session_orders told text = with_numbers told.ways.stat (orders_of [] (text_says text))
+
 -- how a session on this text ends by its right
-abbrev pub session_end : Start → Reads → Bytes → Result (Unit {0}) Ending
-session_end start shown text = end_after (first_bad 1 (text_says text)) start shown (orders_of [] (text_says text))
+abbrev pub session_end : Told → Start → Reads → Bytes → Result (Unit {0}) Ending
+session_end told start shown text = end_after (first_bad 1 (text_says text)) start shown (session_orders told text)
 
 -- the lines that a session on this text prints by its right
-abbrev pub session_lines : Start → Reads → Bytes → List Bytes
-session_lines start shown text = lines_after (first_bad 1 (text_says text)) start shown (orders_of [] (text_says text))
+abbrev pub session_lines : Told → Start → Reads → Bytes → List Bytes
+session_lines told start shown text = lines_after (first_bad 1 (text_says text)) start shown (session_orders told text)
 
 -- a session whose text has this first bad line, if it has one, can end so before anything is run
 abbrev pub IsReadEnding : Option (ℕ × Why) → Ending → Type 0
@@ -332,8 +352,8 @@ IsHonestStore view opened = IfOk opened (λ x. IsTrue (view x.disk).is_honest)
 unfoldable pub Answers : Told → Option Bytes → Option Bytes → Option Bytes → Result (Unit {0}) Ending → Type 0
 Answers told known old new end =
     (text : Bytes) × IfSome known (λ bytes. text ≡ bytes) × (start : Start) × IsStart told start
-    × (shown : Reads) × IsShown told start shown (orders_of [] (text_says text))
-    × Prints old new (session_lines start shown text) (session_end start shown text) end
+    × (shown : Reads) × IsShown told start shown (session_orders told text)
+    × Prints old new (session_lines told start shown text) (session_end told start shown text) end
 
 -- a text is printed, but for memory and devices
 abbrev pub PrintsOneText : Option Bytes → Option Bytes → Result (Unit {0}) Ending → Type 0

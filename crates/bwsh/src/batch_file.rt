@@ -24,6 +24,8 @@ pub enum Order {
     Upgrade,
     /// To verify the store, and tell of its pages, its height and its pairs.
     Verify,
+    /// To print the numbers of the store. No line orders it.
+    Numbers,
 }
 
 impl Order {

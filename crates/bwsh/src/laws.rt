@@ -12,13 +12,13 @@ ghost use Rattle.keys.specs.declared.settings.Settings.{Settings};
 ghost use Rattle.mapping.specs.Tree.{Store};
 ghost use Rattle.verify.specs.Report.{report};
 ghost use Rattle.bwsh.specs.declared.batch_file.Order.{Order};
-ghost use Rattle.bwsh.specs.declared.batch_file.Order.TheVariants.{Batch, Flush, Clean, Upgrade, Verify};
+ghost use Rattle.bwsh.specs.declared.batch_file.Order.TheVariants.{Batch, Flush, Clean, Upgrade, Verify, Numbers};
 ghost use Rattle.bwsh.specs.declared.line.Says.{Says};
 ghost use Rattle.bwsh.specs.declared.session.Ending.{Ending};
 ghost use Rattle.bwsh.specs.BatchFile.{orders_of, commands_of, commands_said, batch_lines, IsBatch, IsForBatches, IsNoClean};
 ghost use Rattle.bwsh.specs.Options.{Told};
-ghost use Rattle.bwsh.specs.Session.{Answers, AreLeft, IsStart, Reads, Start, accepted, answer_lines, behind, later, orders_end, printed};
-ghost use Rattle.bwsh.specs.Shown.{shown_reply, shown_flushed, shown_cleaned, shown_upgraded, shown_report};
+ghost use Rattle.bwsh.specs.Session.{Answers, AreLeft, IsStart, Reads, Start, accepted, answer_lines, behind, later, numbers_of, orders_end, printed};
+ghost use Rattle.bwsh.specs.Shown.{shown_reply, shown_flushed, shown_cleaned, shown_upgraded, shown_report, shown_numbers};
 ghost use Rattle.bwsh.specs.Token.{token_bytes, shown_token};
 ghost use Rattle.bwsh.specs.Words.{words_of};
 
@@ -43,7 +43,7 @@ pub fn batches_are_read_back()
 
 /// A batch prints the lines of its replies, in front of what the orders behind it print on what it leaves and its map. A flush prints
 /// the line of the sequence number that it leaves, as an upgrade does, a clean that of the head segment, and all three leave the map as
-/// it is. A verify prints the line of the report on the tree, and leaves all as it is.
+/// it is. A verify prints the line of the report on the tree, the order for the numbers their line, and both leave all as it is.
 pub fn each_order_prints_its_answer()
     ensures none { (settings : Settings) → (st : Store) → (shown : Reads) → (m : Pairs Bytes) → printed settings st shown m [] ≡ [] }
     ensures batch { (settings : Settings) → (st : Store) → (shown : Reads) → (m : Pairs Bytes) → (commands : List (Command Global)) → (rest : List Order) →
@@ -60,6 +60,8 @@ pub fn each_order_prints_its_answer()
         ++ printed settings (behind settings st (shown 0) Upgrade).0 (later shown) m rest }
     ensures verify { (settings : Settings) → (st : Store) → (shown : Reads) → (m : Pairs Bytes) → (rest : List Order) →
         printed settings st shown m (Verify ∷ rest) ≡ shown_report (report st.tree) ++ printed settings st (later shown) m rest }
+    ensures numbers { (settings : Settings) → (st : Store) → (shown : Reads) → (m : Pairs Bytes) → (rest : List Order) →
+        printed settings st shown m (Numbers ∷ rest) ≡ shown_numbers (numbers_of settings st) ++ printed settings st (later shown) m rest }
 {}
 
 /// Where all are batches, what is printed in all are an ordered map's replies to the commands that are ordered, one after the other: it

@@ -5,10 +5,12 @@ ghost use Rattle.std.specs.Io.KnownBytes.{Appends, Keeps};
 ghost use Rattle.keys.specs.Bytes.{Bytes};
 ghost use Rattle.engine.specs.Plays.{answer_of};
 ghost use Rattle.bwsh.specs.Session.{BeginsWith, Prints};
-ghost use Rattle.bwsh.specs.Shown.{shown_reply, shown_flushed, shown_cleaned, shown_upgraded, shown_report, shown_answer};
+ghost use Rattle.bwsh.specs.Shown.{shown_reply, shown_flushed, shown_cleaned, shown_upgraded, shown_report, shown_numbers, shown_answer};
 
 use crate::session::Ending;
-use crate::show::{show_cleaned, show_flushed, show_reply, show_report, show_upgraded};
+use crate::show::{
+    StoreNumbers, show_cleaned, show_flushed, show_numbers, show_reply, show_report, show_upgraded,
+};
 use engine::{Answer, Report};
 use keys::Reply;
 use std::alloc::{AllocError, Global};
@@ -108,6 +110,19 @@ pub(crate) fn write_report<O: Write>(
 {
     lines.clear();
     show_report(report, lines)?;
+    write_bytes(lines, out)
+}
+
+// Writes the line of the numbers, in the memory of `lines`.
+pub(crate) fn write_numbers<O: Write>(
+    numbers: &StoreNumbers,
+    lines: &mut Vec<u8>,
+    out: &mut O,
+) -> Result<(), Ending>
+    ensures { Prints (O.contents out.old) (O.contents out.new) (shown_numbers numbers.now ∷ []) (Ok tt) result }
+{
+    lines.clear();
+    show_numbers(numbers, lines)?;
     write_bytes(lines, out)
 }
 

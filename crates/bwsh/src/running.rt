@@ -2,19 +2,37 @@
 ghost use Rattle.std.specs.Prelude.{false, IsTrue, ◌≡◌, Some, IfOk, OnOk};
 ghost use Rattle.crew.specs.Crew.{is_crew};
 ghost use Rattle.engine.specs.Plays.{step_of};
-ghost use Rattle.bwsh.specs.Session.{RunsOn, RunsOrder, RunsFrom, Start, Opens, IsHonestStore, step_in};
+ghost use Rattle.verify.specs.Report.{report};
+ghost use Rattle.bwsh.specs.Session.{RunsOn, RunsOrder, RunsFrom, Start, Opens, IsHonestStore, step_in, numbers_of};
 
 use crate::batch_file::Order;
 use crate::notes::{Notes, Reasoned, Source};
 use crate::opening::store_fault;
-use crate::output::{flush, write_answers, write_report};
+use crate::output::{flush, write_answers, write_numbers, write_report};
 use crate::session::Ending;
+use crate::show::StoreNumbers;
 use cleaner::laws::a_clean_keeps_the_store;
 use climb_plan::laws::the_plan_holds_the_map_after_the_commands;
-use engine::{Crew, Disk, NoGate, Step, Store};
+use engine::{Crew, Disk, NoGate, Report, Step, Store};
 use std::alloc::Global;
 use std::io::Write;
 use std::thread::Threads;
+
+// The numbers of a store with this report on its tree.
+fn numbers_of<D: Disk>(store: &Store<D>, tree: &Report) -> StoreNumbers
+    requires { tree.now ≡ report store.now.store.tree }
+    ensures { result ≡ numbers_of store.now.settings store.now.store }
+{
+    StoreNumbers {
+        sequence: store.sequence(),
+        head: store.head(),
+        tail: store.tail(),
+        in_use: store.segments_in_use(),
+        segments: store.segments(),
+        pages: tree.pages,
+        pairs: tree.pairs,
+    }
+}
 
 // Plays a step, and writes what it answers.
 fn run_step<R: Threads + Sync, D: Disk, O: Write>(
@@ -78,6 +96,10 @@ fn run_order<R: AllocGlobal + Threads + Sync, D: Disk, O: Write>(
         Order::Verify => {
             let report = store.verify(rt)?;
             write_report(&report, lines, out)
+        }
+        Order::Numbers => {
+            let report = store.verify(rt)?;
+            write_numbers(&numbers_of(store, &report), lines, out)
         }
     }
 }

@@ -12,9 +12,9 @@ ghost use Rattle.keys.specs.declared.fault.Fault.TheVariants as faults;
 ghost use Rattle.bwsh.specs.declared.session.Ending.{Ending};
 ghost use Rattle.bwsh.specs.declared.session.Ending.TheVariants.{Device};
 ghost use Rattle.bwsh.specs.declared.session.Ending.TheVariants as endings;
-ghost use Rattle.bwsh.specs.BatchFile.{text_says, first_bad, orders_of, writes};
+ghost use Rattle.bwsh.specs.BatchFile.{text_says, first_bad, orders_of, with_numbers, writes};
 ghost use Rattle.bwsh.specs.Options.{Told, AsksFor, AsksForText, AsksToExplain, AreRefused, told_of};
-ghost use Rattle.bwsh.specs.Session.{status_of, status_of_end, ending_text, unread_text, version_text, ending_by, printed_by, BeginsWith, IsBegun, IsToldWith, IsReadEnding, IsForWords, Prints, PrintsOneText, Reads, Start, IsStart, IsShown, Answers, EndsBy, EndsTold};
+ghost use Rattle.bwsh.specs.Session.{status_of, status_of_end, ending_text, unread_text, version_text, ending_by, printed_by, session_orders, BeginsWith, IsBegun, IsToldWith, IsReadEnding, IsForWords, Prints, PrintsOneText, Reads, Start, IsStart, IsShown, Answers, EndsBy, EndsTold};
 
 use crate::batch_file::{Order, TextFault, parse};
 use crate::explain::explained;
@@ -26,7 +26,7 @@ use crate::output::{ask, flush, write_bytes};
 use crate::running::run_opened;
 use engine::{BadCrew, LockFile};
 use keys::Fault;
-use std::alloc::{AllocError, Global};
+use std::alloc::{AllocError, AllocFailed, Global};
 use std::fmt::{InlineText, Write as _};
 use std::io::{ErrorKind, Read, Write};
 use std::rt::Files;
@@ -90,6 +90,14 @@ impl From<AllocError> for Ending {
     }
 }
 
+impl<T: Drop> From<AllocFailed<T>> for Ending {
+    ghost from_gives = { λ _ ending. ending ≡ endings.Fault NoMemory };
+
+    fn from(_refused: AllocFailed<T>) -> Ending {
+        Ending::Fault(Fault::NoMemory)
+    }
+}
+
 impl From<Fault> for Ending {
     ghost from_gives = { λ fault ending. ending ≡ endings.Fault fault };
 
@@ -128,22 +136,26 @@ fn read_fault(error: io::Error) -> Ending
     }
 }
 
-// Reads all of the input, and returns the orders of its text.
+// Reads all of the input, and returns the orders of its text, and then the one to print the numbers, where it is asked for.
 fn read_orders<I: Read>(
     alloc: Global,
     input: &mut I,
+    numbers: bool,
     notes: &mut Notes,
 ) -> Result<Vec<Order>, Ending>
     ensures { (text : Bytes) × IfSome (I.remaining input.old) (λ known. text ≡ known)
-        × MatchResult result (λ orders. (first_bad 1 (text_says text) ≡ None) × (orders.items ≡ orders_of [] (text_says text))) (IsReadEnding (first_bad 1 (text_says text))) }
+        × MatchResult result (λ orders. (first_bad 1 (text_says text) ≡ None) × (orders.items ≡ with_numbers numbers (orders_of [] (text_says text)))) (IsReadEnding (first_bad 1 (text_says text))) }
 {
     let mut text = Vec::new(alloc);
     if let Err(error) = input.read_to_end(&mut text) {
         notes.failed(Source::Input, Some(error));
         return Err(read_fault(error));
     }
-    let orders = parse(alloc, &text)?;
+    let mut orders = parse(alloc, &text)?;
     notes.read(text);
+    if numbers {
+        orders.push(Order::Numbers)?;
+    }
     Ok(orders)
 }
 
@@ -178,7 +190,7 @@ where
     R::File: LockFile,
     ensures { Answers (told_of told.now) (I.remaining input.old) (O.contents out.old) (O.contents out.new) result }
 {
-    let orders = read_orders(rt.alloc(), input, notes)?;
+    let orders = read_orders(rt.alloc(), input, told.ways.stat, notes)?;
     ask(out)?;
     let crew = told.crew;
     crew.check()?;
@@ -368,14 +380,14 @@ where
     // anything.
     ensures done { result ≡ 0 → AsksForText (map string_bytes words.now) ⊎ ((told : Told) × AsksFor (map string_bytes words.now) told
         × IfSome (I.remaining input.old) (λ text. (first_bad 1 (text_says text) ≡ None)
-        × ((start : Start) × IsStart told start × IsOk start × (shown : Reads) × IsShown told start shown (orders_of [] (text_says text))
-        × Appends (O.contents out.old) (O.contents out.new) (printed_by start shown text)))) }
+        × ((start : Start) × IsStart told start × IsOk start × (shown : Reads) × IsShown told start shown (session_orders told text)
+        × Appends (O.contents out.old) (O.contents out.new) (printed_by start shown (session_orders told text))))) }
     ensures bad { result ≡ 3 → Appends (O.contents out.old) (O.contents out.new) []
         × IfSome (I.remaining input.old) (λ text. first_bad 1 (text_says text) ≢ None) }
     ensures beginning { AsksForText (map string_bytes words.now) ⊎ Appends (O.contents out.old) (O.contents out.new) []
         ⊎ ((told : Told) × AsksFor (map string_bytes words.now) told × IfSome (I.remaining input.old) (λ text. (start : Start) × IsStart told start
-        × (shown : Reads) × IsShown told start shown (orders_of [] (text_says text))
-        × ((front : Bytes) × BeginsWith (printed_by start shown text) front × Appends (O.contents out.old) (O.contents out.new) front))) }
+        × (shown : Reads) × IsShown told start shown (session_orders told text)
+        × ((front : Bytes) × BeginsWith (printed_by start shown (session_orders told text)) front × Appends (O.contents out.old) (O.contents out.new) front))) }
 
     // How it ends, and what is read and printed, is right for the words and the text but for memory and devices.
     // What goes to `err` is told of this end, or a beginning of it; and more only where the words ask to explain it.

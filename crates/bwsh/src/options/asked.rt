@@ -24,4 +24,6 @@ pub struct Ways {
     pub version: bool,
     /// Where the session ends early, a second line on standard error says where that came from, and what to do.
     pub explain: bool,
+    /// Where all orders are done, one more line has the numbers of the store.
+    pub stat: bool,
 }

@@ -20,4 +20,5 @@ returns c =
     let nine = rule_added _ _ _ _ _ c.in_ok-arg-9.ensures c.path.ensures.local eight c.path.ensures.rule in
     let ten = rule_added _ _ _ _ _ c.in_ok-arg-10.ensures c.flag.ensures.local nine c.flag.ensures.rule in
     let eleven = rule_added _ _ _ _ _ c.in_ok-arg-11.ensures c.flag-2.ensures.local ten c.flag-2.ensures.rule in
-    IfOk-weaker c.arg-12.result _ _ (λ _ added. rule_added _ _ _ _ _ added c.flag-3.ensures.local eleven c.flag-3.ensures.rule) c.arg-12.ensures
+    let twelve = rule_added _ _ _ _ _ c.in_ok-arg-12.ensures c.flag-3.ensures.local eleven c.flag-3.ensures.rule in
+    IfOk-weaker c.arg-13.result _ _ (λ _ added. rule_added _ _ _ _ _ added c.flag-4.ensures.local twelve c.flag-4.ensures.rule) c.arg-13.ensures
