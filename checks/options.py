@@ -99,7 +99,7 @@ EXPLAINED = [
         18 * LONG_PUT,
         None,
         b"fault 10 Full\n",
-        b"line 36: the log has no room for its flush; a line clean before it makes some, "
+        b"line 36: the log has no room for its flush; a line clean before it makes some, as --clean-when-full does, "
         b"unless all that the log holds is in use: then the store needs a larger log\n",
     ),
 ]
@@ -124,6 +124,7 @@ HELP = [
     b"--create replaces what stands",
     b"--explain",
     b"--stat",
+    b"--clean-when-full",
 ]
 
 
@@ -213,6 +214,32 @@ def numbers_of_a_file(programs: Programs) -> Outcome:
         return Outcome(differs(made, 0, b"") or differs(ran, 0, b"stat sequence 1 head 0 tail 33 segments 1 of 4 pages 1 pairs 0\n"))
 
 
+def roomy(programs: Programs) -> Outcome:
+    """The eighteenth flush would leave no segment free: one clean makes room. Cleans that are ordered are as ever."""
+    words = [programs.store, *SMALL, "--clean-when-full"]
+    out = b"new\nflushed 2\n" + b"".join(b"replaced\nflushed %d\n" % number for number in range(3, 19))
+    out += b"replaced\ncleaned 1\nflushed 20\nvalue 0123456789abcdef\n"
+    ordered = run(words, LOADED + b"clean\nclean\n")
+    wrong = differs(ordered, 4, LOADED_OUT + b"cleaned 1\n", b"fault 11 NothingToClean\n")
+    return Outcome(wrong or differs(run(words, 18 * LONG_PUT + b"get a\n"), 0, out))
+
+
+def roomy_for_long(programs: Programs) -> Outcome:
+    """The log is written over more than a hundred times. Each flush and each clean has a number of its own."""
+    text = 1_000 * (LONG_PUT + b"put b 0123456789abcdef\nflush\n")
+    ran = run([programs.store, *SMALL, "--clean-when-full"], text)
+    cleans, flushes = ran.out.count(b"cleaned "), ran.out.count(b"flushed ")
+    is_right = ran.status == 0 and not ran.err and cleans > 100 and flushes == 2_000
+    return Outcome(None if is_right and ran.out.endswith(b"\nflushed %d\n" % (cleans + 2_001)) else ran.told(), measured=f"{cleans} cleans")
+
+
+def too_small(programs: Programs) -> Outcome:
+    """Pairs that need five leaves, and so five segments of four: no clean makes room."""
+    puts = b"".join(b"put sixteen_bytes_%d sixteen_bytes_v1\n" % pair for pair in range(10, 30))
+    ran = run([programs.store, *SMALL, "--clean-when-full"], puts + b"flush\nget a\n")
+    return Outcome(differs(ran, 4, 20 * b"new\n", b"fault 10 Full\n"))
+
+
 def cases(programs: Programs) -> list[Case]:
     return [
         Case("prints the version", version, (programs,)),
@@ -222,4 +249,7 @@ def cases(programs: Programs) -> list[Case]:
         Case("explains streams", explained_streams, (programs,)),
         Case("prints numbers", numbers, (programs,)),
         Case("prints numbers of a file that is shared", numbers_of_a_file, (programs,)),
+        Case("cleans a full log", roomy, (programs,)),
+        Case("cleans a log for long", roomy_for_long, (programs,)),
+        Case("can't clean what lives", too_small, (programs,)),
     ]

@@ -86,7 +86,7 @@ module _ (settings : Settings) (st : Store) (f g : List ℕ) where
   step-same (Some y) same = left-same st f g (stepped f y) (stepped g y) (same y refl)
 
   -- an order that is no clean leaves the same store, and is refused for the same reason
-  behind-same : (order : Order) → IsNoClean order → ((behind settings st f order).0 ≡ (behind settings st g order).0) × (refusal_of settings st f order ≡ refusal_of settings st g order)
+  pub behind-same : (order : Order) → IsNoClean order → ((behind settings st f order).0 ≡ (behind settings st g order).0) × (refusal_of settings st f order ≡ refusal_of settings st g order)
   unfolding behind refusal_of
   behind-same order only = step-same (step_in order) (order-same order only)
 

@@ -23,14 +23,14 @@ use Rattle.bwsh.specs.declared.batch_file.Order.{Order}
 use Rattle.bwsh.specs.declared.session.Ending.{Ending}
 use Rattle.bwsh.specs.declared.session.Ending.TheVariants.{Words, Bad, Device}
 use Rattle.bwsh.specs.declared.session.Ending.TheVariants as endings
-use Rattle.bwsh.specs.BatchFile.{text_says, first_bad}
-use Rattle.bwsh.specs.Session.{status_of_end, Reads, later, Start, IsStart, IsStartBy, IsShown, AreLeft, AreLeftFrom, new_start, found_start, refusal_of, behind, map_behind, own_lines, answer_lines, printed, printed_by, accepted, orders_end, first_refusal, stopped_by, end_after, lines_after, session_orders, session_end, session_lines, version_text, IsReadEnding, IsUnopened, IsHonestStore, Opens, IsForWords, BeginsWith, Prints, PrintsOneText, Runs, RunsOn, RunsFrom, Answers, EndsBy}
+use Rattle.bwsh.specs.BatchFile.{text_says, first_bad, orders_of, with_numbers}
+use Rattle.bwsh.specs.Session.{status_of_end, Reads, later, Start, IsStart, IsStartBy, IsShown, AreLeft, AreLeftFrom, new_start, found_start, refusal_of, behind, map_behind, own_lines, answer_lines, printed, printed_by, accepted, orders_end, first_refusal, stopped_by, end_after, lines_after, run_from, run_of, session_orders, session_end, session_lines, version_text, IsReadEnding, IsUnopened, IsHonestStore, Opens, IsForWords, BeginsWith, Prints, PrintsOneText, Runs, RunsOn, RunsFrom, Answers, EndsBy}
 use Rattle.bwsh.specs.Options.{Told, AsksFor, AsksForText, AsksToExplain, AreRefused, is_refusal, IsRightKind, told_of}
 use Rattle.bwsh.specs.declared.options.asked.Options.{Options}
 use Rattle.clap.specs.declared.error.kind.ErrorKind.{ErrorKind}
 use Rattle.clap.specs.declared.error.kind.ErrorKind.TheVariants.{DisplayHelp, OutOfMemory}
-use Rattle.bwsh.proofs.Prints.{front-more, front-trans, front-flat, Prints-front, Prints-flushed, IfSome-known}
-use Rattle.bwsh.proofs.RunLemmas.{left_shown, AreLeft-left_shown}
+use Rattle.bwsh.proofs.Prints.{front-more, front-trans, front-flat, Prints-asked, Prints-front, Prints-flushed, IfSome-known}
+use Rattle.bwsh.proofs.FirstLemmas.{leave}
 use Rattle.clap.specs.declared.error.Error.{Error}
 
 -- ---- a session that ends before any order is run
@@ -40,14 +40,10 @@ pub IsReadEnding-of_fault : (bad : Option (ℕ × Why)) (early : Ending) → (ea
 IsReadEnding-of_fault bad early (inl e) = rw e refl
 IsReadEnding-of_fault bad early (inr e) = rw e tt
 
--- what was left from this start
-abbrev left_from : Start → List Order → Reads
-left_from (Ok p) orders = left_shown p.0 p.1.0 p.1.1 orders
-left_from (Err fault) orders = λ i. []
-
-AreLeftFrom-left_from : (start : Start) (orders : List Order) → AreLeftFrom start (left_from start orders) orders
-AreLeftFrom-left_from (Ok p) orders = AreLeft-left_shown p.0 p.1.0 p.1.1 orders
-AreLeftFrom-left_from (Err fault) orders = tt
+-- some reads show what was left from this start
+leave_from : (cleans : Bool) (start : Start) (orders : List Order) → (shown : Reads) × AreLeftFrom start shown (run_from cleans start shown orders)
+leave_from cleans (Ok p) orders = leave cleans p.0 orders p.1.0 p.1.1
+leave_from cleans (Err fault) orders = (λ i. [], tt)
 
 module _ (old : Option (List ℕ)) (start : Start) (shown : Reads) (orders : List Order) where
   Prints-unread : (bad : Option (ℕ × Why)) (early : Ending) → IsReadEnding bad early
@@ -65,29 +61,29 @@ module _ (old : Option (List ℕ)) (start : Start) (shown : Reads) (orders : Lis
   Prints-unopened early (inr (inr e)) =
       inr (inr (ap (λ (x : Ending). Err x) e, ([], (flat (lines_after None start shown orders), refl), Appends-nil old)))
 
-module _ (old : Option (List ℕ)) (start : Start) (orders : List Order) {D : Type 0} (view : D → View) (opened : Result (State D) Ending) (opens : Opens view start opened) where
+module _ (old : Option (List ℕ)) (cleans : Bool) (start : Start) (orders : List Order) {D : Type 0} (view : D → View) (opened : Result (State D) Ending) (opens : Opens view start opened) where
   -- there is no store
-  pub RunsFrom-unopened : (early : Ending) → opened ≡ Err early → RunsFrom (IsHonestStore view opened) start orders old old (Err early)
+  pub RunsFrom-unopened : (early : Ending) → opened ≡ Err early → RunsFrom cleans (IsHonestStore view opened) start orders old old (Err early)
   unfolding RunsFrom
   RunsFrom-unopened early e =
-      let shown : Reads = left_from start orders in
-      (shown, λ h. AreLeftFrom-left_from start orders, Prints-unopened old start shown orders early (subst (Opens view start) e opens))
+      let (shown, are) = leave_from cleans start orders in
+      (shown, λ h. are, Prints-unopened old start shown (run_from cleans start shown orders) early (subst (Opens view start) e opens))
 
   -- there is one: the orders are run on it
   pub RunsFrom-opened : (x : State D) (mid new : Option (List ℕ)) (done end : Result (Unit {0}) Ending) → opened ≡ Ok x
-      → RunsOn (view x.disk).is_honest x.settings x.store (view x.disk).seen orders old mid done → Keeps mid new → (end ≡ done) ⊎ (end ≡ Err Device)
-      → RunsFrom (IsHonestStore view opened) start orders old new end
+      → RunsOn cleans (view x.disk).is_honest x.settings x.store (view x.disk).seen orders old mid done → Keeps mid new → (end ≡ done) ⊎ (end ≡ Err Device)
+      → RunsFrom cleans (IsHonestStore view opened) start orders old new end
   unfolding RunsFrom Runs
   RunsFrom-opened x mid new done end e (shown, are, runs) kept ended =
       let (file, start_is, seen_is) = subst (Opens view start) e opens in
-      let is_left : IsHonestStore view opened → AreLeft x.settings x.store file shown orders = λ honest.
+      let is_left : IsHonestStore view opened → AreLeft x.settings x.store file shown (run_of cleans x.settings x.store shown orders) = λ honest.
       let h : IsTrue (view x.disk).is_honest = subst (IsHonestStore view) e honest in
-      subst (λ (f : List ℕ). AreLeft x.settings x.store f shown orders) (seen_is h) (are h) in
+      subst (λ (f : List ℕ). AreLeft x.settings x.store f shown (run_of cleans x.settings x.store shown orders)) (seen_is h) (are h) in
       rw start_is (
         shown,
         is_left,
-        Prints-flushed old mid new (lines_after None (Ok (x.settings, (x.store, file))) shown orders)
-            (end_after None (Ok (x.settings, (x.store, file))) shown orders) done end runs kept ended,
+        Prints-flushed old mid new (lines_after None (Ok (x.settings, (x.store, file))) shown (run_of cleans x.settings x.store shown orders))
+            (end_after None (Ok (x.settings, (x.store, file))) shown (run_of cleans x.settings x.store shown orders)) done end runs kept ended,
       )
 
 -- what is told has some right start
@@ -142,9 +138,8 @@ module _ (told : Told) (known old : Option (List ℕ)) (text : List ℕ) (is_kno
   unfolding Answers
   Answers-unread early h =
       let (start, is) = start_of (is_crew told.crew) told.settings told.disk told.create in
-      let orders : List Order = session_orders told text in
-      let shown : Reads = left_from start orders in
-      (text, is_known, start, is, shown, λ memory. AreLeftFrom-left_from start orders, Prints-unread old start shown orders (first_bad 1 (text_says text)) early h)
+      let (shown, are) = leave_from told.ways.clean_when_full start (with_numbers told.ways.stat (orders_of [] (text_says text))) in
+      (text, is_known, start, is, shown, λ memory. are, Prints-unread old start shown (session_orders told start shown text) (first_bad 1 (text_says text)) early h)
 
   -- the crew is out of range: nothing is run
   pub Answers-no_crew : is_crew told.crew ≡ false → first_bad 1 (text_says text) ≡ None → Answers told known old old (Err (endings.Fault BadCrew))
@@ -154,27 +149,20 @@ module _ (told : Told) (known old : Option (List ℕ)) (text : List ℕ) (is_kno
       let is : IsStart told start = at_false (is_crew told.crew) (IsStartBy told.settings told.disk told.create start) (start ≡ Err BadCrew) out_of_range refl in
       (text, is_known, start, is, λ i. [], λ memory. tt, rw no_bad (inl (refl, Appends-nil old)))
 
-  pub Answers-run : (new : Option (List ℕ)) (end : Result (Unit {0}) Ending) (ran items : List Order) → first_bad 1 (text_says text) ≡ None → ran ≡ items → items ≡ session_orders told text
-      → (start : Start) → IsStart told start → (IsHonest : Type 0) → (told.disk ≡ None → IsHonest) → RunsFrom IsHonest start ran old new end → Answers told known old new end
+  pub Answers-run : (new : Option (List ℕ)) (end : Result (Unit {0}) Ending) (ran items : List Order) → first_bad 1 (text_says text) ≡ None → ran ≡ items
+      → items ≡ with_numbers told.ways.stat (orders_of [] (text_says text)) → (start : Start) → IsStart told start → (IsHonest : Type 0) → (told.disk ≡ None → IsHonest)
+      → RunsFrom told.ways.clean_when_full IsHonest start ran old new end → Answers told known old new end
   unfolding Answers RunsFrom
   Answers-run new end ran items no_bad e_ran e_items start is IsHonest honest p =
-      let (shown, are, run) = subst (λ (os : List Order). RunsFrom IsHonest start os old new end) (e_ran ∙ e_items) p in
+      let (shown, are, run) = subst (λ (os : List Order). RunsFrom told.ways.clean_when_full IsHonest start os old new end) (e_ran ∙ e_items) p in
       (text, is_known, start, is, shown, λ memory. are (honest memory), rw no_bad run)
 
--- an output to which nothing was appended first
-module _ (old mid new : Option (List ℕ)) (asked : Appends old mid []) where
-  after_nothing : (bs : List ℕ) → Appends mid new bs → Appends old new bs
-  after_nothing bs a = Appends-trans old mid new [] bs asked a
-
-  Prints-asked : (lines : List (List ℕ)) (right end : Result (Unit {0}) Ending) → Prints mid new lines right end → Prints old new lines right end
-  Prints-asked lines right end (inl (e, a)) = inl (e, after_nothing (flat lines) a)
-  Prints-asked lines right end (inr (inl (e, (front, begins, a)))) = inr (inl (e, (front, begins, after_nothing (flat front) a)))
-  Prints-asked lines right end (inr (inr (e, (front, begins, a)))) = inr (inr (e, (front, begins, after_nothing front a)))
-
-  pub Answers-asked : (told : Told) (known : Option (List ℕ)) (end : Result (Unit {0}) Ending) → Answers told known mid new end → Answers told known old new end
-  unfolding Answers
-  Answers-asked told known end (text, is_known, start, is, shown, is_shown, p) =
-      (text, is_known, start, is, shown, is_shown, Prints-asked (session_lines told start shown text) (session_end told start shown text) end p)
+-- nothing was appended first
+pub Answers-asked : (old mid new : Option (List ℕ)) → Appends old mid [] → (told : Told) (known : Option (List ℕ)) (end : Result (Unit {0}) Ending) → Answers told known mid new end
+    → Answers told known old new end
+unfolding Answers
+Answers-asked old mid new asked told known end (text, is_known, start, is, shown, is_shown, p) =
+    (text, is_known, start, is, shown, is_shown, Prints-asked old mid new asked (session_lines told start shown text) (session_end told start shown text) end p)
 
 -- another crew that is in range where this one is
 pub Answers-crew : (told : Told) (crew : Crew) → is_crew crew ≡ is_crew told.crew → (known old new : Option (List ℕ)) (end : Result (Unit {0}) Ending)
@@ -266,14 +254,14 @@ module _ (ordered : List Order) where
 -- all that the text orders is printed, from a right start that has a store
 abbrev IsDoneOn : Told → Option (List ℕ) → Option (List ℕ) → List ℕ → Type 0
 IsDoneOn told old new text =
-    (first_bad 1 (text_says text) ≡ None) × ((start : Start) × IsStart told start × IsOk start × (shown : Reads) × IsShown told start shown (session_orders told text)
-    × Appends old new (printed_by start shown (session_orders told text)))
+    (first_bad 1 (text_says text) ≡ None) × ((start : Start) × IsStart told start × IsOk start × (shown : Reads) × IsShown told start shown (session_orders told start shown text)
+    × Appends old new (printed_by start shown (session_orders told start shown text)))
 
 -- a beginning of it is
 abbrev HasBegunOn : Told → Option (List ℕ) → Option (List ℕ) → List ℕ → Type 0
 HasBegunOn told old new text =
-    (start : Start) × IsStart told start × (shown : Reads) × IsShown told start shown (session_orders told text)
-    × ((front : List ℕ) × BeginsWith (printed_by start shown (session_orders told text)) front × Appends old new front)
+    (start : Start) × IsStart told start × (shown : Reads) × IsShown told start shown (session_orders told start shown text)
+    × ((front : List ℕ) × BeginsWith (printed_by start shown (session_orders told start shown text)) front × Appends old new front)
 
 module _ (told : Told) (known old new : Option (List ℕ)) where
   told_done : (done : Unit {0}) → Answers told known old new (Ok done) → IfSome known (IsDoneOn told old new)
@@ -282,7 +270,7 @@ module _ (told : Told) (known old new : Option (List ℕ)) where
       IfSome-known known text (IsDoneOn told old new) is_known (by p) where
         by : Prints old new (session_lines told start shown text) (session_end told start shown text) (Ok done) → IsDoneOn told old new text
         by (inl (e, a)) =
-            let (none, opened, lines) = done_right (session_orders told text) shown (first_bad 1 (text_says text)) start done e in
+            let (none, opened, lines) = done_right (session_orders told start shown text) shown (first_bad 1 (text_says text)) start done e in
             (none, (start, is, opened, shown, is_shown, subst (λ (l : List ℕ). Appends old new l) lines a))
         by (inr (inl (e, q))) = absurd (cc)
         by (inr (inr (e, q))) = absurd (cc)
@@ -292,14 +280,14 @@ module _ (told : Told) (known old new : Option (List ℕ)) where
   told_bad line why (text, is_known, start, is, shown, is_shown, p) = by p where
     by : Prints old new (session_lines told start shown text) (session_end told start shown text) (Err (Bad line why)) → Appends old new [] × IfSome known (λ t. first_bad 1 (text_says t) ≢ None)
     by (inl (e, a)) =
-        let (some, lines) = bad_right (session_orders told text) shown (first_bad 1 (text_says text)) start line why e in
+        let (some, lines) = bad_right (session_orders told start shown text) shown (first_bad 1 (text_says text)) start line why e in
         (subst (λ (l : List (List ℕ)). Appends old new (flat l)) lines a, IfSome-known known text (λ (t : List ℕ). first_bad 1 (text_says t) ≢ None) is_known some)
     by (inr (inl (e, q))) = absurd (cc)
     by (inr (inr (e, q))) = absurd (cc)
 
   told_words : (error : Error) → Answers told known old new (Err (Words error)) → ⊥
   unfolding Answers
-  told_words error (text, is_known, start, is, shown, is_shown, inl (e, a)) = words_right (session_orders told text) shown (first_bad 1 (text_says text)) start error e
+  told_words error (text, is_known, start, is, shown, is_shown, inl (e, a)) = words_right (session_orders told start shown text) shown (first_bad 1 (text_says text)) start error e
   told_words error (text, is_known, start, is, shown, is_shown, inr (inl (e, q))) = cc
   told_words error (text, is_known, start, is, shown, is_shown, inr (inr (e, q))) = cc
 
@@ -307,7 +295,7 @@ module _ (told : Told) (known old new : Option (List ℕ)) where
   unfolding Answers
   told_front end (text, is_known, start, is, shown, is_shown, p) =
       let (front, begins, a) = Prints-front old new (session_lines told start shown text) (session_end told start shown text) end p in
-      let whole = front-trans (printed_by start shown (session_orders told text)) (flat (session_lines told start shown text)) front (front_right (session_orders told text) shown (first_bad 1 (text_says text)) start) begins in
+      let whole = front-trans (printed_by start shown (session_orders told start shown text)) (flat (session_lines told start shown text)) front (front_right (session_orders told start shown text) shown (first_bad 1 (text_says text)) start) begins in
       IfSome-known known text (HasBegunOn told old new) is_known (start, is, shown, is_shown, (front, whole, a))
 
 -- ---- what follows of any session

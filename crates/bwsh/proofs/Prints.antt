@@ -100,6 +100,16 @@ Prints-device old mid new lines right end p k =
     let (front, begins, b) = Prints-front old mid lines right end p in
     inr (inr (refl, (front, begins, Appends-kept old mid new front b k)))
 
+-- an output to which nothing was appended first
+module _ (old mid new : Option (List ℕ)) (asked : Appends old mid []) where
+  after_nothing : (bs : List ℕ) → Appends mid new bs → Appends old new bs
+  after_nothing bs a = Appends-trans old mid new [] bs asked a
+
+  pub Prints-asked : (lines : List (List ℕ)) (right end : Result (Unit {0}) Ending) → Prints mid new lines right end → Prints old new lines right end
+  Prints-asked lines right end (inl (e, a)) = inl (e, after_nothing (flat lines) a)
+  Prints-asked lines right end (inr (inl (e, (front, begins, a)))) = inr (inl (e, (front, begins, after_nothing (flat front) a)))
+  Prints-asked lines right end (inr (inr (e, (front, begins, a)))) = inr (inr (e, (front, begins, after_nothing front a)))
+
 -- all is done, so all was printed
 pub Prints-all : (old new : Option (List ℕ)) (lines : List (List ℕ)) (right : Result (Unit {0}) Ending) (done : Unit {0})
     → Prints old new lines right (Ok done) → Appends old new (flat lines)

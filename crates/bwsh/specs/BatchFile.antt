@@ -63,6 +63,11 @@ writes Upgrade = true
 writes Verify = false
 writes Numbers = false
 
+-- the order is a flush
+abbrev pub is_flush : Order → Bool
+is_flush Flush = true
+is_flush _ = false
+
 -- the order is a batch
 abbrev pub IsBatch : Order → Type 0
 IsBatch (Batch commands) = ⊤
@@ -76,6 +81,11 @@ IsBatch Numbers = ⊥
 abbrev pub IsNoClean : Order → Type 0
 IsNoClean Clean = ⊥
 IsNoClean _ = ⊤
+
+-- the same as a test
+abbrev pub cleans_nothing : Order → Bool
+cleans_nothing Clean = false
+cleans_nothing _ = true
 
 -- the line orders nothing but batches
 abbrev pub IsForBatches : Says → Type 0

@@ -37,7 +37,7 @@ takes_text name = takes_number name || bytes_eq (codes "disk") name
 
 -- the options that take nothing
 abbrev pub flag_names : List Text
-flag_names = codes "create" ∷ codes "version" ∷ codes "explain" ∷ codes "stat" ∷ []
+flag_names = codes "create" ∷ codes "version" ∷ codes "explain" ∷ codes "stat" ∷ codes "clean-when-full" ∷ []
 
 -- the option takes nothing
 abbrev pub takes_nothing : Text → Bool
@@ -159,7 +159,12 @@ disk_of given = option_map (λ g. g.1) (find (λ g. bytes_eq g.0 (codes "disk"))
 
 -- the ways of what was given
 abbrev pub ways_of : Given → Ways
-ways_of given = record { version = is_given (codes "version") given; explain = is_given (codes "explain") given; stat = is_given (codes "stat") given }
+ways_of given = record {
+  version = is_given (codes "version") given;
+  explain = is_given (codes "explain") given;
+  stat = is_given (codes "stat") given;
+  clean_when_full = is_given (codes "clean-when-full") given;
+}
 
 -- what words ask for: the six settings, the crew, the file in which the store is, if it is in one, whether that file is made anew, and in
 -- which ways the session differs from a plain one

@@ -1,5 +1,5 @@
 -- What a session starts on, what it runs and prints, and how it ends.
-use Rattle.std.specs.Prelude.{◌≡◌, ◌⊎◌, ◌+◌, ◌-◌, ℕ, suc, Bool, true, false, IsTrue, ⊤, List, [], ◌∷◌, ◌++◌, map, is_some, codes, replicate, if◌then◌else◌, Option, Some, None, IfSome, Result, Ok, Err, IfOk, OnOk}
+use Rattle.std.specs.Prelude.{◌≡◌, ◌⊎◌, ◌+◌, ◌-◌, ◌&&◌, ℕ, zero, suc, Bool, not, true, false, IsTrue, ⊤, List, [], ◌∷◌, ◌++◌, map, is_some, codes, replicate, if◌then◌else◌, Option, Some, None, IfSome, Result, Ok, Err, IfOk, OnOk}
 use Rattle.std.specs.Bool.{MatchBool}
 use Rattle.std.specs.Option.{option_map, option_or}
 use Rattle.std.specs.Fmt.{decimal}
@@ -13,7 +13,7 @@ use Rattle.keys.specs.Step.{replies_to, map_after_all}
 use Rattle.keys.specs.declared.settings.Settings.{Settings}
 use Rattle.keys.specs.declared.settings.Field.{Field}
 use Rattle.keys.specs.declared.fault.Fault.{Fault}
-use Rattle.keys.specs.declared.fault.Fault.TheVariants.{BadCrew, BadSettings, NoMemory}
+use Rattle.keys.specs.declared.fault.Fault.TheVariants.{BadCrew, BadSettings, Full, NoMemory, NothingToClean}
 use Rattle.mapping.specs.Tree.{Store}
 use Rattle.mapping.specs.Levels.{contents}
 use Rattle.verify.specs.Report.{report}
@@ -220,6 +220,43 @@ accepted settings st shown (order ∷ rest) =
     if is_some (refusal_of settings st (shown 0) order) then []
     else order ∷ accepted settings (behind settings st (shown 0) order).0 (later shown) rest
 
+-- it is refused since the log is full
+abbrev pub is_full : Option Fault → Bool
+is_full (Some Full) = true
+is_full _ = false
+
+-- it is refused since there is nothing to clean
+abbrev pub is_clean : Option Fault → Bool
+is_clean (Some NothingToClean) = true
+is_clean _ = false
+
+-- a flush of a store, whose disk shows these bytes, takes a clean in front of it: the log is full, and there is something to clean
+abbrev pub wants_clean : Settings → Store → Bytes → Bool
+wants_clean settings st file = is_full (refusal_of settings st file Flush) && not (is_clean (refusal_of settings st file Clean))
+
+-- a flush with as many cleans in front of it as it takes, at most this number, and then what is run on what they leave
+abbrev pub flush_with_room : ℕ → Settings → Store → Reads → (Store → Reads → List Order) → List Order
+flush_with_room zero settings st shown next = Flush ∷ next (behind settings st (shown 0) Flush).0 (later shown)
+flush_with_room (suc most) settings st shown next =
+    if wants_clean settings st (shown 0) then Clean ∷ flush_with_room most settings (behind settings st (shown 0) Clean).0 (later shown) next
+    else Flush ∷ next (behind settings st (shown 0) Flush).0 (later shown)
+
+-- orders with the cleans among them that make room for their flushes: in front of each as many as it takes, at most one a segment
+abbrev pub with_cleans : Settings → Store → Reads → List Order → List Order
+with_cleans settings st shown [] = []
+with_cleans settings st shown (Flush ∷ rest) = flush_with_room settings.segments settings st shown (λ now reads. with_cleans settings now reads rest)
+with_cleans settings st shown (order ∷ rest) = order ∷ with_cleans settings (behind settings st (shown 0) order).0 (later shown) rest
+
+-- what is run of orders: themselves; or, where a flush makes itself room, with these cleans among them
+abbrev pub run_of : Bool → Settings → Store → Reads → List Order → List Order
+run_of false settings st shown orders = orders
+run_of true settings st shown orders = with_cleans settings st shown orders
+
+-- the same from this start
+abbrev pub run_from : Bool → Start → Reads → List Order → List Order
+run_from cleans (Ok p) shown orders = run_of cleans p.0 p.1.0 shown orders
+run_from cleans (Err fault) shown orders = orders
+
 -- the disk shows what was left, before each of these orders: these bytes before the first
 abbrev pub AreLeft : Settings → Store → Bytes → Reads → List Order → Type 0
 AreLeft settings st file shown [] = ⊤
@@ -257,17 +294,18 @@ lines_after (Some bad) start shown orders = []
 lines_after None (Err fault) shown orders = []
 lines_after None (Ok p) shown orders = answer_lines p.0 p.1.0 shown (contents p.1.0.tree) (accepted p.0 p.1.0 shown orders)
 
--- the orders of a session on this text: what its lines order, and then the numbers, where the words ask for them
-abbrev pub session_orders : Told → Bytes → List Order
-session_orders told text = with_numbers told.ways.stat (orders_of [] (text_says text))
+-- the orders of a session on this text that starts so: what its lines order, and then the numbers, where the words ask for them; and among
+-- them the cleans that make room for flushes, where they ask for these
+abbrev pub session_orders : Told → Start → Reads → Bytes → List Order
+session_orders told start shown text = run_from told.ways.clean_when_full start shown (with_numbers told.ways.stat (orders_of [] (text_says text)))
 
 -- how a session on this text ends by its right
 abbrev pub session_end : Told → Start → Reads → Bytes → Result (Unit {0}) Ending
-session_end told start shown text = end_after (first_bad 1 (text_says text)) start shown (session_orders told text)
+session_end told start shown text = end_after (first_bad 1 (text_says text)) start shown (session_orders told start shown text)
 
 -- the lines that a session on this text prints by its right
 abbrev pub session_lines : Told → Start → Reads → Bytes → List Bytes
-session_lines told start shown text = lines_after (first_bad 1 (text_says text)) start shown (session_orders told text)
+session_lines told start shown text = lines_after (first_bad 1 (text_says text)) start shown (session_orders told start shown text)
 
 -- a session whose text has this first bad line, if it has one, can end so before anything is run
 abbrev pub IsReadEnding : Option (ℕ × Why) → Ending → Type 0
@@ -306,10 +344,12 @@ Runs settings st shown orders old new end =
     Prints old new (answer_lines settings st shown (contents st.tree) (accepted settings st shown orders))
     (orders_end settings st shown orders) end
 
--- so it is where the disk shows some bytes before each: if it is honest, what was left, and these before the first
-abbrev pub RunsOn : Bool → Settings → Store → Bytes → List Order → Option Bytes → Option Bytes → Result (Unit {0}) Ending → Type 0
-RunsOn honest settings st left orders old new end =
-    (shown : Reads) × (IsTrue honest → AreLeft settings st left shown orders) × Runs settings st shown orders old new end
+-- so it is where flushes make themselves room or don't, and the disk shows some bytes before each that is run: if it is honest, what was
+-- left, and these before the first
+abbrev pub RunsOn : Bool → Bool → Settings → Store → Bytes → List Order → Option Bytes → Option Bytes → Result (Unit {0}) Ending → Type 0
+RunsOn cleans honest settings st left orders old new end =
+    (shown : Reads) × (IsTrue honest → AreLeft settings st left shown (run_of cleans settings st shown orders))
+    × Runs settings st shown (run_of cleans settings st shown orders) old new end
 
 -- the order is accepted, where the disk shows these bytes, and leaves this store, with its map; and on an honest disk these bytes
 pub record LeavesStored (honest : Bool) (settings : Settings) (st : Store) (file : Bytes) (order : Order) (now : Store) (left : Bytes) : Type 0 where
@@ -325,12 +365,21 @@ RunsOrder honest settings st left order old new end now bytes =
     (file : Bytes) × (IsTrue honest → file ≡ left) × Runs settings st (λ i. file) (order ∷ []) old new end
     × OnOk end (LeavesStored honest settings st file order now bytes)
 
--- what these orders print from this start, and how they end, is right but for memory and devices, where the disk shows some bytes
--- before each: what was left, where it is honest
-unfoldable pub RunsFrom : Type 0 → Start → List Order → Option Bytes → Option Bytes → Result (Unit {0}) Ending → Type 0
-RunsFrom IsHonest start orders old new end =
-    (shown : Reads) × (IsHonest → AreLeftFrom start shown orders)
-    × Prints old new (lines_after None start shown orders) (end_after None start shown orders) end
+-- What these orders print, and how they end, is right in front of any others that are run next: all of them are done, and the others go on
+-- with this store and, on an honest disk, these bytes; or they stop early, and so do all.
+abbrev pub RunsFirst : Bool → Bool → Settings → Store → Bytes → List Order → Option Bytes → Option Bytes → Result (Unit {0}) Ending → Store → Bytes → Type 0
+RunsFirst cleans honest settings st left orders old new (Ok done) now bytes =
+    (rest : List Order) (last : Option Bytes) (end : Result (Unit {0}) Ending) → RunsOn cleans honest settings now bytes rest new last end
+    → RunsOn cleans honest settings st left (orders ++ rest) old last end
+RunsFirst cleans honest settings st left orders old new (Err early) now bytes =
+    (rest : List Order) → RunsOn cleans honest settings st left (orders ++ rest) old new (Err early)
+
+-- what these orders print from this start, and how they end, is right but for memory and devices, where flushes make themselves room or
+-- don't, and the disk shows some bytes before each that is run: what was left, where it is honest
+unfoldable pub RunsFrom : Bool → Type 0 → Start → List Order → Option Bytes → Option Bytes → Result (Unit {0}) Ending → Type 0
+RunsFrom cleans IsHonest start orders old new end =
+    (shown : Reads) × (IsHonest → AreLeftFrom start shown (run_from cleans start shown orders))
+    × Prints old new (lines_after None start shown (run_from cleans start shown orders)) (end_after None start shown (run_from cleans start shown orders)) end
 
 -- a session that starts so can end so before anything is run
 abbrev pub IsUnopened : Start → Ending → Type 0
@@ -352,7 +401,7 @@ IsHonestStore view opened = IfOk opened (λ x. IsTrue (view x.disk).is_honest)
 unfoldable pub Answers : Told → Option Bytes → Option Bytes → Option Bytes → Result (Unit {0}) Ending → Type 0
 Answers told known old new end =
     (text : Bytes) × IfSome known (λ bytes. text ≡ bytes) × (start : Start) × IsStart told start
-    × (shown : Reads) × IsShown told start shown (session_orders told text)
+    × (shown : Reads) × IsShown told start shown (session_orders told start shown text)
     × Prints old new (session_lines told start shown text) (session_end told start shown text) end
 
 -- a text is printed, but for memory and devices

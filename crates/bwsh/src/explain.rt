@@ -76,7 +76,7 @@ fn of_order(
         )?,
         Fault::Full => format!(in alloc;
             "line {end}: the log has no room for its flush; a line clean before it makes some, \
-            unless all that the log holds is in use: then the store needs a larger log\n"
+            as --clean-when-full does, unless all that the log holds is in use: then the store needs a larger log\n"
         )?,
         Fault::NothingToClean => format!(in alloc;
             "line {end}: the log is in one segment, so there is nothing to clean\n"

@@ -1,5 +1,5 @@
 //! What the definitions of `specs/` mean. Each law is the contract of a function with an empty body.
-ghost use Rattle.std.specs.Prelude.{◌≡◌, ◌<◌, ◌≤◌, false, List, [], ◌∷◌, ◌++◌, map, Option, Some, Result, Err};
+ghost use Rattle.std.specs.Prelude.{◌≡◌, ◌<◌, ◌≤◌, false, List, [], ◌∷◌, ◌++◌, filter, map, Option, Some, Result, Err};
 ghost use Rattle.std.specs.List.{All, flat_map};
 ghost use Rattle.std.specs.declared.alloc.Global.{Global};
 ghost use Rattle.crew.specs.Crew.{is_crew};
@@ -15,9 +15,9 @@ ghost use Rattle.bwsh.specs.declared.batch_file.Order.{Order};
 ghost use Rattle.bwsh.specs.declared.batch_file.Order.TheVariants.{Batch, Flush, Clean, Upgrade, Verify, Numbers};
 ghost use Rattle.bwsh.specs.declared.line.Says.{Says};
 ghost use Rattle.bwsh.specs.declared.session.Ending.{Ending};
-ghost use Rattle.bwsh.specs.BatchFile.{orders_of, commands_of, commands_said, batch_lines, IsBatch, IsForBatches, IsNoClean};
+ghost use Rattle.bwsh.specs.BatchFile.{orders_of, commands_of, commands_said, batch_lines, IsBatch, IsForBatches, IsNoClean, cleans_nothing};
 ghost use Rattle.bwsh.specs.Options.{Told};
-ghost use Rattle.bwsh.specs.Session.{Answers, AreLeft, IsStart, Reads, Start, accepted, answer_lines, behind, later, numbers_of, orders_end, printed};
+ghost use Rattle.bwsh.specs.Session.{Answers, AreLeft, IsStart, Reads, Start, accepted, answer_lines, behind, later, numbers_of, orders_end, printed, with_cleans};
 ghost use Rattle.bwsh.specs.Shown.{shown_reply, shown_flushed, shown_cleaned, shown_upgraded, shown_report, shown_numbers};
 ghost use Rattle.bwsh.specs.Token.{token_bytes, shown_token};
 ghost use Rattle.bwsh.specs.Words.{words_of};
@@ -99,6 +99,15 @@ pub fn what_was_left_decides_the_answers()
         orders_end settings st shown orders ≡ orders_end settings st other orders }
     ensures some { (settings : Settings) → (st : Store) → (file : Bytes) → (orders : List Order) →
         (shown : Reads) × AreLeft settings st file shown orders }
+{}
+
+/// The cleans that make room for flushes change nothing else of the orders: the commands are the same, and without the cleans the orders
+/// are, where none of these is a clean.
+pub fn cleans_alone_are_put_among_orders()
+    ensures commands { (settings : Settings) → (st : Store) → (shown : Reads) → (orders : List Order) →
+        flat_map commands_of (with_cleans settings st shown orders) ≡ flat_map commands_of orders }
+    ensures others { (settings : Settings) → (st : Store) → (shown : Reads) → (orders : List Order) → All IsNoClean orders →
+        filter cleans_nothing (with_cleans settings st shown orders) ≡ orders }
 {}
 
 /// It makes no difference to what a session may print and how it may end who its crew is, but for whether that is in range. With one

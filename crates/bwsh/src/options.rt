@@ -47,6 +47,9 @@ const STAT: &str =
     "Prints one line more after all answers: the sequence number, the head and the tail of the log, \
     its segments in use, and the pages and the pairs of the tree";
 
+const CLEAN_WHEN_FULL: &str =
+    "Where the log is full for a flush, cleans it as often as it takes, at most once a segment";
+
 // What the help says behind the options.
 const AFTER_HELP: &str = "\
 All of standard input is read before anything is run: where one of its lines is bad, nothing is run.
@@ -143,7 +146,8 @@ fn command<'a>(alloc: Global) -> Result<Command<'a>, AllocError>
         .arg(flag(alloc, "create", CREATE))?
         .arg(flag(alloc, "version", VERSION))?
         .arg(flag(alloc, "explain", EXPLAIN))?
-        .arg(flag(alloc, "stat", STAT))
+        .arg(flag(alloc, "stat", STAT))?
+        .arg(flag(alloc, "clean-when-full", CLEAN_WHEN_FULL))
 }
 
 // What clap finds in the words.
@@ -213,11 +217,12 @@ fn ways(matches: &ArgMatches<'_>) -> Ways
         version: flag_at(matches, "version"),
         explain: flag_at(matches, "explain"),
         stat: flag_at(matches, "stat"),
+        clean_when_full: flag_at(matches, "clean-when-full"),
     }
 }
 
 /// Reads the words behind the program's name: `[--fan N] [--chain N] [--max-key N] [--max-value N] [--seg-size N]
-/// [--segments N] [--workers N] [--grain N] [--disk PATH] [--create] [--version] [--explain] [--stat]`, in any order,
+/// [--segments N] [--workers N] [--grain N] [--disk PATH] [--create] [--version] [--explain] [--stat] [--clean-when-full]`, in any order,
 /// `--fan=N` too, and `--help` or `-h`. A number that is not given has its default. Whether the numbers are in range is for `Settings::check` and `Crew::check` to say.
 pub fn options(alloc: Global, words: &[String]) -> Result<Options, Error>
     ensures ok { IfOk result (λ o. AsksFor (texts words.now) (told_of o)) }

@@ -173,6 +173,9 @@ fn has_writing(orders: &[Order]) -> bool
 /// line goes before an output that is closed, that before a crew out of range, and that before settings that are refused and before
 /// a fault of the file; and a fault of the output goes before one that was found earlier.
 ///
+/// Where `clean_when_full` is asked for, a flush for which the log is full is made after as many cleans as it takes, at most one for each
+/// segment, and each of them prints its line. Where they make no room it is `Fault::Full`.
+///
 /// Where an order is a flush, a clean or an upgrade, or the file is made anew, the session holds it alone, and else it shares it and only
 /// reads; a lock that is refused is a fault of the file. A file in which no store is found, or that can't be opened or locked, stays as
 /// it was. One that can't be made anew is left as `FileDisk::of_zeros` says; or, where only the writes of a new store failed, with its
@@ -192,20 +195,20 @@ where
 {
     let orders = read_orders(rt.alloc(), input, told.ways.stat, notes)?;
     ask(out)?;
-    let crew = told.crew;
+    let (crew, cleans) = (told.crew, told.ways.clean_when_full);
     crew.check()?;
     match &told.disk {
         None => {
             let opened = store_in_memory(rt.alloc(), told.settings, notes);
-            run_opened(rt, crew, opened, &orders, out, notes)
+            run_opened(rt, crew, cleans, opened, &orders, out, notes)
         }
         Some(path) if told.create => {
             let opened = new_store_in_file(rt, path, told.settings, notes);
-            run_opened(rt, crew, opened, &orders, out, notes)
+            run_opened(rt, crew, cleans, opened, &orders, out, notes)
         }
         Some(path) => {
             let opened = store_in_file(rt, crew, path, has_writing(&orders), notes);
-            run_opened(rt, crew, opened, &orders, out, notes)
+            run_opened(rt, crew, cleans, opened, &orders, out, notes)
         }
     }
 }
@@ -380,14 +383,14 @@ where
     // anything.
     ensures done { result ≡ 0 → AsksForText (map string_bytes words.now) ⊎ ((told : Told) × AsksFor (map string_bytes words.now) told
         × IfSome (I.remaining input.old) (λ text. (first_bad 1 (text_says text) ≡ None)
-        × ((start : Start) × IsStart told start × IsOk start × (shown : Reads) × IsShown told start shown (session_orders told text)
-        × Appends (O.contents out.old) (O.contents out.new) (printed_by start shown (session_orders told text))))) }
+        × ((start : Start) × IsStart told start × IsOk start × (shown : Reads) × IsShown told start shown (session_orders told start shown text)
+        × Appends (O.contents out.old) (O.contents out.new) (printed_by start shown (session_orders told start shown text))))) }
     ensures bad { result ≡ 3 → Appends (O.contents out.old) (O.contents out.new) []
         × IfSome (I.remaining input.old) (λ text. first_bad 1 (text_says text) ≢ None) }
     ensures beginning { AsksForText (map string_bytes words.now) ⊎ Appends (O.contents out.old) (O.contents out.new) []
         ⊎ ((told : Told) × AsksFor (map string_bytes words.now) told × IfSome (I.remaining input.old) (λ text. (start : Start) × IsStart told start
-        × (shown : Reads) × IsShown told start shown (session_orders told text)
-        × ((front : Bytes) × BeginsWith (printed_by start shown (session_orders told text)) front × Appends (O.contents out.old) (O.contents out.new) front))) }
+        × (shown : Reads) × IsShown told start shown (session_orders told start shown text)
+        × ((front : Bytes) × BeginsWith (printed_by start shown (session_orders told start shown text)) front × Appends (O.contents out.old) (O.contents out.new) front))) }
 
     // How it ends, and what is read and printed, is right for the words and the text but for memory and devices.
     // What goes to `err` is told of this end, or a beginning of it; and more only where the words ask to explain it.

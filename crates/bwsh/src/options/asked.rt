@@ -26,4 +26,6 @@ pub struct Ways {
     pub explain: bool,
     /// Where all orders are done, one more line has the numbers of the store.
     pub stat: bool,
+    /// A flush for which the log is full is made after as many cleans as it takes, at most one for each segment; each prints its line.
+    pub clean_when_full: bool,
 }

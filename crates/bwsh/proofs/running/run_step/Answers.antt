@@ -5,7 +5,7 @@ use Rattle.engine.specs.Plays.{answer_of}
 use Rattle.engine.specs.declared.step.Answer as code_answer
 use Rattle.bwsh.specs.Session.{Prints}
 use Rattle.bwsh.specs.Shown.{shown_answer}
-use Rattle.bwsh.proofs.RunLemmas.{RunsOrder-refused, RunsOrder-answered}
+use Rattle.bwsh.proofs.RunLemmas.{Prints-never_full, RunsOrder-refused, RunsOrder-answered, refused_leaves}
 use Rattle.bwsh.proofs.running.run_step.Goals as goal
 
 pub returns-in-Ok-clause-runs : goal.returns-in-Ok-clause-runs
@@ -33,3 +33,15 @@ returns-in-Err-clause-runs g c order is =
     let (file, shown, refused) = c.in-Err.ensures.refused c.requires.fine c.requires.crew in
     RunsOrder-refused disk.is_honest store.settings store.store disk.seen order c.args.step is out _ after.store file bytes _ _ c.in-Err.refused.0 c.in-Err.refused.2 c.store_fault.result
     c.in-Err.ensures.err.0 c.store_fault.ensures c.in-Err.ensures.err.1 shown refused
+
+pub returns-in-Ok-clause-full : goal.returns-in-Ok-clause-full
+returns-in-Ok-clause-full g c full = absurd (Prints-never_full _ _ _ _ c.write_answers.ensures full)
+
+pub returns-in-Err-clause-full : goal.returns-in-Err-clause-full
+returns-in-Err-clause-full g c full =
+    let store = c.args.store.now in
+    let disk = g.D.Disk.view store.disk in
+    let after = c.play.new.self in
+    let left = c.in-Err.ensures in
+    refused_leaves disk.is_honest store.settings store.store disk.seen c.args.step _ after.store (g.D.Disk.view after.disk).seen c.in-Err.refused.0 c.in-Err.refused.2 c.store_fault.result
+    store.has_failed after.has_failed left.err.0 c.store_fault.ensures left.err.1 left.bytes (λ other. (left.counted other).0) full

@@ -1,6 +1,6 @@
 use Rattle.std.proofs.lemmas.Result.{err_from_is_err_and}
 use Rattle.bwsh.proofs.RunLemmas.{RunsOrder-counted, RunsOrder-forgone, RunsOrder-uncounted, RunsOrder-unverified, RunsOrder-verified}
-use Rattle.bwsh.proofs.running.run_order.Goals as goal
+use Rattle.bwsh.proofs.running.run_plain.Goals as goal
 
 pub returns-in_err-commands-in-Batch-clause-runs : goal.returns-in_err-commands-in-Batch-clause-runs
 returns-in_err-commands-in-Batch-clause-runs g c =
