@@ -125,6 +125,8 @@ HELP = [
     b"--explain",
     b"--stat",
     b"--clean-when-full",
+    b"--stream",
+    b"before the next line is waited for",
 ]
 
 

@@ -98,13 +98,14 @@ none_of_flags name none no_disk no_help =
     let (two, later_two) = or_splits (bytes_eq (codes "version") name) _ later in
     let (three, later_three) = or_splits (bytes_eq (codes "explain") name) _ later_two in
     let (four, later_four) = or_splits (bytes_eq (codes "stat") name) _ later_three in
-    let (five, last) = or_splits (bytes_eq (codes "clean-when-full") name) _ later_four in
-    rw (no_disk, one, two, three, four, five, no_help) refl
+    let (five, later_five) = or_splits (bytes_eq (codes "clean-when-full") name) _ later_four in
+    let (six, last) = or_splits (bytes_eq (codes "stream") name) _ later_five in
+    rw (no_disk, one, two, three, four, five, six, no_help) refl
 
 has_options : HasOptions rules
 has_options = record {
   known = λ name takes. known_text name (takes_number name) refl takes;
-  flags = any_of (λ name. arg_by_long rules name ≡ Some (built_flag name)) flag_names (refl, (refl, (refl, (refl, (refl, tt)))));
+  flags = any_of (λ name. arg_by_long rules name ≡ Some (built_flag name)) flag_names (refl, (refl, (refl, (refl, (refl, (refl, tt))))));
   help = refl;
   others = λ name takes no_flag no_help.
       let (no_number, no_disk) = or_splits (takes_number name) _ takes in

@@ -3,7 +3,7 @@ use Rattle.std.proofs.Common.{Bool, true, false, ◌≡◌, ◌≢◌, ◌↔◌
 use Rattle.std.specs.Prelude.{IsTrue, IsOk, replicate, String}
 use Rattle.std.specs.declared.alloc.Global.{Global}
 use Rattle.std.specs.Bool.{MatchBool}
-use Rattle.std.specs.Option.{option_map}
+use Rattle.std.specs.Option.{option_map, option_or}
 use Rattle.std.specs.String.{string_bytes}
 use Rattle.std.specs.Io.KnownBytes.{Appends, Keeps}
 use Rattle.std.proofs.KnownBytes.{Appends-nil, Appends-trans}
@@ -18,14 +18,15 @@ use Rattle.mapping.specs.Tree.{Store}
 use Rattle.flush_log.specs.Disk.{View}
 use Rattle.flush_log.specs.Segments.{disk_size}
 use Rattle.engine.specs.State.{State}
+use Rattle.bwsh.specs.declared.line.Says.{Says}
 use Rattle.bwsh.specs.declared.line.Why.{Why}
 use Rattle.bwsh.specs.declared.batch_file.Order.{Order}
 use Rattle.bwsh.specs.declared.session.Ending.{Ending}
 use Rattle.bwsh.specs.declared.session.Ending.TheVariants.{Words, Bad, Device}
 use Rattle.bwsh.specs.declared.session.Ending.TheVariants as endings
 use Rattle.bwsh.specs.BatchFile.{text_says, first_bad, orders_of, with_numbers}
-use Rattle.bwsh.specs.Session.{status_of_end, Reads, later, Start, IsStart, IsStartBy, IsShown, AreLeft, AreLeftFrom, new_start, found_start, refusal_of, behind, map_behind, own_lines, answer_lines, printed, printed_by, accepted, orders_end, first_refusal, stopped_by, end_after, lines_after, run_from, run_of, session_orders, session_end, session_lines, version_text, IsReadEnding, IsUnopened, IsHonestStore, Opens, IsForWords, BeginsWith, Prints, PrintsOneText, Runs, RunsOn, RunsFrom, Answers, EndsBy}
-use Rattle.bwsh.specs.Options.{Told, AsksFor, AsksForText, AsksToExplain, AreRefused, is_refusal, IsRightKind, told_of}
+use Rattle.bwsh.specs.Session.{status_of_end, Reads, later, Start, IsStart, IsStartBy, IsShown, AreLeft, AreLeftFrom, new_start, found_start, refusal_of, behind, map_behind, own_lines, answer_lines, printed, printed_by, accepted, orders_end, first_refusal, stopped_by, end_after, lines_after, run_by, run_from, run_of, bad_ending, end_streamed, session_orders, session_end, session_lines, version_text, IsReadEnding, IsUnopened, IsHonestStore, Opens, IsForWords, BeginsWith, Prints, PrintsOneText, Runs, RunsOn, RunsFrom, stream_end, stream_lines, stream_orders, Answers, IsAnswered, Streams, EndsBy}
+use Rattle.bwsh.specs.Options.{Told, AsksFor, AsksForText, AsksToExplain, AsksToStream, AreRefused, is_refusal, IsRightKind, told_of}
 use Rattle.bwsh.specs.declared.options.asked.Options.{Options}
 use Rattle.clap.specs.declared.error.kind.ErrorKind.{ErrorKind}
 use Rattle.clap.specs.declared.error.kind.ErrorKind.TheVariants.{DisplayHelp, OutOfMemory}
@@ -41,9 +42,15 @@ IsReadEnding-of_fault bad early (inl e) = rw e refl
 IsReadEnding-of_fault bad early (inr e) = rw e tt
 
 -- some reads show what was left from this start
-leave_from : (cleans : Bool) (start : Start) (orders : List Order) → (shown : Reads) × AreLeftFrom start shown (run_from cleans start shown orders)
+pub leave_from : (cleans : Bool) (start : Start) (orders : List Order) → (shown : Reads) × AreLeftFrom start shown (run_from cleans start shown orders)
 leave_from cleans (Ok p) orders = leave cleans p.0 orders p.1.0 p.1.1
 leave_from cleans (Err fault) orders = (λ i. [], tt)
+
+-- nothing is printed, for want of memory or since a device failed
+pub Prints-cut : (old : Option (List ℕ)) (lines : List (List ℕ)) (right : Result (Unit {0}) Ending) (early : Ending) → (early ≡ endings.Fault NoMemory) ⊎ (early ≡ Device)
+    → Prints old old lines right (Err early)
+Prints-cut old lines right early (inl e) = inr (inl (ap (λ (x : Ending). Err x) e, ([], (lines, refl), Appends-nil old)))
+Prints-cut old lines right early (inr e) = inr (inr (ap (λ (x : Ending). Err x) e, ([], (flat lines, refl), Appends-nil old)))
 
 module _ (old : Option (List ℕ)) (start : Start) (shown : Reads) (orders : List Order) where
   Prints-unread : (bad : Option (ℕ × Why)) (early : Ending) → IsReadEnding bad early
@@ -92,7 +99,7 @@ start_by_rest settings None create = (new_start settings (replicate (disk_size s
 start_by_rest settings (Some path) true = (new_start settings [], ([], refl))
 start_by_rest settings (Some path) false = (found_start [], ([], refl))
 
-start_of : (in_range : Bool) (settings : Settings) (disk : Option (List ℕ)) (create : Bool)
+pub start_of : (in_range : Bool) (settings : Settings) (disk : Option (List ℕ)) (create : Bool)
     → (start : Start) × MatchBool in_range (IsStartBy settings disk create start) (start ≡ Err BadCrew)
 start_of true settings disk create = start_by_rest settings disk create
 start_of false settings disk create = (Err BadCrew, refl)
@@ -104,6 +111,11 @@ at_true false P Q is p = cc
 at_false : (b : Bool) (P Q : Type 0) → b ≡ false → Q → MatchBool b P Q
 at_false true P Q is q = cc
 at_false false P Q is q = q
+
+-- none where the crew is out of range
+pub start_without_crew : (told : Told) → is_crew told.crew ≡ false → IsStart told (Err BadCrew)
+start_without_crew told out_of_range =
+    let start : Start = Err BadCrew in at_false (is_crew told.crew) (IsStartBy told.settings told.disk told.create start) (start ≡ Err BadCrew) out_of_range refl
 
 -- what a check of the crew tells of it
 pub in_range : (b : Bool) → MatchBool b (true ≡ true) (false ≡ true) → IsTrue b
@@ -249,35 +261,84 @@ module _ (ordered : List Order) where
     front_right None (Err fault) = ([], refl)
     front_right (Some b) start = (printed_by start shown ordered, refl)
 
+-- ---- how a stream ends
+
+-- all is done only where nothing is refused and no line is bad
+both_none : (r : Option Fault) (bad : Option (ℕ × Why)) (done : Unit {0}) → Ok done ≡ stopped_by (option_or (option_map (λ fault. endings.Fault fault) r) (option_map bad_ending bad))
+    → (r ≡ None) × (bad ≡ None)
+both_none None None done e = (refl, refl)
+both_none None (Some b) done e = absurd (cc)
+both_none (Some fault) bad done e = absurd (cc)
+
+-- it ends at a line only where one is bad
+some_bad : (r : Option Fault) (bad : Option (ℕ × Why)) (line : ℕ) (why : Why)
+    → Err (Bad line why) ≡ stopped_by (option_or (option_map (λ fault. endings.Fault fault) r) (option_map bad_ending bad)) → bad ≢ None
+some_bad None None line why e = absurd (cc)
+some_bad None (Some b) line why e = λ no_bad. cc
+some_bad (Some fault) bad line why e = absurd (cc)
+
+no_words : (r : Option Fault) (bad : Option (ℕ × Why)) (error : Error) → Err (Words error) ≡ stopped_by (option_or (option_map (λ fault. endings.Fault fault) r) (option_map bad_ending bad)) → ⊥
+no_words None None error e = cc
+no_words None (Some b) error e = cc
+no_words (Some fault) bad error e = cc
+
+module _ (orders : List Order) (shown : Reads) (bad : Option (ℕ × Why)) where
+  streamed_done : (start : Start) (done : Unit {0}) → Ok done ≡ end_streamed bad start shown orders
+      → (bad ≡ None) × IsOk start × (flat (lines_after None start shown orders) ≡ printed_by start shown orders)
+  streamed_done (Ok p) done e =
+      let (none, good) = both_none (first_refusal p.0 p.1.0 shown orders) bad done e in
+      let all : Ok done ≡ orders_end p.0 p.1.0 shown orders = ap (λ (o : Option Fault). stopped_by (option_map (λ fault. endings.Fault fault) o)) (sym none) in
+      (good, refl, ap (λ (os : List Order). printed p.0 p.1.0 shown (contents p.1.0.tree) os) (accepted-all p.0 p.1.0 shown orders done all))
+  streamed_done (Err fault) done e = absurd (cc)
+
+  streamed_bad : (start : Start) (line : ℕ) (why : Why) → Err (Bad line why) ≡ end_streamed bad start shown orders → bad ≢ None
+  streamed_bad (Ok p) line why e = some_bad (first_refusal p.0 p.1.0 shown orders) bad line why e
+  streamed_bad (Err fault) line why e = absurd (cc)
+
+  streamed_words : (start : Start) (error : Error) → Err (Words error) ≡ end_streamed bad start shown orders → ⊥
+  streamed_words (Ok p) error e = no_words (first_refusal p.0 p.1.0 shown orders) bad error e
+  streamed_words (Err fault) error e = cc
+
+-- what some lines say, which are those of the known text
+IfSome-said : (known : Option (List ℕ)) (said : List Says) (P : List Says → Type 0) → IfSome known (λ text. said ≡ text_says text) → P said → IfSome known (λ text. P (text_says text))
+IfSome-said None said P e p = tt
+IfSome-said (Some text) said P e p = subst P e p
+
 -- ---- what follows of a session whose words tell something
 
 -- all that the text orders is printed, from a right start that has a store
+abbrev DoneBy : Bool → Told → Option (List ℕ) → Option (List ℕ) → List ℕ → Type 0
+DoneBy b told old new text =
+    (first_bad 1 (text_says text) ≡ None) × ((start : Start) × IsStart told start × IsOk start × (shown : Reads) × IsShown told start shown (run_by b told start shown text)
+    × Appends old new (printed_by start shown (run_by b told start shown text)))
+
 abbrev IsDoneOn : Told → Option (List ℕ) → Option (List ℕ) → List ℕ → Type 0
-IsDoneOn told old new text =
-    (first_bad 1 (text_says text) ≡ None) × ((start : Start) × IsStart told start × IsOk start × (shown : Reads) × IsShown told start shown (session_orders told start shown text)
-    × Appends old new (printed_by start shown (session_orders told start shown text)))
+IsDoneOn told old new text = DoneBy told.ways.stream told old new text
 
 -- a beginning of it is
+abbrev BegunBy : Bool → Told → Option (List ℕ) → Option (List ℕ) → List ℕ → Type 0
+BegunBy b told old new text =
+    (start : Start) × IsStart told start × (shown : Reads) × IsShown told start shown (run_by b told start shown text)
+    × ((front : List ℕ) × BeginsWith (printed_by start shown (run_by b told start shown text)) front × Appends old new front)
+
 abbrev HasBegunOn : Told → Option (List ℕ) → Option (List ℕ) → List ℕ → Type 0
-HasBegunOn told old new text =
-    (start : Start) × IsStart told start × (shown : Reads) × IsShown told start shown (session_orders told start shown text)
-    × ((front : List ℕ) × BeginsWith (printed_by start shown (session_orders told start shown text)) front × Appends old new front)
+HasBegunOn told old new text = BegunBy told.ways.stream told old new text
 
 module _ (told : Told) (known old new : Option (List ℕ)) where
-  told_done : (done : Unit {0}) → Answers told known old new (Ok done) → IfSome known (IsDoneOn told old new)
+  text_done : (done : Unit {0}) → Answers told known old new (Ok done) → IfSome known (DoneBy false told old new)
   unfolding Answers
-  told_done done (text, is_known, start, is, shown, is_shown, p) =
-      IfSome-known known text (IsDoneOn told old new) is_known (by p) where
-        by : Prints old new (session_lines told start shown text) (session_end told start shown text) (Ok done) → IsDoneOn told old new text
+  text_done done (text, is_known, start, is, shown, is_shown, p) =
+      IfSome-known known text (DoneBy false told old new) is_known (by p) where
+        by : Prints old new (session_lines told start shown text) (session_end told start shown text) (Ok done) → DoneBy false told old new text
         by (inl (e, a)) =
             let (none, opened, lines) = done_right (session_orders told start shown text) shown (first_bad 1 (text_says text)) start done e in
             (none, (start, is, opened, shown, is_shown, subst (λ (l : List ℕ). Appends old new l) lines a))
         by (inr (inl (e, q))) = absurd (cc)
         by (inr (inr (e, q))) = absurd (cc)
 
-  told_bad : (line : ℕ) (why : Why) → Answers told known old new (Err (Bad line why)) → Appends old new [] × IfSome known (λ text. first_bad 1 (text_says text) ≢ None)
+  text_bad : (line : ℕ) (why : Why) → Answers told known old new (Err (Bad line why)) → Appends old new [] × IfSome known (λ text. first_bad 1 (text_says text) ≢ None)
   unfolding Answers
-  told_bad line why (text, is_known, start, is, shown, is_shown, p) = by p where
+  text_bad line why (text, is_known, start, is, shown, is_shown, p) = by p where
     by : Prints old new (session_lines told start shown text) (session_end told start shown text) (Err (Bad line why)) → Appends old new [] × IfSome known (λ t. first_bad 1 (text_says t) ≢ None)
     by (inl (e, a)) =
         let (some, lines) = bad_right (session_orders told start shown text) shown (first_bad 1 (text_says text)) start line why e in
@@ -285,18 +346,88 @@ module _ (told : Told) (known old new : Option (List ℕ)) where
     by (inr (inl (e, q))) = absurd (cc)
     by (inr (inr (e, q))) = absurd (cc)
 
-  told_words : (error : Error) → Answers told known old new (Err (Words error)) → ⊥
+  text_words : (error : Error) → Answers told known old new (Err (Words error)) → ⊥
   unfolding Answers
-  told_words error (text, is_known, start, is, shown, is_shown, inl (e, a)) = words_right (session_orders told start shown text) shown (first_bad 1 (text_says text)) start error e
-  told_words error (text, is_known, start, is, shown, is_shown, inr (inl (e, q))) = cc
-  told_words error (text, is_known, start, is, shown, is_shown, inr (inr (e, q))) = cc
+  text_words error (text, is_known, start, is, shown, is_shown, inl (e, a)) = words_right (session_orders told start shown text) shown (first_bad 1 (text_says text)) start error e
+  text_words error (text, is_known, start, is, shown, is_shown, inr (inl (e, q))) = cc
+  text_words error (text, is_known, start, is, shown, is_shown, inr (inr (e, q))) = cc
 
-  told_front : (end : Result (Unit {0}) Ending) → Answers told known old new end → IfSome known (HasBegunOn told old new)
+  text_front : (end : Result (Unit {0}) Ending) → Answers told known old new end → IfSome known (BegunBy false told old new)
   unfolding Answers
-  told_front end (text, is_known, start, is, shown, is_shown, p) =
+  text_front end (text, is_known, start, is, shown, is_shown, p) =
       let (front, begins, a) = Prints-front old new (session_lines told start shown text) (session_end told start shown text) end p in
       let whole = front-trans (printed_by start shown (session_orders told start shown text)) (flat (session_lines told start shown text)) front (front_right (session_orders told start shown text) shown (first_bad 1 (text_says text)) start) begins in
-      IfSome-known known text (HasBegunOn told old new) is_known (start, is, shown, is_shown, (front, whole, a))
+      IfSome-known known text (BegunBy false told old new) is_known (start, is, shown, is_shown, (front, whole, a))
+
+  -- the same of a stream, for what its lines say
+  abbrev DoneSaid : List Says → Type 0
+  DoneSaid said =
+      (first_bad 1 said ≡ None) × ((start : Start) × IsStart told start × IsOk start × (shown : Reads) × IsShown told start shown (stream_orders told start shown said)
+      × Appends old new (printed_by start shown (stream_orders told start shown said)))
+
+  abbrev BegunSaid : List Says → Type 0
+  BegunSaid said =
+      (start : Start) × IsStart told start × (shown : Reads) × IsShown told start shown (stream_orders told start shown said)
+      × ((front : List ℕ) × BeginsWith (printed_by start shown (stream_orders told start shown said)) front × Appends old new front)
+
+  stream_done : (done : Unit {0}) → Streams told known old new (Ok done) → IfSome known (DoneBy true told old new)
+  unfolding Streams
+  stream_done done (said, is_known, start, is, shown, is_shown, p) = IfSome-said known said DoneSaid is_known (by p) where
+    by : Prints old new (stream_lines told start shown said) (stream_end told start shown said) (Ok done) → DoneSaid said
+    by (inl (e, a)) =
+        let (none, opened, lines) = streamed_done (stream_orders told start shown said) shown (first_bad 1 said) start done e in
+        (none, (start, is, opened, shown, is_shown, subst (λ (l : List ℕ). Appends old new l) lines a))
+    by (inr (inl (e, q))) = absurd (cc)
+    by (inr (inr (e, q))) = absurd (cc)
+
+  stream_bad : (line : ℕ) (why : Why) → Streams told known old new (Err (Bad line why)) → IfSome known (λ text. first_bad 1 (text_says text) ≢ None)
+  unfolding Streams
+  stream_bad line why (said, is_known, start, is, shown, is_shown, p) = IfSome-said known said (λ (ss : List Says). first_bad 1 ss ≢ None) is_known (by p) where
+    by : Prints old new (stream_lines told start shown said) (stream_end told start shown said) (Err (Bad line why)) → first_bad 1 said ≢ None
+    by (inl (e, a)) = streamed_bad (stream_orders told start shown said) shown (first_bad 1 said) start line why e
+    by (inr (inl (e, q))) = absurd (cc)
+    by (inr (inr (e, q))) = absurd (cc)
+
+  stream_words : (error : Error) → Streams told known old new (Err (Words error)) → ⊥
+  unfolding Streams
+  stream_words error (said, is_known, start, is, shown, is_shown, inl (e, a)) = streamed_words (stream_orders told start shown said) shown (first_bad 1 said) start error e
+  stream_words error (said, is_known, start, is, shown, is_shown, inr (inl (e, q))) = cc
+  stream_words error (said, is_known, start, is, shown, is_shown, inr (inr (e, q))) = cc
+
+  stream_front : (end : Result (Unit {0}) Ending) → Streams told known old new end → IfSome known (BegunBy true told old new)
+  unfolding Streams
+  stream_front end (said, is_known, start, is, shown, is_shown, p) =
+      let (front, begins, a) = Prints-front old new (stream_lines told start shown said) (stream_end told start shown said) end p in
+      let whole = front-trans (printed_by start shown (stream_orders told start shown said)) (flat (stream_lines told start shown said)) front
+      (front_right (stream_orders told start shown said) shown None start) begins in
+      IfSome-said known said BegunSaid is_known (start, is, shown, is_shown, (front, whole, a))
+
+  -- and of a session that is a stream or isn't
+  told_done : (done : Unit {0}) → IsAnswered told known old new (Ok done) → IfSome known (IsDoneOn told old new)
+  told_done done = by told.ways.stream refl where
+    by : (b : Bool) → told.ways.stream ≡ b → MatchBool b (Streams told known old new (Ok done)) (Answers told known old new (Ok done)) → IfSome known (IsDoneOn told old new)
+    by true is p = subst (λ (c : Bool). IfSome known (DoneBy c told old new)) (sym is) (stream_done done p)
+    by false is p = subst (λ (c : Bool). IfSome known (DoneBy c told old new)) (sym is) (text_done done p)
+
+  told_bad : (line : ℕ) (why : Why) → IsAnswered told known old new (Err (Bad line why))
+      → ((told.ways.stream ≡ true) ⊎ Appends old new []) × IfSome known (λ text. first_bad 1 (text_says text) ≢ None)
+  told_bad line why = by told.ways.stream refl where
+    by : (b : Bool) → told.ways.stream ≡ b → MatchBool b (Streams told known old new (Err (Bad line why))) (Answers told known old new (Err (Bad line why)))
+        → ((told.ways.stream ≡ true) ⊎ Appends old new []) × IfSome known (λ text. first_bad 1 (text_says text) ≢ None)
+    by true is p = (inl is, stream_bad line why p)
+    by false is p = let (nothing, some) = text_bad line why p in (inr nothing, some)
+
+  told_words : (error : Error) → IsAnswered told known old new (Err (Words error)) → ⊥
+  told_words error = by told.ways.stream where
+    by : (b : Bool) → MatchBool b (Streams told known old new (Err (Words error))) (Answers told known old new (Err (Words error))) → ⊥
+    by true p = stream_words error p
+    by false p = text_words error p
+
+  told_front : (end : Result (Unit {0}) Ending) → IsAnswered told known old new end → IfSome known (HasBegunOn told old new)
+  told_front end = by told.ways.stream refl where
+    by : (b : Bool) → told.ways.stream ≡ b → MatchBool b (Streams told known old new end) (Answers told known old new end) → IfSome known (HasBegunOn told old new)
+    by true is p = subst (λ (c : Bool). IfSome known (BegunBy c told old new)) (sym is) (stream_front end p)
+    by false is p = subst (λ (c : Bool). IfSome known (BegunBy c told old new)) (sym is) (text_front end p)
 
 -- ---- what follows of any session
 
@@ -308,6 +439,14 @@ IsAllDone words known old new = AsksForText words ⊎ ((told : Told) × AsksFor 
 abbrev HasBegun : List (List ℕ) → Option (List ℕ) → Option (List ℕ) → Option (List ℕ) → Type 0
 HasBegun words known old new =
     AsksForText words ⊎ Appends old new [] ⊎ ((told : Told) × AsksFor words told × IfSome known (HasBegunOn told old new))
+
+-- a line is bad; nothing is printed then, unless the words ask for a stream
+abbrev IsBad : List (List ℕ) → Option (List ℕ) → Option (List ℕ) → Option (List ℕ) → Type 0
+IsBad words known old new = (AsksToStream words ⊎ Appends old new []) × IfSome known (λ text. first_bad 1 (text_says text) ≢ None)
+
+streams_or : (words : List (List ℕ)) (told : Told) (P : Type 0) → AsksFor words told → (told.ways.stream ≡ true) ⊎ P → AsksToStream words ⊎ P
+streams_or words told P tells (inl streams) = inl (told, tells, streams)
+streams_or words told P tells (inr p) = inr p
 
 -- words that tell something are not refused
 not_refused : (words : List (List ℕ)) (told : Told) → AsksFor words told → AreRefused words → ⊥
@@ -378,12 +517,14 @@ module _ (words : List (List ℕ)) (known old new : Option (List ℕ)) (unread u
   done_end (Ok done) s (inr (inr (not_read, not_touched, inr e))) = absurd (cc)
 
   bad_end : (end : Result (Unit {0}) Ending) → status_of_end end ≡ 3 → EndsBy words known old new unread untouched end
-      → Appends old new [] × IfSome known (λ text. first_bad 1 (text_says text) ≢ None)
+      → IsBad words known old new
   bad_end (Ok done) s p = absurd (omega arith)
   bad_end (Err (Words error)) s p = absurd (omega arith)
   bad_end (Err (endings.Fault fault)) s p = absurd (omega arith)
   bad_end (Err Device) s p = absurd (omega arith)
-  bad_end (Err (Bad line why)) s (inl (told, tells, runs, answers)) = told_bad told known old new line why answers
+  bad_end (Err (Bad line why)) s (inl (told, tells, runs, answers)) =
+      let (nothing, some) = told_bad told known old new line why answers in
+      (streams_or words told (Appends old new []) tells nothing, some)
   bad_end (Err (Bad line why)) s (inr (inl (not_read, asks, printed_help))) =
       let four = one_text old new (Bad line why) printed_help in absurd (omega arith)
   bad_end (Err (Bad line why)) s (inr (inr (not_read, not_touched, inl (refused, for_words)))) = absurd for_words
@@ -401,7 +542,7 @@ pub record Follows (words : List (List ℕ)) (known old new : Option (List ℕ))
   pub refused : (status ≡ 2) ↔ (AreRefused words × (status ≢ 4))
   pub untouched_is : AreRefused words → unread × untouched
   pub done : status ≡ 0 → IsAllDone words known old new
-  pub bad : status ≡ 3 → Appends old new [] × IfSome known (λ text. first_bad 1 (text_says text) ≢ None)
+  pub bad : status ≡ 3 → IsBad words known old new
   pub beginning : HasBegun words known old new
 
 pub all_follows : (words : List (List ℕ)) (known old new : Option (List ℕ)) (unread untouched : Type 0) (status : ℕ) (end : Result (Unit {0}) Ending) → status ≡ status_of_end end
@@ -439,7 +580,7 @@ module _ (words : List (List ℕ)) (known old new : Option (List ℕ)) (unread u
 
 -- words that tell something: the version is printed, or the batch file is run
 pub EndsBy-told : (words : List (List ℕ)) (known old new : Option (List ℕ)) (unread untouched : Type 0) (end : Result (Unit {0}) Ending) (told : Told) → AsksFor words told
-    → (told.ways.version ≡ true → unread × Prints old new (version_text ∷ []) (Ok tt) end) → (told.ways.version ≡ false → Answers told known old new end)
+    → (told.ways.version ≡ true → unread × Prints old new (version_text ∷ []) (Ok tt) end) → (told.ways.version ≡ false → IsAnswered told known old new end)
     → EndsBy words known old new unread untouched end
 EndsBy-told words known old new unread untouched end told tells shows runs = by told.ways.version refl where
   by : (b : Bool) → told.ways.version ≡ b → EndsBy words known old new unread untouched end
@@ -452,3 +593,19 @@ more_if_asked words told more tells plain = by told.ways.explain refl where
   by : (b : Bool) → told.ways.explain ≡ b → AsksToExplain words ⊎ (more ≡ [])
   by true is = inl (told, tells, is)
   by false is = inr (plain is)
+
+-- where no line is bad a stream ends as another session does
+or_none : {X : Type 0} (o : Option X) → option_or o None ≡ o
+or_none None = refl
+or_none (Some x) = refl
+
+pub ends-alike : (start : Start) (shown : Reads) (orders : List Order) → end_streamed None start shown orders ≡ end_after None start shown orders
+ends-alike (Err fault) shown orders = refl
+ends-alike (Ok p) shown orders = ap stopped_by (or_none (option_map (λ fault. endings.Fault fault) (first_refusal p.0 p.1.0 shown orders)))
+
+-- a session that is a stream, and one that isn't
+pub IsAnswered-stream : (told : Told) (known old new : Option (List ℕ)) (end : Result (Unit {0}) Ending) → told.ways.stream ≡ true → Streams told known old new end → IsAnswered told known old new end
+IsAnswered-stream told known old new end is p = at_true told.ways.stream (Streams told known old new end) (Answers told known old new end) is p
+
+pub IsAnswered-text : (told : Told) (known old new : Option (List ℕ)) (end : Result (Unit {0}) Ending) → told.ways.stream ≡ false → Answers told known old new end → IsAnswered told known old new end
+IsAnswered-text told known old new end is p = at_false told.ways.stream (Streams told known old new end) (Answers told known old new end) is p

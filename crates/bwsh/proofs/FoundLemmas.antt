@@ -209,7 +209,7 @@ given_found name (g ∷ given) = go (bytes_eq g.0 name) (given_found name given)
 -- an option that takes nothing and was not given is read as this
 default_flag : (name : Text) → takes_nothing name ≡ true → option_and_then row_text (find (at name) (defaults_in built_rules)) ≡ Some (codes "false")
 default_flag = any_of (λ name. option_and_then row_text (find (at name) (defaults_in built_rules)) ≡ Some (codes "false")) flag_names
-    (refl, (refl, (refl, (refl, (refl, tt)))))
+    (refl, (refl, (refl, (refl, (refl, (refl, tt))))))
 
 -- an option that takes nothing is read where it was given
 pub flag_read : (name : Text) → takes_nothing name ≡ true → (given : Given) (rows : List Row) (result : Bool) → AreGivable given → rows ≡ finished_rows given
@@ -240,9 +240,9 @@ crew_with a b = record { workers = a; grain = b }
 pub crews_equal : {a b c d : ℕ} → a ≡ c → b ≡ d → crew_with a b ≡ crew_with c d
 crews_equal a b = rw (a, b) refl
 
-abbrev ways_with : Bool → Bool → Bool → Bool → Ways
-ways_with a b c d = record { version = a; explain = b; stat = c; clean_when_full = d }
+abbrev ways_with : Bool → Bool → Bool → Bool → Bool → Ways
+ways_with a b c d e = record { version = a; explain = b; stat = c; clean_when_full = d; stream = e }
 
 -- so are ways
-pub ways_equal : {a b c d e f g h : Bool} → a ≡ e → b ≡ f → c ≡ g → d ≡ h → ways_with a b c d ≡ ways_with e f g h
-ways_equal a b c d = rw (a, b, c, d) refl
+pub ways_equal : {a b c d e f g h i j : Bool} → a ≡ f → b ≡ g → c ≡ h → d ≡ i → e ≡ j → ways_with a b c d e ≡ ways_with f g h i j
+ways_equal a b c d e = rw (a, b, c, d, e) refl

@@ -16,6 +16,7 @@ mod RoomLemmas
 mod RunLemmas
 mod ShowLemmas
 mod StoreLemmas
+mod StreamLemmas
 mod TellLemmas
 mod TokensReadBack
 mod TokenLemmas

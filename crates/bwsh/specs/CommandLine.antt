@@ -34,13 +34,14 @@ plain_bwsh = on_top (λ s. record s { no_binary_name = true }) (new_app (codes "
 
 -- the program with its options
 abbrev pub bwsh : App
-bwsh = with_rule (with_rule (with_rule (with_rule (with_rule (with_rule (with_rule (with_rule (with_rule (with_rule (with_rule (with_rule (with_rule (with_rule plain_bwsh
+bwsh = with_rule (with_rule (with_rule (with_rule (with_rule (with_rule (with_rule (with_rule (with_rule (with_rule (with_rule (with_rule (with_rule (with_rule (with_rule plain_bwsh
     (number_rule (codes "fan") (codes "16"))) (number_rule (codes "chain") (codes "4")))
     (number_rule (codes "max-key") (codes "64"))) (number_rule (codes "max-value") (codes "256")))
     (number_rule (codes "seg-size") (codes "65536"))) (number_rule (codes "segments") (codes "64")))
     (number_rule (codes "workers") (codes "1"))) (number_rule (codes "grain") (codes "64")))
     (text_rule (codes "disk"))) (flag_rule (codes "create"))) (flag_rule (codes "version"))) (flag_rule (codes "explain")))
-    (flag_rule (codes "stat"))) (flag_rule (codes "clean-when-full"))
+    (flag_rule (codes "stat"))) (flag_rule (codes "clean-when-full")))
+    (flag_rule (codes "stream"))
 
 -- the options that take a number, each with the text of its default
 abbrev pub number_defaults : List (Text × Text)

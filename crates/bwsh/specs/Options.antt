@@ -37,7 +37,7 @@ takes_text name = takes_number name || bytes_eq (codes "disk") name
 
 -- the options that take nothing
 abbrev pub flag_names : List Text
-flag_names = codes "create" ∷ codes "version" ∷ codes "explain" ∷ codes "stat" ∷ codes "clean-when-full" ∷ []
+flag_names = codes "create" ∷ codes "version" ∷ codes "explain" ∷ codes "stat" ∷ codes "clean-when-full" ∷ codes "stream" ∷ []
 
 -- the option takes nothing
 abbrev pub takes_nothing : Text → Bool
@@ -164,6 +164,7 @@ ways_of given = record {
   explain = is_given (codes "explain") given;
   stat = is_given (codes "stat") given;
   clean_when_full = is_given (codes "clean-when-full") given;
+  stream = is_given (codes "stream") given;
 }
 
 -- what words ask for: the six settings, the crew, the file in which the store is, if it is in one, whether that file is made anew, and in
@@ -204,6 +205,10 @@ AsksForVersion words = (told : Told) × AsksFor words told × (told.ways.version
 -- the words ask for an explanation of the end
 abbrev pub AsksToExplain : List Text → Type 0
 AsksToExplain words = (told : Told) × AsksFor words told × (told.ways.explain ≡ true)
+
+-- the words ask for a stream
+abbrev pub AsksToStream : List Text → Type 0
+AsksToStream words = (told : Told) × AsksFor words told × (told.ways.stream ≡ true)
 
 -- the words ask for a text, and for nothing to be read: for help, or for the version
 abbrev pub AsksForText : List Text → Type 0

@@ -23,7 +23,9 @@ use Rattle.flush_log.specs.Segments.{disk_size, last_segment}
 use Rattle.recovery.specs.StoreOfDisk.{first_store, store_of_disk}
 use Rattle.engine.specs.State.{State}
 use Rattle.engine.specs.Steps.{Step, Stepped, batching, after_step}
+use Rattle.bwsh.specs.declared.line.Says.{Says}
 use Rattle.bwsh.specs.declared.line.Why.{Why}
+use Rattle.bwsh.specs.declared.options.asked.Ways.{Ways}
 use Rattle.bwsh.specs.declared.batch_file.Order.{Order}
 use Rattle.bwsh.specs.declared.batch_file.Order.TheVariants.{Batch, Flush, Clean, Upgrade, Verify, Numbers}
 use Rattle.bwsh.specs.declared.batch_file.TextFault.{TextFault}
@@ -32,7 +34,7 @@ use Rattle.bwsh.specs.declared.session.Ending.{Ending}
 use Rattle.bwsh.specs.declared.session.Ending.TheVariants.{Words, Bad, Device}
 use Rattle.bwsh.specs.declared.session.Ending.TheVariants as endings
 use Rattle.bwsh.specs.declared.show.StoreNumbers.{StoreNumbers}
-use Rattle.bwsh.specs.BatchFile.{text_says, first_bad, orders_of, with_numbers}
+use Rattle.bwsh.specs.BatchFile.{text_says, first_bad, orders_of, streamed, with_numbers}
 use Rattle.bwsh.specs.Line.{why_text}
 use Rattle.bwsh.specs.Options.{Text, Told, AsksFor, AsksForText, AsksToExplain, AreRefused}
 use Rattle.bwsh.specs.Shown.{shown_reply, shown_flushed, shown_cleaned, shown_upgraded, shown_report, shown_numbers}
@@ -272,6 +274,11 @@ AreLeftFrom (Err fault) shown orders = ⊤
 abbrev pub IsShown : Told → Start → Reads → List Order → Type 0
 IsShown told start shown orders = told.disk ≡ None → AreLeftFrom start shown orders
 
+-- whether all is done, whatever else is returned then
+abbrev pub without_value : {X : Type 0} → Result X Ending → Result (Unit {0}) Ending
+without_value (Ok x) = Ok tt
+without_value (Err early) = Err early
+
 -- an end for this reason, or with all done
 abbrev pub stopped_by : Option Ending → Result (Unit {0}) Ending
 stopped_by None = Ok tt
@@ -294,6 +301,17 @@ lines_after (Some bad) start shown orders = []
 lines_after None (Err fault) shown orders = []
 lines_after None (Ok p) shown orders = answer_lines p.0 p.1.0 shown (contents p.1.0.tree) (accepted p.0 p.1.0 shown orders)
 
+-- an end for this bad line
+abbrev pub bad_ending : ℕ × Why → Ending
+bad_ending bad = Bad bad.0 bad.1
+
+-- how a stream with this first bad line, if there is one, ends by its right, that starts so and runs these orders up to it: at a start that
+-- has no store, else at the first order that the store refuses, else at the bad line, or with all done
+abbrev pub end_streamed : Option (ℕ × Why) → Start → Reads → List Order → Result (Unit {0}) Ending
+end_streamed bad (Err fault) shown orders = Err (endings.Fault fault)
+end_streamed bad (Ok p) shown orders =
+    stopped_by (option_or (option_map (λ fault. endings.Fault fault) (first_refusal p.0 p.1.0 shown orders)) (option_map bad_ending bad))
+
 -- the orders of a session on this text that starts so: what its lines order, and then the numbers, where the words ask for them; and among
 -- them the cleans that make room for flushes, where they ask for these
 abbrev pub session_orders : Told → Start → Reads → Bytes → List Order
@@ -306,6 +324,25 @@ session_end told start shown text = end_after (first_bad 1 (text_says text)) sta
 -- the lines that a session on this text prints by its right
 abbrev pub session_lines : Told → Start → Reads → Bytes → List Bytes
 session_lines told start shown text = lines_after (first_bad 1 (text_says text)) start shown (session_orders told start shown text)
+
+-- the same of a stream of lines that say this, up to the first bad one: what it runs, how it ends, and the lines that it prints
+abbrev pub stream_orders : Told → Start → Reads → List Says → List Order
+stream_orders told start shown said = run_from told.ways.clean_when_full start shown (streamed told.ways.stat [] said)
+
+abbrev pub stream_end : Told → Start → Reads → List Says → Result (Unit {0}) Ending
+stream_end told start shown said = end_streamed (first_bad 1 said) start shown (stream_orders told start shown said)
+
+abbrev pub stream_lines : Told → Start → Reads → List Says → List Bytes
+stream_lines told start shown said = lines_after None start shown (stream_orders told start shown said)
+
+-- what is run of this text, by a stream or not
+abbrev pub run_by : Bool → Told → Start → Reads → Bytes → List Order
+run_by true told start shown text = stream_orders told start shown (text_says text)
+run_by false told start shown text = session_orders told start shown text
+
+-- and by a session that is asked for this
+abbrev pub orders_run : Told → Start → Reads → Bytes → List Order
+orders_run told start shown text = run_by told.ways.stream told start shown text
 
 -- a session whose text has this first bad line, if it has one, can end so before anything is run
 abbrev pub IsReadEnding : Option (ℕ × Why) → Ending → Type 0
@@ -374,6 +411,27 @@ RunsFirst cleans honest settings st left orders old new (Ok done) now bytes =
 RunsFirst cleans honest settings st left orders old new (Err early) now bytes =
     (rest : List Order) → RunsOn cleans honest settings st left (orders ++ rest) old new (Err early)
 
+-- What a stream of lines prints of this store, and how it ends, is right but for memory and devices, for what some lines say, which are
+-- those of the known text: the orders up to the first bad one, which is returned where all of these are done.
+abbrev pub StreamsOn : Ways → Bool → Settings → Store → Bytes → Option Bytes → Option Bytes → Option Bytes → Result (Option (ℕ × Why)) Ending → Type 0
+StreamsOn ways honest settings st left known old new end =
+    (said : List Says) × IfSome known (λ text. said ≡ text_says text)
+    × RunsOn ways.clean_when_full honest settings st left (streamed ways.stat [] said) old new (without_value end)
+    × IfOk end (λ bad. bad ≡ first_bad 1 said)
+
+-- how it ends, where a bad line is returned
+abbrev pub stream_ended : Result (Option (ℕ × Why)) Ending → Result (Unit {0}) Ending
+stream_ended (Ok bad) = stopped_by (option_map bad_ending bad)
+stream_ended (Err early) = Err early
+
+-- the same from this start, with the bad line as the end
+unfoldable pub StreamsFrom : Ways → Type 0 → Start → Option Bytes → Option Bytes → Option Bytes → Result (Unit {0}) Ending → Type 0
+StreamsFrom ways IsHonest start known old new end =
+    (said : List Says) × IfSome known (λ text. said ≡ text_says text) × (shown : Reads)
+    × (IsHonest → AreLeftFrom start shown (run_from ways.clean_when_full start shown (streamed ways.stat [] said)))
+    × Prints old new (lines_after None start shown (run_from ways.clean_when_full start shown (streamed ways.stat [] said)))
+    (end_streamed (first_bad 1 said) start shown (run_from ways.clean_when_full start shown (streamed ways.stat [] said))) end
+
 -- what these orders print from this start, and how they end, is right but for memory and devices, where flushes make themselves room or
 -- don't, and the disk shows some bytes before each that is run: what was left, where it is honest
 unfoldable pub RunsFrom : Bool → Type 0 → Start → List Order → Option Bytes → Option Bytes → Result (Unit {0}) Ending → Type 0
@@ -404,6 +462,18 @@ Answers told known old new end =
     × (shown : Reads) × IsShown told start shown (session_orders told start shown text)
     × Prints old new (session_lines told start shown text) (session_end told start shown text) end
 
+-- The same of a stream, for what some lines say, which are those of the known text: each of its orders is run and answered before the next line
+-- is read, up to the first bad line.
+unfoldable pub Streams : Told → Option Bytes → Option Bytes → Option Bytes → Result (Unit {0}) Ending → Type 0
+Streams told known old new end =
+    (said : List Says) × IfSome known (λ text. said ≡ text_says text) × (start : Start) × IsStart told start
+    × (shown : Reads) × IsShown told start shown (stream_orders told start shown said)
+    × Prints old new (stream_lines told start shown said) (stream_end told start shown said) end
+
+-- and of a session that is asked for this
+abbrev pub IsAnswered : Told → Option Bytes → Option Bytes → Option Bytes → Result (Unit {0}) Ending → Type 0
+IsAnswered told known old new end = MatchBool told.ways.stream (Streams told known old new end) (Answers told known old new end)
+
 -- a text is printed, but for memory and devices
 abbrev pub PrintsOneText : Option Bytes → Option Bytes → Result (Unit {0}) Ending → Type 0
 PrintsOneText old new end = (text : Bytes) × Prints old new (text ∷ []) (Ok tt) end
@@ -418,7 +488,7 @@ IsForWords (Err _) = ⊥
 -- with nothing read, and help or the version where they ask for it; or with nothing printed either, where they are refused
 abbrev pub EndsBy : List Bytes → Option Bytes → Option Bytes → Option Bytes → Type 0 → Type 0 → Result (Unit {0}) Ending → Type 0
 EndsBy words known old new unread untouched end =
-    ((told : Told) × AsksFor words told × (told.ways.version ≡ false) × Answers told known old new end)
+    ((told : Told) × AsksFor words told × (told.ways.version ≡ false) × IsAnswered told known old new end)
     ⊎ (unread × AsksForText words × PrintsOneText old new end)
     ⊎ (unread × untouched × ((AreRefused words × IsForWords end) ⊎ (end ≡ Err (endings.Fault NoMemory))))
 

@@ -29,7 +29,7 @@ fn path(asked: &Options) -> &str {
 }
 
 // A call failed. Only of the output no reason is noted.
-fn of_failure(alloc: Global, asked: &Options, notes: &Notes) -> Result<String, AllocError> {
+fn of_failure(alloc: Global, asked: &Options, notes: &mut Notes) -> Result<String, AllocError> {
     match notes.failure() {
         None => format!(in alloc; "standard output could not be written; not all answers stand there\n"),
         Some((Source::Input, reason)) => format!(in alloc; "standard input: {reason}\n"),
@@ -111,7 +111,7 @@ fn of_start(alloc: Global, asked: &Options, fault: &Fault) -> Result<String, All
 fn of_fault(
     alloc: Global,
     asked: &Options,
-    notes: &Notes,
+    notes: &mut Notes,
     fault: &Fault,
 ) -> Result<String, AllocError> {
     if let Some(lines) = notes.lines() {
@@ -132,16 +132,26 @@ fn rule(why: Why) -> &'static str {
     }
 }
 
+// A bad line.
+fn of_line(alloc: Global, asked: &Options, why: Why) -> Result<String, AllocError> {
+    let before = if asked.ways.stream {
+        "what was ended before it is done"
+    } else {
+        "nothing was run"
+    };
+    format!(in alloc; "{before}: {}\n", rule(why))
+}
+
 // The explanation of this end.
 fn text_of(
     alloc: Global,
     asked: &Options,
-    notes: &Notes,
+    notes: &mut Notes,
     ending: &Ending,
 ) -> Result<String, AllocError> {
     match ending {
         Ending::Words(_) => Ok(String::new(alloc)),
-        Ending::Bad { line: _, why } => format!(in alloc; "nothing was run: {}\n", rule(*why)),
+        Ending::Bad { line: _, why } => of_line(alloc, asked, *why),
         Ending::Fault(fault) => of_fault(alloc, asked, notes, fault),
         Ending::Device => of_failure(alloc, asked, notes),
     }
@@ -152,7 +162,7 @@ fn text_of(
 pub fn explained(
     alloc: Global,
     asked: &Options,
-    notes: &Notes,
+    notes: &mut Notes,
     done: &Result<(), Ending>,
 ) -> String {
     match done {

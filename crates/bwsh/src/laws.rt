@@ -1,5 +1,5 @@
 //! What the definitions of `specs/` mean. Each law is the contract of a function with an empty body.
-ghost use Rattle.std.specs.Prelude.{◌≡◌, ◌<◌, ◌≤◌, false, List, [], ◌∷◌, ◌++◌, filter, map, Option, Some, Result, Err};
+ghost use Rattle.std.specs.Prelude.{◌≡◌, ◌<◌, ◌≤◌, ◌+◌, Bool, false, List, [], ◌∷◌, ◌++◌, filter, length, map, Option, Some, None, Result, Err};
 ghost use Rattle.std.specs.List.{All, flat_map};
 ghost use Rattle.std.specs.declared.alloc.Global.{Global};
 ghost use Rattle.crew.specs.Crew.{is_crew};
@@ -14,10 +14,12 @@ ghost use Rattle.verify.specs.Report.{report};
 ghost use Rattle.bwsh.specs.declared.batch_file.Order.{Order};
 ghost use Rattle.bwsh.specs.declared.batch_file.Order.TheVariants.{Batch, Flush, Clean, Upgrade, Verify, Numbers};
 ghost use Rattle.bwsh.specs.declared.line.Says.{Says};
+ghost use Rattle.bwsh.specs.declared.line.Says.TheVariants.{Bad};
+ghost use Rattle.bwsh.specs.declared.line.Why.{Why};
 ghost use Rattle.bwsh.specs.declared.session.Ending.{Ending};
-ghost use Rattle.bwsh.specs.BatchFile.{orders_of, commands_of, commands_said, batch_lines, IsBatch, IsForBatches, IsNoClean, cleans_nothing};
+ghost use Rattle.bwsh.specs.BatchFile.{orders_of, commands_of, commands_said, batch_lines, IsBatch, IsForBatches, IsNoClean, cleans_nothing, first_bad, last_order, streamed, unended, with_numbers};
 ghost use Rattle.bwsh.specs.Options.{Told};
-ghost use Rattle.bwsh.specs.Session.{Answers, AreLeft, IsStart, Reads, Start, accepted, answer_lines, behind, later, numbers_of, orders_end, printed, with_cleans};
+ghost use Rattle.bwsh.specs.Session.{Answers, AreLeft, IsStart, Reads, Start, accepted, answer_lines, behind, end_after, end_streamed, later, numbers_of, orders_end, printed, with_cleans};
 ghost use Rattle.bwsh.specs.Shown.{shown_reply, shown_flushed, shown_cleaned, shown_upgraded, shown_report, shown_numbers};
 ghost use Rattle.bwsh.specs.Token.{token_bytes, shown_token};
 ghost use Rattle.bwsh.specs.Words.{words_of};
@@ -108,6 +110,17 @@ pub fn cleans_alone_are_put_among_orders()
         flat_map commands_of (with_cleans settings st shown orders) ≡ flat_map commands_of orders }
     ensures others { (settings : Settings) → (st : Store) → (shown : Reads) → (orders : List Order) → All IsNoClean orders →
         filter cleans_nothing (with_cleans settings st shown orders) ≡ orders }
+{}
+
+/// A stream orders what a session does that reads all first: all of it where no line is bad, and it ends as that does; else what the lines before
+/// the first bad one order, without the commands that these don't end.
+pub fn a_stream_orders_what_stands_before_a_bad_line()
+    ensures good { (numbers : Bool) → (said : List Says) → first_bad 1 said ≡ None → streamed numbers [] said ≡ with_numbers numbers (orders_of [] said) }
+    ensures end { (start : Start) → (shown : Reads) → (orders : List Order) → end_streamed None start shown orders ≡ end_after None start shown orders }
+    ensures bad { (numbers : Bool) → (front : List Says) → first_bad 1 front ≡ None → (why : Why) → (rest : List Says) →
+        orders_of [] front ≡ streamed numbers [] (front ++ Bad why ∷ rest) ++ last_order (unended [] front) }
+    ensures found { (front : List Says) → first_bad 1 front ≡ None → (why : Why) → (rest : List Says) →
+        first_bad 1 (front ++ Bad why ∷ rest) ≡ Some (length front + 1, why) }
 {}
 
 /// It makes no difference to what a session may print and how it may end who its crew is, but for whether that is in range. With one

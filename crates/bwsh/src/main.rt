@@ -15,6 +15,7 @@ pub mod program;
 mod running;
 pub mod session;
 pub mod show;
+mod stream;
 #[cfg(test)]
 mod tests;
 pub mod token;

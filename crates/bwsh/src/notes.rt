@@ -21,8 +21,12 @@ pub enum Source {
 pub struct OrderLines {
     // Those of the commands of its batch, in their order.
     commands: Vec<u64>,
-    /// The line that ended the order, or the last one of the text.
+    // Whether none of them is missing for want of memory.
+    is_whole: bool,
+    /// The line that ended the order, or the last one that was read.
     pub end: u64,
+    // Whether that line ended the order, so that the next one begins another.
+    is_ended: bool,
 }
 
 impl OrderLines {
@@ -30,12 +34,30 @@ impl OrderLines {
     fn new(alloc: Global) -> Self {
         OrderLines {
             commands: Vec::new(alloc),
+            is_whole: true,
             end: 0,
+            is_ended: false,
         }
     }
 
-    /// The line of the command at this place of the batch.
+    // Follows a stream by the line of this number, which says this.
+    fn follow(&mut self, line: u64, says: &Says) {
+        if self.is_ended {
+            self.commands.clear();
+            self.is_whole = true;
+        }
+        self.end = line;
+        self.is_ended = !matches!(says, Says::Nothing | Says::Command(_));
+        if let Says::Command(_) = says {
+            self.is_whole &= self.commands.push(line).is_ok();
+        }
+    }
+
+    /// The line of the command at this place of the batch. None where memory for it was refused.
     pub fn command(&self, place: usize) -> Option<u64> {
+        if !self.is_whole {
+            return None;
+        }
         self.commands.get(place).copied()
     }
 
@@ -93,6 +115,7 @@ pub struct Notes {
     text: Vec<u8>,
     // None before there is a store.
     done: Option<u64>,
+    streamed: Option<OrderLines>,
 }
 
 impl Notes {
@@ -104,6 +127,7 @@ impl Notes {
             failed: None,
             text: Vec::new(alloc),
             done: None,
+            streamed: None,
         }
     }
 
@@ -136,8 +160,24 @@ impl Notes {
         self.done = self.done.map(|count| count.saturating_add(1));
     }
 
+    /// Notes that the line of this number of a stream was read, and says this.
+    pub fn line(&mut self, line: u64, says: &Says) {
+        if !self.is_wanted {
+            return;
+        }
+        let mut lines = match self.streamed.take() {
+            Some(lines) => lines,
+            None => OrderLines::new(self.alloc),
+        };
+        lines.follow(line, says);
+        self.streamed = Some(lines);
+    }
+
     /// The lines of the order that was not done. None where there was no store, or no memory for them.
-    pub fn lines(&self) -> Option<OrderLines> {
+    pub fn lines(&mut self) -> Option<OrderLines> {
+        if let Some(lines) = self.streamed.take() {
+            return Some(lines);
+        }
         match self.done {
             Some(count) => lines_of(self.alloc, &self.text, count).ok(),
             None => None,

@@ -50,9 +50,16 @@ const STAT: &str =
 const CLEAN_WHEN_FULL: &str =
     "Where the log is full for a flush, cleans it as often as it takes, at most once a segment";
 
+const STREAM: &str = "Reads line by line, and answers each batch before it reads on; a bad line ends \
+    the session there";
+
 // What the help says behind the options.
 const AFTER_HELP: &str = "\
 All of standard input is read before anything is run: where one of its lines is bad, nothing is run.
+With --stream it is read line by line: a line go, flush, clean, upgrade or verify is done, and its
+answers are written, before the next line is waited for. A bad line ends it, with what was ended
+before it done; commands that no line has ended are run at the end of the input, and not at a bad
+line. Such a session holds its file alone.
 Nothing lasts without a flush or an upgrade: what was ordered after the last of them ends with the
 program. --create replaces what stands at its path, whether that is a store or another file.
 A store in a file has the settings with which the file was made. Those of the command line are for a
@@ -85,7 +92,7 @@ Keys and values are words of printed ASCII. In them %XX is the byte of two hexad
 Exit status:
   0  All is done, or help or the version was asked for
   2  The words of the command line are refused; nothing was read
-  3  A line of the batch file is bad; nothing was run
+  3  A line of the batch file is bad; nothing was run, or with --stream what was ended before it
   4  A fault: settings, workers, a grain or a batch that are refused, a full log, one with nothing to
      clean or one of version 2 that is to be upgraded, no memory, or a device: a stream or a file
      that is closed, held, full or missing\
@@ -147,7 +154,8 @@ fn command<'a>(alloc: Global) -> Result<Command<'a>, AllocError>
         .arg(flag(alloc, "version", VERSION))?
         .arg(flag(alloc, "explain", EXPLAIN))?
         .arg(flag(alloc, "stat", STAT))?
-        .arg(flag(alloc, "clean-when-full", CLEAN_WHEN_FULL))
+        .arg(flag(alloc, "clean-when-full", CLEAN_WHEN_FULL))?
+        .arg(flag(alloc, "stream", STREAM))
 }
 
 // What clap finds in the words.
@@ -218,11 +226,13 @@ fn ways(matches: &ArgMatches<'_>) -> Ways
         explain: flag_at(matches, "explain"),
         stat: flag_at(matches, "stat"),
         clean_when_full: flag_at(matches, "clean-when-full"),
+        stream: flag_at(matches, "stream"),
     }
 }
 
 /// Reads the words behind the program's name: `[--fan N] [--chain N] [--max-key N] [--max-value N] [--seg-size N]
-/// [--segments N] [--workers N] [--grain N] [--disk PATH] [--create] [--version] [--explain] [--stat] [--clean-when-full]`, in any order,
+/// [--segments N] [--workers N] [--grain N] [--disk PATH] [--create] [--version] [--explain] [--stat] [--clean-when-full]
+/// [--stream]`, in any order,
 /// `--fan=N` too, and `--help` or `-h`. A number that is not given has its default. Whether the numbers are in range is for `Settings::check` and `Crew::check` to say.
 pub fn options(alloc: Global, words: &[String]) -> Result<Options, Error>
     ensures ok { IfOk result (λ o. AsksFor (texts words.now) (told_of o)) }

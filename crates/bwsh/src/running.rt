@@ -36,7 +36,7 @@ fn numbers_of<D: Disk>(store: &Store<D>, tree: &Report) -> StoreNumbers
 }
 
 // Plays a step, and writes what it answers.
-fn run_step<R: Threads + Sync, D: Disk, O: Write>(
+pub(crate) fn run_step<R: Threads + Sync, D: Disk, O: Write>(
     rt: &R,
     crew: Crew,
     store: &mut Store<D>,
@@ -159,7 +159,7 @@ fn run_plain<R: AllocGlobal + Threads + Sync, D: Disk, O: Write>(
 }
 
 // Runs an order, a flush with the cleans that make room for it where it has to, and writes what it answers.
-fn run_order<R: AllocGlobal + Threads + Sync, D: Disk, O: Write>(
+pub(crate) fn run_order<R: AllocGlobal + Threads + Sync, D: Disk, O: Write>(
     rt: &R,
     crew: Crew,
     cleans: bool,

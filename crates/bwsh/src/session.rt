@@ -13,8 +13,8 @@ ghost use Rattle.bwsh.specs.declared.session.Ending.{Ending};
 ghost use Rattle.bwsh.specs.declared.session.Ending.TheVariants.{Device};
 ghost use Rattle.bwsh.specs.declared.session.Ending.TheVariants as endings;
 ghost use Rattle.bwsh.specs.BatchFile.{text_says, first_bad, orders_of, with_numbers, writes};
-ghost use Rattle.bwsh.specs.Options.{Told, AsksFor, AsksForText, AsksToExplain, AreRefused, told_of};
-ghost use Rattle.bwsh.specs.Session.{status_of, status_of_end, ending_text, unread_text, version_text, ending_by, printed_by, session_orders, BeginsWith, IsBegun, IsToldWith, IsReadEnding, IsForWords, Prints, PrintsOneText, Reads, Start, IsStart, IsShown, Answers, EndsBy, EndsTold};
+ghost use Rattle.bwsh.specs.Options.{Told, AsksFor, AsksForText, AsksToExplain, AsksToStream, AreRefused, told_of};
+ghost use Rattle.bwsh.specs.Session.{status_of, status_of_end, ending_text, unread_text, version_text, ending_by, printed_by, orders_run, BeginsWith, IsBegun, IsToldWith, IsReadEnding, IsForWords, Prints, PrintsOneText, Reads, Start, IsStart, IsShown, Answers, IsAnswered, EndsBy, EndsTold};
 
 use crate::batch_file::{Order, TextFault, parse};
 use crate::explain::explained;
@@ -24,6 +24,7 @@ use crate::opening::{new_store_in_file, store_in_file, store_in_memory};
 use crate::options::{Options, options};
 use crate::output::{ask, flush, write_bytes};
 use crate::running::run_opened;
+use crate::stream::run_stream;
 use engine::{BadCrew, LockFile};
 use keys::Fault;
 use std::alloc::{AllocError, AllocFailed, Global};
@@ -126,7 +127,7 @@ impl From<TextFault> for Ending {
 }
 
 // The fault of a read that failed: what was read may have found no memory.
-fn read_fault(error: io::Error) -> Ending
+pub(crate) fn read_fault(error: io::Error) -> Ending
     ensures memory { (result ≡ Ending.Fault Fault.NoMemory) ↔ (error_kind error ≡ ErrorKind.OutOfMemory) }
     ensures either { (result ≡ Ending.Fault Fault.NoMemory) ⊎ (result ≡ Ending.Device) }
 {
@@ -166,23 +167,8 @@ fn has_writing(orders: &[Order]) -> bool
     orders.iter().any(|order| order.writes())
 }
 
-/// Reads the batch file that `input` holds, and has it run by the crew on the store that is told: a new one in memory, or in a
-/// file that is made anew; or the one that the file holds. The answers go to `out`, in lines, and are the same for every
-/// crew. Where all is done, or a line is bad or there is no store (nothing is run then), or the store refuses an order, all
-/// answers stand there. Where memory is refused, some first lines of them do; where a device fails, some first bytes. A bad
-/// line goes before an output that is closed, that before a crew out of range, and that before settings that are refused and before
-/// a fault of the file; and a fault of the output goes before one that was found earlier.
-///
-/// Where `clean_when_full` is asked for, a flush for which the log is full is made after as many cleans as it takes, at most one for each
-/// segment, and each of them prints its line. Where they make no room it is `Fault::Full`.
-///
-/// Where an order is a flush, a clean or an upgrade, or the file is made anew, the session holds it alone, and else it shares it and only
-/// reads; a lock that is refused is a fault of the file. A file in which no store is found, or that can't be opened or locked, stays as
-/// it was. One that can't be made anew is left as `FileDisk::of_zeros` says; or, where only the writes of a new store failed, with its
-/// new length, and with zeros but for what was written of them.
-///
-/// `notes` gets what an explanation of the end needs.
-pub fn run<R: AllocGlobal + Threads + Sync + Files, I: Read, O: Write>(
+// Reads all of the input, and has it run.
+fn run_file<R: AllocGlobal + Threads + Sync + Files, I: Read, O: Write>(
     rt: &R,
     told: &Options,
     input: &mut I,
@@ -211,6 +197,44 @@ where
             run_opened(rt, crew, cleans, opened, &orders, out, notes)
         }
     }
+}
+
+/// Reads the batch file that `input` holds, and has it run by the crew on the store that is told: a new one in memory, or in a
+/// file that is made anew; or the one that the file holds. The answers go to `out`, in lines, and are the same for every
+/// crew. Where all is done, or a line is bad or there is no store (nothing is run then), or the store refuses an order, all
+/// answers stand there. Where memory is refused, some first lines of them do; where a device fails, some first bytes. A bad
+/// line goes before an output that is closed, that before a crew out of range, and that before settings that are refused and before
+/// a fault of the file; and a fault of the output goes before one that was found earlier.
+///
+/// Where `clean_when_full` is asked for, a flush for which the log is full is made after as many cleans as it takes, at most one for each
+/// segment, and each of them prints its line. Where they make no room it is `Fault::Full`.
+///
+/// A stream is read line by line: what a line ends is run, and its answers are handed on, before the next line is read. Its lines come after all
+/// else: an output that is closed, a crew out of range, settings that are refused and a fault of the file go before a bad line. What was ended
+/// before a bad line is done then, and commands that no line has ended are not; at the end of the input these are run. It holds its file alone,
+/// since what will come isn't known.
+///
+/// Where an order is a flush, a clean or an upgrade, or the file is made anew, the session holds it alone, and else it shares it and only
+/// reads; a lock that is refused is a fault of the file. A file in which no store is found, or that can't be opened or locked, stays as
+/// it was. One that can't be made anew is left as `FileDisk::of_zeros` says; or, where only the writes of a new store failed, with its
+/// new length, and with zeros but for what was written of them.
+///
+/// `notes` gets what an explanation of the end needs.
+pub fn run<R: AllocGlobal + Threads + Sync + Files, I: Read, O: Write>(
+    rt: &R,
+    told: &Options,
+    input: &mut I,
+    out: &mut O,
+    notes: &mut Notes,
+) -> Result<(), Ending>
+where
+    R::File: LockFile,
+    ensures { IsAnswered (told_of told.now) (I.remaining input.old) (O.contents out.old) (O.contents out.new) result }
+{
+    if told.ways.stream {
+        return run_stream(rt, told, input, out, notes);
+    }
+    run_file(rt, told, input, out, notes)
 }
 
 // Prints the help that was asked for.
@@ -258,7 +282,7 @@ where
     ensures version { told.now.ways.version ≡ true → (input.new ≡ input.old)
         × Prints (O.contents out.old) (O.contents out.new) (version_text ∷ []) (Ok tt) result }
     ensures answers { told.now.ways.version ≡ false →
-        Answers (told_of told.now) (I.remaining input.old) (O.contents out.old) (O.contents out.new) result }
+        IsAnswered (told_of told.now) (I.remaining input.old) (O.contents out.old) (O.contents out.new) result }
     ensures more { told.now.ways.explain ≡ false → more.new.items ≡ [] }
 {
     if told.ways.version {
@@ -267,7 +291,7 @@ where
     let mut notes = Notes::new(rt.alloc(), told.ways.explain);
     let done = run(rt, told, input, out, &mut notes);
     if told.ways.explain {
-        *more = explained(rt.alloc(), told, &notes, &done).into_bytes();
+        *more = explained(rt.alloc(), told, &mut notes, &done).into_bytes();
     }
     done
 }
@@ -355,7 +379,7 @@ pub fn unread_words<E: Write>(error: io::Error, err: &mut E) -> u8
 ///
 /// - 0: all is done; or the words ask for help or the version, which went to `out`, and nothing was read.
 /// - 2: the words are refused. Nothing was read.
-/// - 3: a line of the batch file is bad. Nothing was run, and no file was opened.
+/// - 3: a line of the batch file is bad. Nothing was run, and no file was opened; or, in a stream, what was ended before it is done.
 /// - 4: a fault. The answers to what was run before it stand in `out`, or some first of them where memory was refused
 ///   or a device failed. Where that is an output that is closed or a crew out of range, nothing was run, and no file was opened.
 ///   Its line is written when the file is closed.
@@ -383,14 +407,14 @@ where
     // anything.
     ensures done { result ≡ 0 → AsksForText (map string_bytes words.now) ⊎ ((told : Told) × AsksFor (map string_bytes words.now) told
         × IfSome (I.remaining input.old) (λ text. (first_bad 1 (text_says text) ≡ None)
-        × ((start : Start) × IsStart told start × IsOk start × (shown : Reads) × IsShown told start shown (session_orders told start shown text)
-        × Appends (O.contents out.old) (O.contents out.new) (printed_by start shown (session_orders told start shown text))))) }
-    ensures bad { result ≡ 3 → Appends (O.contents out.old) (O.contents out.new) []
+        × ((start : Start) × IsStart told start × IsOk start × (shown : Reads) × IsShown told start shown (orders_run told start shown text)
+        × Appends (O.contents out.old) (O.contents out.new) (printed_by start shown (orders_run told start shown text))))) }
+    ensures bad { result ≡ 3 → (AsksToStream (map string_bytes words.now) ⊎ Appends (O.contents out.old) (O.contents out.new) [])
         × IfSome (I.remaining input.old) (λ text. first_bad 1 (text_says text) ≢ None) }
     ensures beginning { AsksForText (map string_bytes words.now) ⊎ Appends (O.contents out.old) (O.contents out.new) []
         ⊎ ((told : Told) × AsksFor (map string_bytes words.now) told × IfSome (I.remaining input.old) (λ text. (start : Start) × IsStart told start
-        × (shown : Reads) × IsShown told start shown (session_orders told start shown text)
-        × ((front : Bytes) × BeginsWith (printed_by start shown (session_orders told start shown text)) front × Appends (O.contents out.old) (O.contents out.new) front))) }
+        × (shown : Reads) × IsShown told start shown (orders_run told start shown text)
+        × ((front : Bytes) × BeginsWith (printed_by start shown (orders_run told start shown text)) front × Appends (O.contents out.old) (O.contents out.new) front))) }
 
     // How it ends, and what is read and printed, is right for the words and the text but for memory and devices.
     // What goes to `err` is told of this end, or a beginning of it; and more only where the words ask to explain it.

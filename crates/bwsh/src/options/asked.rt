@@ -28,4 +28,6 @@ pub struct Ways {
     pub stat: bool,
     /// A flush for which the log is full is made after as many cleans as it takes, at most one for each segment; each prints its line.
     pub clean_when_full: bool,
+    /// The input is read line by line, and each batch is answered before the next line is waited for.
+    pub stream: bool,
 }

@@ -22,4 +22,5 @@ returns c =
     let eleven = rule_added _ _ _ _ _ c.in_ok-arg-11.ensures c.flag-2.ensures.local ten c.flag-2.ensures.rule in
     let twelve = rule_added _ _ _ _ _ c.in_ok-arg-12.ensures c.flag-3.ensures.local eleven c.flag-3.ensures.rule in
     let thirteen = rule_added _ _ _ _ _ c.in_ok-arg-13.ensures c.flag-4.ensures.local twelve c.flag-4.ensures.rule in
-    IfOk-weaker c.arg-14.result _ _ (λ _ added. rule_added _ _ _ _ _ added c.flag-5.ensures.local thirteen c.flag-5.ensures.rule) c.arg-14.ensures
+    let fourteen = rule_added _ _ _ _ _ c.in_ok-arg-14.ensures c.flag-5.ensures.local thirteen c.flag-5.ensures.rule in
+    IfOk-weaker c.arg-15.result _ _ (λ _ added. rule_added _ _ _ _ _ added c.flag-6.ensures.local fourteen c.flag-6.ensures.rule) c.arg-15.ensures
