@@ -170,15 +170,15 @@ pub Prints-written : (old mid new : Option (List ℕ)) (bytes : List ℕ) (done 
     → OnOk done (Appends old mid bytes) → OnErr done ((front : List ℕ) × BeginsWith bytes front × Appends old mid front) → IsOkUnless done Device
     → Keeps mid new → (end ≡ done) ⊎ (end ≡ Err Device) → Prints old new (bytes ∷ []) (Ok tt) end
 Prints-written old mid new bytes done end ok err device kept ended = Prints-flushed old mid new (bytes ∷ []) (Ok tt) done end (by done ok err device) kept ended
-    where
-      one : (xs : List ℕ) → xs ≡ flat (xs ∷ [])
-      one xs = sym (append-nil xs)
+  where
+    one : (xs : List ℕ) → xs ≡ flat (xs ∷ [])
+    one xs = sym (append-nil xs)
 
-      by : (r : Result (Unit {0}) Ending) → OnOk r (Appends old mid bytes) → OnErr r ((front : List ℕ) × BeginsWith bytes front × Appends old mid front) → IsOkUnless r Device
-          → Prints old mid (bytes ∷ []) (Ok tt) r
-      by (Ok x) a p q = inl (refl, subst (Appends old mid) (one bytes) a)
-      by (Err x) a (front, begins, b) q =
-          inr (inr (ap (λ (e : Ending). Err e) q, (front, subst (λ (xs : List ℕ). BeginsWith xs front) (one bytes) begins, b)))
+    by : (r : Result (Unit {0}) Ending) → OnOk r (Appends old mid bytes) → OnErr r ((front : List ℕ) × BeginsWith bytes front × Appends old mid front) → IsOkUnless r Device
+        → Prints old mid (bytes ∷ []) (Ok tt) r
+    by (Ok x) a p q = inl (refl, subst (Appends old mid) (one bytes) a)
+    by (Err x) a (front, begins, b) q =
+        inr (inr (ap (λ (e : Ending). Err e) q, (front, subst (λ (xs : List ℕ). BeginsWith xs front) (one bytes) begins, b)))
 
 -- the same of one text that a clause doesn't name
 pub PrintsOneText-written : (old mid new : Option (List ℕ)) (bytes : List ℕ) (done end : Result (Unit {0}) Ending)

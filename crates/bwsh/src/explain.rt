@@ -31,7 +31,9 @@ fn path(asked: &Options) -> &str {
 // A call failed. Only of the output no reason is noted.
 fn of_failure(alloc: Global, asked: &Options, notes: &mut Notes) -> Result<String, AllocError> {
     match notes.failure() {
-        None => format!(in alloc; "standard output could not be written; not all answers stand there\n"),
+        None => format!(in alloc;
+            "standard output could not be written; not all answers stand there\n"
+        ),
         Some((Source::Input, reason)) => format!(in alloc; "standard input: {reason}\n"),
         Some((Source::File, reason)) => {
             format!(in alloc; "{}: {reason}{}\n", path(asked), advice(&reason))
@@ -127,7 +129,8 @@ fn rule(why: Why) -> &'static str {
     match why {
         Why::UnknownCommand => "a line begins with a command that --help lists, or with #",
         Why::WordCount => "--help lists the words that a command takes",
-        Why::BadToken => "words are of printed ASCII, and %XX is the byte of two hexadecimal digits",
+        Why::BadToken =>
+            "words are of printed ASCII, and %XX is the byte of two hexadecimal digits",
         Why::BadNumber => "a limit is a number from 0 to 4294967295",
     }
 }

@@ -50,7 +50,8 @@ const STAT: &str =
 const CLEAN_WHEN_FULL: &str =
     "Where the log is full for a flush, cleans it as often as it takes, at most once a segment";
 
-const STREAM: &str = "Reads line by line, and answers each batch before it reads on; a bad line ends \
+const STREAM: &str =
+    "Reads line by line, and answers each batch before it reads on; a bad line ends \
     the session there";
 
 // What the help says behind the options.

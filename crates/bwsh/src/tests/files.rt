@@ -57,7 +57,13 @@ where
     };
     let mut input = input;
     let mut written = Vec::new(alloc);
-    if let Err(ending) = run(rt, &told, &mut input, &mut written, &mut Notes::new(alloc, false)) {
+    if let Err(ending) = run(
+        rt,
+        &told,
+        &mut input,
+        &mut written,
+        &mut Notes::new(alloc, false),
+    ) {
         write!(written, "{ending}")?;
     }
     Ok(written)
