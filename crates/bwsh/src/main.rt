@@ -16,8 +16,6 @@ mod running;
 pub mod session;
 pub mod show;
 mod stream;
-#[cfg(test)]
-mod tests;
 pub mod token;
 pub mod words;
 

@@ -5,8 +5,6 @@ ghost use Rattle.bwsh.specs.Options.{AsksFor, Given, IsRightKind, Text, crew_of,
 ghost use Rattle.bwsh.specs.CommandLine.{AreGivable, bwsh, finished_rows, flag_rule, number_rule, text_rule};
 
 mod asked;
-#[cfg(test)]
-mod tests;
 
 pub use asked::{Options, Ways};
 use clap::{Arg, ArgAction, ArgMatches, Command, Error, value_parser};

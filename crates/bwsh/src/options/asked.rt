@@ -18,7 +18,7 @@ pub struct Options {
 }
 
 /// In which ways a session differs from one without options. Each is off unless it is asked for.
-#[derive(Clone, Copy, Debug, Default, PartialEq, Eq)]
+#[derive(Clone, Copy, Debug, PartialEq, Eq)]
 pub struct Ways {
     /// The version is printed, and nothing is read or done.
     pub version: bool,
