@@ -25,7 +25,7 @@ EVER = 1_000_000
 
 @dataclass(frozen=True)
 class Fails:
-    """Calls of one kind that fail: so many from a number on, counted from 0, with this error. All reads and writes may be cut to a byte."""
+    """Calls of one kind that fail with this error: `count` of them from the number `first` on, counted from 0. Reads and writes may be cut to a byte."""
 
     call: str
     first: int = 0
@@ -76,7 +76,7 @@ def standing(programs: Programs, library: Path) -> Iterator[Stand]:
 
 
 def ending(err: bytes) -> int:
-    """The exit status of a session that says this on standard error."""
+    """Gives the exit status of a session that says this on standard error."""
     return 4 if err.startswith(b"fault") else 3 if err else 0
 
 
@@ -143,7 +143,7 @@ ANEW = [
 
 
 def make_in_vain(programs: Programs, library: Path) -> Outcome:
-    """A file can't be made anew. One in which zeros follow a store holds that store."""
+    """Makes a file anew in vain, and looks at what is left of it. One in which zeros follow a store holds that store."""
     with standing(programs, library) as stand:
         for fails, kept, length in ANEW:
             stand.make(b"put a 1\nflush\n", b"new\nflushed 2\n")
@@ -162,7 +162,7 @@ EMPTIED = [Fails("length"), Fails("cut"), Fails("cut", 2), Fails("write"), Fails
 
 
 def leave_empty(programs: Programs, library: Path, name: str) -> Outcome:
-    """An example makes a store in an empty file where it finds one (`open_or_create`). Where it can't, the file is left without a byte."""
+    """Runs an example on an empty file, in which it makes a store (`open_or_create`). Where it can't, the file is left without a byte."""
     program = programs.examples / name
     if not program.is_file():
         return Outcome(left_out="it isn't built: python3 examples/run.py builds it")
@@ -209,7 +209,7 @@ FOUND = [
 
 
 def fail_found(programs: Programs, library: Path, fails: Fails, text: bytes, out: bytes, err: bytes) -> Outcome:
-    """Calls fail of a file with `a`, which keeps its bytes."""
+    """Fails calls of a file with `a`, which keeps its bytes."""
     with standing(programs, library) as stand:
         stand.make(b"put a 1\nflush\n", b"new\nflushed 2\n")
         before = stand.file.read_bytes()
@@ -218,7 +218,7 @@ def fail_found(programs: Programs, library: Path, fails: Fails, text: bytes, out
 
 
 def fail_third(programs: Programs, library: Path, call: str) -> Outcome:
-    """The third call is interrupted, and made again, or it fails, where each takes a byte. One that was cut short goes on."""
+    """Interrupts the third call, which is made again, or fails it, where each takes a byte. One that was cut short goes on."""
     with standing(programs, library) as stand:
         for error, err in ((errno.EINTR, b""), (errno.EIO, DEVICE)):
             fails = Fails(call, 2, 1, error, cuts=True)
@@ -236,7 +236,7 @@ def fail_third(programs: Programs, library: Path, call: str) -> Outcome:
 
 
 def cut_file(programs: Programs, library: Path) -> Outcome:
-    """A file is cut while a session holds it: what is read after its end now is a fault."""
+    """Cuts a file while a session holds it: what it reads after the end is a fault."""
     with standing(programs, library) as stand:
         changes = b"".join(b"put a 0123456789abcdef\nflush\n" for _ in range(9))
         stand.make(changes, b"new\nflushed 2\n" + b"".join(b"replaced\nflushed %d\n" % number for number in range(3, 11)))
@@ -280,7 +280,7 @@ LOCKED = [b"put a 1\nflush\n", b"clean\n", b"upgrade\n"]
 
 
 def lock(programs: Programs, library: Path) -> Outcome:
-    """Sessions read a file, write to it and make it anew while another holds it, and while another shares it; and write to it after that."""
+    """Runs sessions that read a file, write to it and make it anew while another holds it, and while another shares it; and one after that."""
     with standing(programs, library) as stand:
         stand.make(b"", b"")
         before = stand.file.read_bytes()
@@ -297,7 +297,7 @@ def lock(programs: Programs, library: Path) -> Outcome:
 
 
 def is_free(file: Path) -> bool:
-    """Whether nobody has the file."""
+    """Says whether nobody has the file."""
     with file.open("rb") as other:
         try:
             fcntl.flock(other, fcntl.LOCK_EX | fcntl.LOCK_NB)
@@ -307,7 +307,7 @@ def is_free(file: Path) -> bool:
 
 
 def full_pipe() -> tuple[int, int]:
-    """The ends of a pipe that holds all that it can."""
+    """Makes a pipe, and fills it."""
     reader, writer = os.pipe()
     os.set_blocking(writer, False)
     with contextlib.suppress(BlockingIOError):
@@ -318,8 +318,8 @@ def full_pipe() -> tuple[int, int]:
 
 
 def close_first(programs: Programs, library: Path) -> Outcome:
-    """A session lets go of its file before it writes a fault to standard error: here it can't write yet, since that is a full pipe. So the line
-    can't get into the file, which has the descriptor of a standard error that was closed."""
+    """Sees that a session lets go of its file before it writes a fault to standard error: here that is a full pipe, so it can't write yet. So the
+    line can't get into the file, which has the descriptor of a standard error that was closed."""
     with standing(programs, library) as stand:
         stand.make(b"", b"")
         reader, writer = full_pipe()

@@ -1,4 +1,4 @@
-"""Command lines: which settings, crew and file the words tell, which are refused, and which ask for help. What a file is made with stands in its
+"""Command lines: which settings, crew and file the words name, which are refused, and which ask for help. What a file is made with stands in its
 first bytes; a setting or a crew out of range is named by a fault."""
 
 import shlex
@@ -11,7 +11,7 @@ TEXT = b"put a 1\n"
 DEVICE = b"fault 9 Device\n"
 BAD_CREW = b"fault 5 BadCrew\n"
 
-# What a line tells: fan, chain, key, value, segment, segments. Those that are not given have the program's own.
+# What a line names: fan, chain, key, value, segment, segments. Those that are not given have the program's own.
 SETTINGS = [
     ("", (16, 4, 64, 256, 65_536, 64)),
     ("--fan 8 --chain 2 --max-key 3 --max-value 5 --seg-size 700 --segments 9", (8, 2, 3, 5, 700, 9)),
@@ -33,7 +33,7 @@ OUT_OF_RANGE = [
 # Whether the crew of a line is in its range.
 CREWS = [("--fan 8", True), ("--workers 8 --grain 2", True), ("--grain=0 --disk 8", False), ("--workers=0 --grain 2", False)]
 
-# The file that a line tells, if any, and whether it is made anew.
+# The file that a line names, if any, and whether it is made anew.
 FILES: list[tuple[str, str | None, bool]] = [
     ("", None, False),
     ("--disk a", "a", False),
@@ -148,7 +148,7 @@ def crews(programs: Programs) -> Outcome:
 
 
 def file(programs: Programs, line: str, path: str | None, is_made: bool) -> Outcome:
-    """A line tells this file: it is made, and no other; or it is found, and nothing is made where there is none."""
+    """Sees that a line names this file: it is made, and no other; or it is found, and nothing is made where there is none."""
     with new_folder() as folder:
         ran = start(programs, folder, line, b"put a 1\nflush\n")
         names = [each.name for each in Path(folder).iterdir()]
@@ -165,7 +165,7 @@ def file(programs: Programs, line: str, path: str | None, is_made: bool) -> Outc
 
 
 def refused_words(ran: Ran, error: bytes) -> str | None:
-    """What is wrong with how a session ended whose words are refused with this error. Nothing was read."""
+    """Says what is wrong with how a session ended whose words are refused with this error. Nothing was read."""
     is_right = ran.status == 2 and not ran.out and ran.err.startswith(error) and not ran.read
     return None if is_right else f"{ran.told()}, and read {ran.read} bytes, where {error!r} was due"
 
@@ -180,7 +180,7 @@ def refused(programs: Programs) -> Outcome:
 
 
 def no_text(programs: Programs) -> Outcome:
-    """A word that is no UTF-8 text is refused, wherever it stands."""
+    """Starts sessions with a word that is no UTF-8 text, which is refused wherever it stands."""
     for words in ([b"\xff"], [b"--help", b"\xff"], [b"--disk", b"a\xff"]):
         ran = run([programs.store, *words], TEXT)
         wrong = differs(ran, 2, b"", b"error: a word of the command line is no text\n") or (f"it read {ran.read} bytes" if ran.read else None)
@@ -190,7 +190,7 @@ def no_text(programs: Programs) -> Outcome:
 
 
 def shown_help(programs: Programs) -> Outcome:
-    """Help is shown where it is asked for, and says what it has to. Nothing was read."""
+    """Asks for help, which says what it has to. Nothing was read."""
     with new_folder() as folder:
         texts = [start(programs, folder, line) for line in ASK_FOR_HELP]
     for line, ran in zip(ASK_FOR_HELP, texts):

@@ -113,7 +113,7 @@ def wrong_session(ran: subprocess.CompletedProcess) -> str | None:
 
 
 def unread(programs: Programs, library: Path) -> Outcome:
-    """The words of the command line can't be read for want of memory: that alone is told, whatever they are, and nothing is read."""
+    """Refuses the first allocation, so that the words of the command line can't be read: the session says so, whatever they are, and reads nothing."""
     for words in (["--frob"], ["--help"]):
         ran = run([programs.store, *words], SESSION, environment={"LD_PRELOAD": str(library), "REFUSE": "1"})
         wrong = differs(ran, 4, b"", SAID + NO_MEMORY) or (f"it read {ran.read} bytes" if ran.read else None)

@@ -8,7 +8,7 @@ Such a file is read so, by the beginnings of its lines; empty lines and those th
     > LINE              a line that is due on its standard output; `! LINE`, one on its standard error. The order among the three is the reader's own
     exit N              the status that is due; without it 0
     file NAME N         afterwards this file has N bytes; `none`, there is no such file; `kept`, it has the bytes that it had before the step
-    zeros NAME N        before the next step this file is made of so many zeros; `cut NAME N`, it is cut to this length
+    zeros NAME N        before the next step this file is made of N zeros; `cut NAME N`, it is cut to this length
 
 Of a line, \\t, \\r and \\xFF are bytes, and \\ at its end means that no line feed follows. `<*3 LINE` is three such lines, and `<a-q LINE` one for
 each letter, which stands in the place of @.
@@ -55,14 +55,14 @@ class Session:
 
 
 def bytes_of(line: str) -> bytes:
-    """The bytes that a line stands for, with its line feed."""
+    """Gives the bytes that a line stands for, with its line feed."""
     body = line.encode().removesuffix(b"\\")
     text = ESCAPE.sub(lambda found: NAMED.get(found[1]) or bytes([int(found[1][1:], 16)]), body)
     return text if line.endswith("\\") else text + b"\n"
 
 
 def lines_of(found: re.Match) -> bytes:
-    """The lines that a line stands for."""
+    """Gives the lines that a line stands for."""
     _, times, first, last, line = found.groups(default="")
     if first:
         return b"".join(bytes_of(line.replace("@", chr(letter))) for letter in range(ord(first), ord(last) + 1))
@@ -118,7 +118,7 @@ def do(deed: str, path: Path, length: int) -> None:
 
 
 def wrong_file(path: Path, due: str, before: bytes | None) -> str | None:
-    """What is wrong with a file, that had these bytes before the step."""
+    """Says what is wrong with a file that had these bytes before the step."""
     now = path.read_bytes() if path.exists() else None
     if due == "kept":
         return None if now == before and now is not None else f"{path.name} has other bytes"
@@ -149,7 +149,7 @@ def run_session(programs: Programs, session: Session) -> Outcome:
 
 
 def read_sessions() -> list[tuple[str, Session]]:
-    """The sessions of all files, each with the name of its file."""
+    """Reads the sessions of all files, and gives each with the name of its file."""
     return [(path.stem, session) for path in sorted(FOLDER.glob("*.session")) for session in Reader(path).sessions]
 
 
@@ -161,8 +161,8 @@ IN_A_BATCH = 10
 
 
 def grown_and_shrunk() -> tuple[bytes, bytes]:
-    """Many keys under small pages, in batches of ten: the tree grows to several levels, and shrinks to nothing. 389 and 1,000 have no divisor in
-    common, so each key comes once, in no order."""
+    """Puts many keys under small pages, in batches of ten, and deletes them: the tree grows to several levels, and shrinks to nothing. 389 and 1,000
+    have no divisor in common, so each key comes once, in no order."""
     puts = [b"put %d v\n" % (place * 389 % KEYS) for place in range(KEYS)]
     deletes = [b"get %d\ndel %d\n" % (key, key) for key in range(KEYS)]
     lines = [line + (b"go\n" if at % IN_A_BATCH == IN_A_BATCH - 1 else b"") for at, line in enumerate(puts + deletes)]
@@ -170,7 +170,7 @@ def grown_and_shrunk() -> tuple[bytes, bytes]:
 
 
 def full_log() -> tuple[bytes, bytes]:
-    """Example log 15: the eighteenth flush would leave no segment free. What was answered before it stands."""
+    """Flushes as in example log 15: the eighteenth flush would leave no segment free. What was answered before it stands."""
     out = b"new\nflushed 2\n" + b"".join(b"replaced\nflushed %d\n" % number for number in range(3, 19)) + b"replaced\n"
     return 18 * b"put a 0123456789abcdef\nflush\n", out
 
@@ -195,7 +195,7 @@ ENTRIES = 50
 
 
 def open_folder(programs: Programs) -> Outcome:
-    """A folder is no file that could be opened. It has many entries, since a system may give a small one fewer bytes than a store has in front."""
+    """Opens a folder, which is no file. It has many entries, since a system may give a small one fewer bytes than a store has in front."""
     with new_folder() as folder:
         for number in range(ENTRIES):
             (Path(folder) / f"entry {number}").touch()

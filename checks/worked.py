@@ -26,7 +26,7 @@ class Worked:
     slots: list[Slot]
 
     def disk(self) -> bytes:
-        """The bytes of the file: each segment up to its last frame, and zeros where nothing was written."""
+        """Makes the bytes of the file: each segment up to its last frame, and zeros where nothing was written."""
         disk = bytearray(S.disk_length())
         disk[:64] = S.block()
         for slot in self.slots:
@@ -37,7 +37,7 @@ class Worked:
 
 
 def ones(letters: bytes) -> dict[bytes, bytes]:
-    """Pairs of these letters with the value 1."""
+    """Makes pairs of these letters with the value 1."""
     return {bytes([letter]): b"1" for letter in letters}
 
 
