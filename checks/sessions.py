@@ -57,6 +57,8 @@ class Session:
 def bytes_of(line: str) -> bytes:
     """Gives the bytes that a line stands for, with its line feed."""
     body = line.encode().removesuffix(b"\\")
+    if b"\\" in ESCAPE.sub(b"", body):
+        raise ValueError(f"an unknown escape: {line}")
     text = ESCAPE.sub(lambda found: NAMED.get(found[1]) or bytes([int(found[1][1:], 16)]), body)
     return text if line.endswith("\\") else text + b"\n"
 
@@ -83,7 +85,7 @@ class Reader:
         """Takes a line, and says whether it is one."""
         if line.startswith("session "):
             self.sessions.append(Session(line.removeprefix("session ")))
-            return True
+            return not self.deeds
         if not self.sessions:
             return False
         if found := DEED.fullmatch(line):
