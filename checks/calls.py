@@ -274,6 +274,47 @@ def count_syncs(programs: Programs, library: Path) -> Outcome:
     return Outcome()
 
 
+# ---- How many threads a session starts: as many as help in a round, which are the other workers, where there are pieces for them.
+
+ENDED = 99  # the status of a session that is ended at a thread
+LEAVES = 100
+
+# How many leaves a batch has, the words, and whether threads are started. A piece has as many leaves as the grain.
+HELPED = [
+    (LEAVES, "", False),  # one worker
+    (LEAVES, "--workers=1 --grain=1", False),
+    (LEAVES, "--workers=8 --grain=65535", False),
+    (64, "--workers=8", False),  # a grain of 64
+    (65, "--workers=8", True),
+    (2, "--workers=8 --grain 2", False),
+    (3, "--workers 8 --grain=2", True),
+]
+
+
+def helpers(stand: Stand, leaves: int, words: str) -> int:
+    """Counts the threads of a session: of two batches, of which the first makes leaves of four pairs and the other puts them all again."""
+    puts = b"".join(b"put %06d v\n" % number for number in range(4 * leaves))
+    for first in range(EVER):
+        ran = stand.run(Fails("thread", first, error=ENDED), puts + b"go\n" + puts, *SMALL, *words.split())
+        if ran.status != ENDED:
+            wrong = differs(ran, 0, 4 * leaves * b"new\n" + 4 * leaves * b"replaced\n")
+            if wrong:
+                raise ValueError(wrong)
+            return first
+    return EVER
+
+
+def count_threads(programs: Programs, library: Path) -> Outcome:
+    """Counts the threads of sessions with other crews: so the numbers of the command line are seen, and those that stand for them."""
+    with standing(programs, library) as stand:
+        for leaves, words, is_helped in HELPED:
+            count = helpers(stand, leaves, words)
+            if (count > 0) != is_helped:
+                return Outcome(f"with {words or 'no words'} {count} threads were started for {leaves} leaves")
+        two, eight = (helpers(stand, LEAVES, f"--workers={workers} --grain=1") for workers in (2, 8))
+        return Outcome(None if 0 < two and eight == 7 * two else f"two workers started {two} threads, and eight {eight}")
+
+
 # ---- Locks.
 
 LOCKED = [b"put a 1\nflush\n", b"clean\n", b"upgrade\n"]
@@ -347,6 +388,7 @@ def cases(programs: Programs, library: Path) -> list[Case]:
         *(Case(f"the third {call} is interrupted or fails", fail_third, (*given, call)) for call in ("read", "write")),
         Case("a file is cut while a session holds it", cut_file, given),
         Case("how many syncs a session makes", count_syncs, given),
+        Case("how many threads a session starts", count_threads, given),
         Case("a file is held or shared", lock, given),
         Case("a file is closed before a fault is written", close_first, given),
     ]

@@ -4,6 +4,7 @@
    open                         opening the file FAIL_FILE to write; those that follow are of this file:
    hold, share, length          its lock for itself, its shared lock, asking for its length
    cut, read, write, sync       setting its length, a read, a write, a sync
+   thread                       starting a thread: that ends the program with FAIL_ERROR as its status
 
    Where FAIL_CUT is set, each read and each write of the file or of a stream takes a byte. It is loaded in front of the C library; `calls.py`
    builds and runs it. It includes nothing, since the kit has a compiler and no headers. */
@@ -14,8 +15,9 @@ char *getenv(const char *);
 long atol(const char *);
 int strcmp(const char *, const char *);
 long syscall(long, ...);
+void *dlsym(void *, const char *);
 
-enum { READ = 0, WRITE = 1, OPEN = 2, FLOCK = 73, FDATASYNC = 75, FTRUNCATE = 77, STATX = 332 };
+enum { READ = 0, WRITE = 1, OPEN = 2, FLOCK = 73, FDATASYNC = 75, FTRUNCATE = 77, EXIT_GROUP = 231, STATX = 332 };
 enum { O_WRITES = 03, LOCK_EX = 2 };
 
 static const char *kind, *path;
@@ -79,4 +81,12 @@ long write(int fd, const void *bytes, size_t size) {
     }
     const char *call = fd == 1 ? "output" : fd == 2 ? "error" : "write";
     return fails(call) ? -1 : syscall(WRITE, fd, bytes, taken(size));
+}
+
+int pthread_create(void *thread, const void *how, void *(*run)(void *), void *given) {
+    if (fails("thread")) {
+        syscall(EXIT_GROUP, error);
+    }
+    int (*create)(void *, const void *, void *(*)(void *), void *) = dlsym((void *)-1, "pthread_create"); /* the next one, the C library's */
+    return create(thread, how, run, given);
 }
