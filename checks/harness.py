@@ -1,6 +1,7 @@
 """Runs programs under limits, and says what they did; and the cases that look at it."""
 
 import os
+import shlex
 import signal
 import subprocess
 import tempfile
@@ -34,25 +35,28 @@ class Limits:
     file_blocks: int | None = None  # of 512 bytes, the greatest length of a file that it may write
     closed: str = ""
 
-    def shell(self) -> str:
-        """A shell's words that set the limits, and become the program."""
+    def shell(self, environment: dict[str, str]) -> str:
+        """A shell's words that set the limits, and become the program, which alone has the environment."""
         words = ["ulimit -c 0"]
         if self.file_blocks is not None:
             words += ["trap '' XFSZ", f"ulimit -f {self.file_blocks}"]
         if self.stack is not None:
             words.append(f"ulimit -s {self.stack}")
-        return "; ".join([*words, f'exec "$0" "$@" {self.closed}'])
+        given = [f"{name}={shlex.quote(value)}" for name, value in environment.items()]
+        return "; ".join([*words, " ".join([*given, f'exec "$0" "$@" {self.closed}'])])
 
 
 @dataclass(frozen=True)
 class Ran:
-    """How a program ended: its status, negative for a signal; what it printed; its processor seconds, and the most memory that it had."""
+    """How a program ended: its status, negative for a signal; what it printed; its processor seconds, the most memory that it had, and how many
+    bytes of its input it read."""
 
     status: int
     out: bytes
     err: bytes
     seconds: float
     memory: int
+    read: int = 0
 
     def is_fault(self, fault: str) -> bool:
         return self.status == 4 and self.err == f"{fault}\n".encode()
@@ -94,16 +98,18 @@ def watch(child: subprocess.Popen, name: str) -> tuple[float, int]:
         time.sleep(LOOK)
 
 
-def run(command: list, text: bytes | Path = b"", limits: Limits = Limits()) -> Ran:
-    """Runs a program with nothing in its environment. The text, or the file of that path, is its standard input."""
+def run(command: list, text: bytes | Path = b"", limits: Limits = Limits(), folder: Path | None = None, environment: dict[str, str] | None = None) -> Ran:
+    """Runs a program in this folder, with nothing in its environment but this. The text, or the file of that path, is its standard input."""
     with tempfile.TemporaryFile() as source, tempfile.TemporaryFile() as out, tempfile.TemporaryFile() as err:
         source.write(text.read_bytes() if isinstance(text, Path) else text)
         source.seek(0)
-        child = subprocess.Popen(["sh", "-c", limits.shell(), *command], stdin=source, stdout=out, stderr=err, env={})
+        shell = ["sh", "-c", limits.shell(environment or {}), *command]
+        child = subprocess.Popen(shell, stdin=source, stdout=out, stderr=err, cwd=folder, env={})
         seconds, memory = watch(child, Path(command[0]).name)
         out.seek(0)
         err.seek(0)
-        return Ran(child.returncode, out.read(), err.read(), seconds, memory)
+        read = os.lseek(source.fileno(), 0, os.SEEK_CUR)
+        return Ran(child.returncode, out.read(), err.read(), seconds, memory, read)
 
 
 @dataclass(frozen=True)

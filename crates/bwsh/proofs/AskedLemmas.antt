@@ -15,9 +15,9 @@ use Rattle.clap.specs.declared.error.Error.{Error}
 use Rattle.clap.specs.declared.error.kind.ErrorKind.{ErrorKind}
 use Rattle.clap.specs.declared.error.kind.ErrorKind.TheVariants.{DisplayHelp, ValueValidation}
 use Rattle.clap.proofs.WalkLemmas.{both}
-use Rattle.bwsh.specs.Options.{Asked, options, help, refused, Given, IsRightKind, Text, asked, is_number, is_refusal, takes_number}
-use Rattle.bwsh.specs.CommandLine.{AreGivable, built_number, built_rules, bwsh, finished_rows, given_row, number_defaults, text_rule}
-use Rattle.bwsh.proofs.TurnLemmas.{HasOptions, TakesText, built_create, built_help, held, or_else-none, shape, standing}
+use Rattle.bwsh.specs.Options.{Asked, options, help, refused, Given, IsRightKind, Text, asked, flag_names, is_number, is_refusal, takes_nothing, takes_number}
+use Rattle.bwsh.specs.CommandLine.{AreGivable, built_flag, built_number, built_rules, bwsh, finished_rows, given_row, number_defaults, text_rule}
+use Rattle.bwsh.proofs.TurnLemmas.{HasOptions, TakesText, any_of, built_help, held, or_else-none, shape, standing}
 use Rattle.bwsh.proofs.CommandLineLemmas.{Comes, rest_fault, rest_rows, words_come}
 
 -- ---- the options of the command line
@@ -28,7 +28,7 @@ built_disk = filled (text_rule (codes "disk"))
 
 -- what stands after the options that take a number
 abbrev last_rules : List Rule
-last_rules = built_disk ∷ built_create ∷ built_help ∷ []
+last_rules = built_disk ∷ map built_flag flag_names ++ built_help ∷ []
 
 abbrev pub rules : List Rule
 rules = map built_number number_defaults ++ last_rules
@@ -90,14 +90,26 @@ known_text name false is hit = subst (TakesText rules) ((bytes_eq-Decides (codes
   by_id = refl;
 })
 
+-- none of the options that take nothing
+none_of_flags : (name : Text) → takes_nothing name ≡ false → bytes_eq (codes "disk") name ≡ false → bytes_eq (codes "help") name ≡ false
+    → arg_by_long last_rules name ≡ None
+none_of_flags name none no_disk no_help =
+    let (one, later) = or_splits (bytes_eq (codes "create") name) _ none in
+    let (two, later_two) = or_splits (bytes_eq (codes "version") name) _ later in
+    let (three, later_three) = or_splits (bytes_eq (codes "explain") name) _ later_two in
+    let (four, later_four) = or_splits (bytes_eq (codes "stat") name) _ later_three in
+    let (five, later_five) = or_splits (bytes_eq (codes "clean-when-full") name) _ later_four in
+    let (six, last) = or_splits (bytes_eq (codes "stream") name) _ later_five in
+    rw (no_disk, one, two, three, four, five, six, no_help) refl
+
 has_options : HasOptions rules
 has_options = record {
   known = λ name takes. known_text name (takes_number name) refl takes;
-  create = refl;
+  flags = any_of (λ name. arg_by_long rules name ≡ Some (built_flag name)) flag_names (refl, (refl, (refl, (refl, (refl, (refl, tt))))));
   help = refl;
-  others = λ name takes no_create no_help.
+  others = λ name takes no_flag no_help.
       let (no_number, no_disk) = or_splits (takes_number name) _ takes in
-      long_after number_defaults last_rules name no_number ∙ rw (no_disk, no_create, no_help) refl;
+      long_after number_defaults last_rules name no_number ∙ none_of_flags name no_flag no_disk no_help;
   short = λ x. ap (λ (b : Bool). cond b (Some built_help) None) (or_false (104 == x));
   positional = refl;
 }
@@ -127,12 +139,14 @@ default_passes true d e = refl
 default_passes false true e = refl
 default_passes false false e = cc
 
+flags_pass : (names : List Text) (rows : List Row) → defaults_fault rows (map built_flag names ++ built_help ∷ []) ≡ []
+unfolding defaults_fault
+flags_pass [] rows = no_default (has_row (codes "help") rows) _ _
+flags_pass (name ∷ names) rows = flag_default (has_row name rows) _ ∙ flags_pass names (with_default rows (built_flag name))
+
 last_pass : (rows : List Row) → defaults_fault rows last_rules ≡ []
 unfolding defaults_fault
-last_pass rows =
-    let then_rows = with_default rows built_disk in
-    no_default (has_row (codes "disk") rows) _ _ ∙ flag_default (has_row (codes "create") then_rows) _
-    ∙ no_default (has_row (codes "help") (with_default then_rows built_create)) _ _
+last_pass rows = no_default (has_row (codes "disk") rows) _ _ ∙ flags_pass flag_names (with_default rows built_disk)
 
 defaults_pass : (ps : List (Text × Text)) (rows : List Row) → list_all (λ p. is_number p.1) ps ≡ true → defaults_fault rows (map built_number ps ++ last_rules) ≡ []
 unfolding defaults_fault

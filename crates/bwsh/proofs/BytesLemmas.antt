@@ -15,7 +15,7 @@ use Rattle.flush_log.specs.FlushText.{flush_text, upgrade_text, flushed}
 use Rattle.flush_log.specs.Layout.{is_full_for_flush}
 use Rattle.engine.specs.Steps.{Step, Answer, Stepped, unless_refused, after_step, batching}
 use Rattle.bwsh.specs.declared.batch_file.Order.{Order}
-use Rattle.bwsh.specs.declared.batch_file.Order.TheVariants.{Batch, Flush, Clean, Upgrade, Verify}
+use Rattle.bwsh.specs.declared.batch_file.Order.TheVariants.{Batch, Flush, Clean, Upgrade, Verify, Numbers}
 use Rattle.bwsh.specs.declared.session.Ending.TheVariants as endings
 use Rattle.bwsh.specs.BatchFile.{IsNoClean}
 use Rattle.bwsh.specs.Session.{Stored, Reads, later, AreLeft, step_in, left_by, refused_by, behind_step, refusal_of_step, behind, refusal_of, map_behind, own_lines, answer_lines, accepted, first_refusal, orders_end, stopped_by}
@@ -78,6 +78,7 @@ module _ (settings : Settings) (st : Store) (f g : List ℕ) where
       subst (λ (z : Step Global). without_bytes (stepped f z) ≡ without_bytes (stepped g z)) same (upgrade-same st.version settings (of_version_two st) f g (upgrade_text st.tree))
   order-same Clean only y is = absurd only
   order-same Verify only y is = absurd (cc)
+  order-same Numbers only y is = absurd (cc)
 
   step-same : (o : Option (Step Global)) → ((y : Step Global) → o ≡ Some y → without_bytes (stepped f y) ≡ without_bytes (stepped g y))
       → ((behind_step settings (st, f) o).0 ≡ (behind_step settings (st, g) o).0) × (refusal_of_step settings (st, f) o ≡ refusal_of_step settings (st, g) o)
@@ -85,7 +86,7 @@ module _ (settings : Settings) (st : Store) (f g : List ℕ) where
   step-same (Some y) same = left-same st f g (stepped f y) (stepped g y) (same y refl)
 
   -- an order that is no clean leaves the same store, and is refused for the same reason
-  behind-same : (order : Order) → IsNoClean order → ((behind settings st f order).0 ≡ (behind settings st g order).0) × (refusal_of settings st f order ≡ refusal_of settings st g order)
+  pub behind-same : (order : Order) → IsNoClean order → ((behind settings st f order).0 ≡ (behind settings st g order).0) × (refusal_of settings st f order ≡ refusal_of settings st g order)
   unfolding behind refusal_of
   behind-same order only = step-same (step_in order) (order-same order only)
 
@@ -96,6 +97,7 @@ module _ (settings : Settings) (st : Store) (f g : List ℕ) where
   own-same m Clean same = ap (λ (s : Store). shown_cleaned s.head ∷ []) same
   own-same m Upgrade same = ap (λ (s : Store). shown_upgraded s.sequence ∷ []) same
   own-same m Verify same = refl
+  own-same m Numbers same = refl
 
 -- ---- orders
 

@@ -3,7 +3,7 @@ use Rattle.std.proofs.Common.{Bool, true, false, ◌≡◌, ◌≢◌, ◌↔◌
 use Rattle.std.specs.Prelude.{IsTrue, IsOk, replicate, String}
 use Rattle.std.specs.declared.alloc.Global.{Global}
 use Rattle.std.specs.Bool.{MatchBool}
-use Rattle.std.specs.Option.{option_map}
+use Rattle.std.specs.Option.{option_map, option_or}
 use Rattle.std.specs.String.{string_bytes}
 use Rattle.std.specs.Io.KnownBytes.{Appends, Keeps}
 use Rattle.std.proofs.KnownBytes.{Appends-nil, Appends-trans}
@@ -18,19 +18,20 @@ use Rattle.mapping.specs.Tree.{Store}
 use Rattle.flush_log.specs.Disk.{View}
 use Rattle.flush_log.specs.Segments.{disk_size}
 use Rattle.engine.specs.State.{State}
+use Rattle.bwsh.specs.declared.line.Says.{Says}
 use Rattle.bwsh.specs.declared.line.Why.{Why}
 use Rattle.bwsh.specs.declared.batch_file.Order.{Order}
 use Rattle.bwsh.specs.declared.session.Ending.{Ending}
 use Rattle.bwsh.specs.declared.session.Ending.TheVariants.{Words, Bad, Device}
 use Rattle.bwsh.specs.declared.session.Ending.TheVariants as endings
-use Rattle.bwsh.specs.BatchFile.{text_says, first_bad, orders_of}
-use Rattle.bwsh.specs.Session.{status_of_end, Reads, later, Start, IsStart, IsStartBy, IsShown, AreLeft, AreLeftFrom, new_start, found_start, refusal_of, behind, map_behind, own_lines, answer_lines, printed, printed_by, accepted, orders_end, first_refusal, stopped_by, end_after, lines_after, session_end, session_lines, IsReadEnding, IsUnopened, IsHonestStore, Opens, IsForWords, BeginsWith, Prints, PrintsOneText, Runs, RunsOn, RunsFrom, Answers, EndsBy}
-use Rattle.bwsh.specs.Options.{Told, AsksFor, AsksForHelp, AreRefused, is_refusal, IsRightKind, told_of}
+use Rattle.bwsh.specs.BatchFile.{text_says, first_bad, orders_of, with_numbers}
+use Rattle.bwsh.specs.Session.{status_of_end, Reads, later, Start, IsStart, IsStartBy, IsShown, AreLeft, AreLeftFrom, new_start, found_start, refusal_of, behind, map_behind, own_lines, answer_lines, printed, printed_by, accepted, orders_end, first_refusal, stopped_by, end_after, lines_after, run_by, run_from, run_of, bad_ending, end_streamed, session_orders, session_end, session_lines, version_text, IsReadEnding, IsUnopened, IsHonestStore, Opens, IsForWords, BeginsWith, Prints, PrintsOneText, Runs, RunsOn, RunsFrom, stream_end, stream_lines, stream_orders, Answers, IsAnswered, Streams, EndsBy}
+use Rattle.bwsh.specs.Options.{Told, AsksFor, AsksForText, AsksToExplain, AsksToStream, AreRefused, is_refusal, IsRightKind, told_of}
 use Rattle.bwsh.specs.declared.options.asked.Options.{Options}
 use Rattle.clap.specs.declared.error.kind.ErrorKind.{ErrorKind}
 use Rattle.clap.specs.declared.error.kind.ErrorKind.TheVariants.{DisplayHelp, OutOfMemory}
-use Rattle.bwsh.proofs.Prints.{front-more, front-trans, front-flat, Prints-front, Prints-flushed, IfSome-known}
-use Rattle.bwsh.proofs.RunLemmas.{left_shown, AreLeft-left_shown}
+use Rattle.bwsh.proofs.Prints.{front-more, front-trans, front-flat, Prints-asked, Prints-front, Prints-flushed, IfSome-known}
+use Rattle.bwsh.proofs.FirstLemmas.{leave}
 use Rattle.clap.specs.declared.error.Error.{Error}
 
 -- ---- a session that ends before any order is run
@@ -40,14 +41,16 @@ pub IsReadEnding-of_fault : (bad : Option (ℕ × Why)) (early : Ending) → (ea
 IsReadEnding-of_fault bad early (inl e) = rw e refl
 IsReadEnding-of_fault bad early (inr e) = rw e tt
 
--- what was left from this start
-abbrev left_from : Start → List Order → Reads
-left_from (Ok p) orders = left_shown p.0 p.1.0 p.1.1 orders
-left_from (Err fault) orders = λ i. []
+-- some reads show what was left from this start
+pub leave_from : (cleans : Bool) (start : Start) (orders : List Order) → (shown : Reads) × AreLeftFrom start shown (run_from cleans start shown orders)
+leave_from cleans (Ok p) orders = leave cleans p.0 orders p.1.0 p.1.1
+leave_from cleans (Err fault) orders = (λ i. [], tt)
 
-AreLeftFrom-left_from : (start : Start) (orders : List Order) → AreLeftFrom start (left_from start orders) orders
-AreLeftFrom-left_from (Ok p) orders = AreLeft-left_shown p.0 p.1.0 p.1.1 orders
-AreLeftFrom-left_from (Err fault) orders = tt
+-- nothing is printed, for want of memory or since a device failed
+pub Prints-cut : (old : Option (List ℕ)) (lines : List (List ℕ)) (right : Result (Unit {0}) Ending) (early : Ending) → (early ≡ endings.Fault NoMemory) ⊎ (early ≡ Device)
+    → Prints old old lines right (Err early)
+Prints-cut old lines right early (inl e) = inr (inl (ap (λ (x : Ending). Err x) e, ([], (lines, refl), Appends-nil old)))
+Prints-cut old lines right early (inr e) = inr (inr (ap (λ (x : Ending). Err x) e, ([], (flat lines, refl), Appends-nil old)))
 
 module _ (old : Option (List ℕ)) (start : Start) (shown : Reads) (orders : List Order) where
   Prints-unread : (bad : Option (ℕ × Why)) (early : Ending) → IsReadEnding bad early
@@ -65,29 +68,29 @@ module _ (old : Option (List ℕ)) (start : Start) (shown : Reads) (orders : Lis
   Prints-unopened early (inr (inr e)) =
       inr (inr (ap (λ (x : Ending). Err x) e, ([], (flat (lines_after None start shown orders), refl), Appends-nil old)))
 
-module _ (old : Option (List ℕ)) (start : Start) (orders : List Order) {D : Type 0} (view : D → View) (opened : Result (State D) Ending) (opens : Opens view start opened) where
+module _ (old : Option (List ℕ)) (cleans : Bool) (start : Start) (orders : List Order) {D : Type 0} (view : D → View) (opened : Result (State D) Ending) (opens : Opens view start opened) where
   -- there is no store
-  pub RunsFrom-unopened : (early : Ending) → opened ≡ Err early → RunsFrom (IsHonestStore view opened) start orders old old (Err early)
+  pub RunsFrom-unopened : (early : Ending) → opened ≡ Err early → RunsFrom cleans (IsHonestStore view opened) start orders old old (Err early)
   unfolding RunsFrom
   RunsFrom-unopened early e =
-      let shown : Reads = left_from start orders in
-      (shown, λ h. AreLeftFrom-left_from start orders, Prints-unopened old start shown orders early (subst (Opens view start) e opens))
+      let (shown, are) = leave_from cleans start orders in
+      (shown, λ h. are, Prints-unopened old start shown (run_from cleans start shown orders) early (subst (Opens view start) e opens))
 
   -- there is one: the orders are run on it
   pub RunsFrom-opened : (x : State D) (mid new : Option (List ℕ)) (done end : Result (Unit {0}) Ending) → opened ≡ Ok x
-      → RunsOn (view x.disk).is_honest x.settings x.store (view x.disk).seen orders old mid done → Keeps mid new → (end ≡ done) ⊎ (end ≡ Err Device)
-      → RunsFrom (IsHonestStore view opened) start orders old new end
+      → RunsOn cleans (view x.disk).is_honest x.settings x.store (view x.disk).seen orders old mid done → Keeps mid new → (end ≡ done) ⊎ (end ≡ Err Device)
+      → RunsFrom cleans (IsHonestStore view opened) start orders old new end
   unfolding RunsFrom Runs
   RunsFrom-opened x mid new done end e (shown, are, runs) kept ended =
       let (file, start_is, seen_is) = subst (Opens view start) e opens in
-      let is_left : IsHonestStore view opened → AreLeft x.settings x.store file shown orders = λ honest.
+      let is_left : IsHonestStore view opened → AreLeft x.settings x.store file shown (run_of cleans x.settings x.store shown orders) = λ honest.
       let h : IsTrue (view x.disk).is_honest = subst (IsHonestStore view) e honest in
-      subst (λ (f : List ℕ). AreLeft x.settings x.store f shown orders) (seen_is h) (are h) in
+      subst (λ (f : List ℕ). AreLeft x.settings x.store f shown (run_of cleans x.settings x.store shown orders)) (seen_is h) (are h) in
       rw start_is (
         shown,
         is_left,
-        Prints-flushed old mid new (lines_after None (Ok (x.settings, (x.store, file))) shown orders)
-            (end_after None (Ok (x.settings, (x.store, file))) shown orders) done end runs kept ended,
+        Prints-flushed old mid new (lines_after None (Ok (x.settings, (x.store, file))) shown (run_of cleans x.settings x.store shown orders))
+            (end_after None (Ok (x.settings, (x.store, file))) shown (run_of cleans x.settings x.store shown orders)) done end runs kept ended,
       )
 
 -- what the words give has some right start
@@ -96,7 +99,7 @@ start_by_rest settings None create = (new_start settings (replicate (disk_size s
 start_by_rest settings (Some path) true = (new_start settings [], ([], refl))
 start_by_rest settings (Some path) false = (found_start [], ([], refl))
 
-start_of : (in_range : Bool) (settings : Settings) (disk : Option (List ℕ)) (create : Bool)
+pub start_of : (in_range : Bool) (settings : Settings) (disk : Option (List ℕ)) (create : Bool)
     → (start : Start) × MatchBool in_range (IsStartBy settings disk create start) (start ≡ Err BadCrew)
 start_of true settings disk create = start_by_rest settings disk create
 start_of false settings disk create = (Err BadCrew, refl)
@@ -109,7 +112,12 @@ at_false : (b : Bool) (P Q : Type 0) → b ≡ false → Q → MatchBool b P Q
 at_false true P Q is q = cc
 at_false false P Q is q = q
 
--- what a check of the crew shows of it
+-- none where the crew is out of range
+pub start_without_crew : (told : Told) → is_crew told.crew ≡ false → IsStart told (Err BadCrew)
+start_without_crew told out_of_range =
+    let start : Start = Err BadCrew in at_false (is_crew told.crew) (IsStartBy told.settings told.disk told.create start) (start ≡ Err BadCrew) out_of_range refl
+
+-- what a check of the crew tells of it
 pub in_range : (b : Bool) → MatchBool b (true ≡ true) (false ≡ true) → IsTrue b
 in_range true p = refl
 in_range false p = cc
@@ -142,9 +150,8 @@ module _ (told : Told) (known old : Option (List ℕ)) (text : List ℕ) (is_kno
   unfolding Answers
   Answers-unread early h =
       let (start, is) = start_of (is_crew told.crew) told.settings told.disk told.create in
-      let orders : List Order = orders_of [] (text_says text) in
-      let shown : Reads = left_from start orders in
-      (text, is_known, start, is, shown, λ memory. AreLeftFrom-left_from start orders, Prints-unread old start shown orders (first_bad 1 (text_says text)) early h)
+      let (shown, are) = leave_from told.ways.clean_when_full start (with_numbers told.ways.stat (orders_of [] (text_says text))) in
+      (text, is_known, start, is, shown, λ memory. are, Prints-unread old start shown (session_orders told start shown text) (first_bad 1 (text_says text)) early h)
 
   -- the crew is out of range: nothing is run
   pub Answers-no_crew : is_crew told.crew ≡ false → first_bad 1 (text_says text) ≡ None → Answers told known old old (Err (endings.Fault BadCrew))
@@ -154,27 +161,20 @@ module _ (told : Told) (known old : Option (List ℕ)) (text : List ℕ) (is_kno
       let is : IsStart told start = at_false (is_crew told.crew) (IsStartBy told.settings told.disk told.create start) (start ≡ Err BadCrew) out_of_range refl in
       (text, is_known, start, is, λ i. [], λ memory. tt, rw no_bad (inl (refl, Appends-nil old)))
 
-  pub Answers-run : (new : Option (List ℕ)) (end : Result (Unit {0}) Ending) (ran items : List Order) → first_bad 1 (text_says text) ≡ None → ran ≡ items → items ≡ orders_of [] (text_says text)
-      → (start : Start) → IsStart told start → (IsHonest : Type 0) → (told.disk ≡ None → IsHonest) → RunsFrom IsHonest start ran old new end → Answers told known old new end
+  pub Answers-run : (new : Option (List ℕ)) (end : Result (Unit {0}) Ending) (ran items : List Order) → first_bad 1 (text_says text) ≡ None → ran ≡ items
+      → items ≡ with_numbers told.ways.stat (orders_of [] (text_says text)) → (start : Start) → IsStart told start → (IsHonest : Type 0) → (told.disk ≡ None → IsHonest)
+      → RunsFrom told.ways.clean_when_full IsHonest start ran old new end → Answers told known old new end
   unfolding Answers RunsFrom
   Answers-run new end ran items no_bad e_ran e_items start is IsHonest honest p =
-      let (shown, are, run) = subst (λ (os : List Order). RunsFrom IsHonest start os old new end) (e_ran ∙ e_items) p in
+      let (shown, are, run) = subst (λ (os : List Order). RunsFrom told.ways.clean_when_full IsHonest start os old new end) (e_ran ∙ e_items) p in
       (text, is_known, start, is, shown, λ memory. are (honest memory), rw no_bad run)
 
--- an output to which nothing was appended first
-module _ (old mid new : Option (List ℕ)) (asked : Appends old mid []) where
-  after_nothing : (bs : List ℕ) → Appends mid new bs → Appends old new bs
-  after_nothing bs a = Appends-trans old mid new [] bs asked a
-
-  Prints-asked : (lines : List (List ℕ)) (right end : Result (Unit {0}) Ending) → Prints mid new lines right end → Prints old new lines right end
-  Prints-asked lines right end (inl (e, a)) = inl (e, after_nothing (flat lines) a)
-  Prints-asked lines right end (inr (inl (e, (front, begins, a)))) = inr (inl (e, (front, begins, after_nothing (flat front) a)))
-  Prints-asked lines right end (inr (inr (e, (front, begins, a)))) = inr (inr (e, (front, begins, after_nothing front a)))
-
-  pub Answers-asked : (told : Told) (known : Option (List ℕ)) (end : Result (Unit {0}) Ending) → Answers told known mid new end → Answers told known old new end
-  unfolding Answers
-  Answers-asked told known end (text, is_known, start, is, shown, is_shown, p) =
-      (text, is_known, start, is, shown, is_shown, Prints-asked (session_lines start shown text) (session_end start shown text) end p)
+-- nothing was appended first
+pub Answers-asked : (old mid new : Option (List ℕ)) → Appends old mid [] → (told : Told) (known : Option (List ℕ)) (end : Result (Unit {0}) Ending) → Answers told known mid new end
+    → Answers told known old new end
+unfolding Answers
+Answers-asked old mid new asked told known end (text, is_known, start, is, shown, is_shown, p) =
+    (text, is_known, start, is, shown, is_shown, Prints-asked old mid new asked (session_lines told start shown text) (session_end told start shown text) end p)
 
 -- another crew that is in range where this one is
 pub Answers-crew : (told : Told) (crew : Crew) → is_crew crew ≡ is_crew told.crew → (known old new : Option (List ℕ)) (end : Result (Unit {0}) Ending)
@@ -234,14 +234,10 @@ words_stop : (r : Option Fault) (error : Error) → Err (Words error) ≡ stoppe
 words_stop None error e = cc
 words_stop (Some fault) error e = cc
 
-module _ (text : List ℕ) where
-  -- the orders of the text
-  abbrev ordered : List Order
-  ordered = orders_of [] (text_says text)
-
+module _ (ordered : List Order) where
   module _ (shown : Reads) where
     done_right : (bad : Option (ℕ × Why)) (start : Start) (done : Unit {0}) → Ok done ≡ end_after bad start shown ordered
-        → (bad ≡ None) × IsOk start × (flat (lines_after bad start shown ordered) ≡ printed_by start shown text)
+        → (bad ≡ None) × IsOk start × (flat (lines_after bad start shown ordered) ≡ printed_by start shown ordered)
     done_right None (Ok p) done e =
         (refl, refl, ap (λ (os : List Order). printed p.0 p.1.0 shown (contents p.1.0.tree) os) (accepted-all p.0 p.1.0 shown ordered done e))
     done_right None (Err fault) done e = absurd (cc)
@@ -258,76 +254,208 @@ module _ (text : List ℕ) where
     words_right None (Err fault) error e = cc
     words_right (Some b) start error e = cc
 
-    front_right : (bad : Option (ℕ × Why)) (start : Start) → BeginsWith (printed_by start shown text) (flat (lines_after bad start shown ordered))
+    front_right : (bad : Option (ℕ × Why)) (start : Start) → BeginsWith (printed_by start shown ordered) (flat (lines_after bad start shown ordered))
     front_right None (Ok p) =
         let m = contents p.1.0.tree in
         front-flat (answer_lines p.0 p.1.0 shown m ordered) (answer_lines p.0 p.1.0 shown m (accepted p.0 p.1.0 shown ordered)) (accepted-front p.0 m p.1.0 shown ordered)
     front_right None (Err fault) = ([], refl)
-    front_right (Some b) start = (printed_by start shown text, refl)
+    front_right (Some b) start = (printed_by start shown ordered, refl)
+
+-- ---- how a stream ends
+
+-- all is done only where nothing is refused and no line is bad
+both_none : (r : Option Fault) (bad : Option (ℕ × Why)) (done : Unit {0}) → Ok done ≡ stopped_by (option_or (option_map (λ fault. endings.Fault fault) r) (option_map bad_ending bad))
+    → (r ≡ None) × (bad ≡ None)
+both_none None None done e = (refl, refl)
+both_none None (Some b) done e = absurd (cc)
+both_none (Some fault) bad done e = absurd (cc)
+
+-- it ends at a line only where one is bad
+some_bad : (r : Option Fault) (bad : Option (ℕ × Why)) (line : ℕ) (why : Why)
+    → Err (Bad line why) ≡ stopped_by (option_or (option_map (λ fault. endings.Fault fault) r) (option_map bad_ending bad)) → bad ≢ None
+some_bad None None line why e = absurd (cc)
+some_bad None (Some b) line why e = λ no_bad. cc
+some_bad (Some fault) bad line why e = absurd (cc)
+
+no_words : (r : Option Fault) (bad : Option (ℕ × Why)) (error : Error) → Err (Words error) ≡ stopped_by (option_or (option_map (λ fault. endings.Fault fault) r) (option_map bad_ending bad)) → ⊥
+no_words None None error e = cc
+no_words None (Some b) error e = cc
+no_words (Some fault) bad error e = cc
+
+module _ (orders : List Order) (shown : Reads) (bad : Option (ℕ × Why)) where
+  streamed_done : (start : Start) (done : Unit {0}) → Ok done ≡ end_streamed bad start shown orders
+      → (bad ≡ None) × IsOk start × (flat (lines_after None start shown orders) ≡ printed_by start shown orders)
+  streamed_done (Ok p) done e =
+      let (none, good) = both_none (first_refusal p.0 p.1.0 shown orders) bad done e in
+      let all : Ok done ≡ orders_end p.0 p.1.0 shown orders = ap (λ (o : Option Fault). stopped_by (option_map (λ fault. endings.Fault fault) o)) (sym none) in
+      (good, refl, ap (λ (os : List Order). printed p.0 p.1.0 shown (contents p.1.0.tree) os) (accepted-all p.0 p.1.0 shown orders done all))
+  streamed_done (Err fault) done e = absurd (cc)
+
+  streamed_bad : (start : Start) (line : ℕ) (why : Why) → Err (Bad line why) ≡ end_streamed bad start shown orders → bad ≢ None
+  streamed_bad (Ok p) line why e = some_bad (first_refusal p.0 p.1.0 shown orders) bad line why e
+  streamed_bad (Err fault) line why e = absurd (cc)
+
+  streamed_words : (start : Start) (error : Error) → Err (Words error) ≡ end_streamed bad start shown orders → ⊥
+  streamed_words (Ok p) error e = no_words (first_refusal p.0 p.1.0 shown orders) bad error e
+  streamed_words (Err fault) error e = cc
+
+-- what some lines say, which are those of the known text
+IfSome-said : (known : Option (List ℕ)) (said : List Says) (P : List Says → Type 0) → IfSome known (λ text. said ≡ text_says text) → P said → IfSome known (λ text. P (text_says text))
+IfSome-said None said P e p = tt
+IfSome-said (Some text) said P e p = subst P e p
 
 -- ---- what follows of a session whose words name a store
 
 -- all that the text orders is printed, from a right start that has a store
+abbrev DoneBy : Bool → Told → Option (List ℕ) → Option (List ℕ) → List ℕ → Type 0
+DoneBy b told old new text =
+    (first_bad 1 (text_says text) ≡ None) × ((start : Start) × IsStart told start × IsOk start × (shown : Reads) × IsShown told start shown (run_by b told start shown text)
+    × Appends old new (printed_by start shown (run_by b told start shown text)))
+
 abbrev IsDoneOn : Told → Option (List ℕ) → Option (List ℕ) → List ℕ → Type 0
-IsDoneOn told old new text =
-    (first_bad 1 (text_says text) ≡ None) × ((start : Start) × IsStart told start × IsOk start × (shown : Reads) × IsShown told start shown (orders_of [] (text_says text))
-    × Appends old new (printed_by start shown text))
+IsDoneOn told old new text = DoneBy told.ways.stream told old new text
 
 -- a beginning of it is
+abbrev BegunBy : Bool → Told → Option (List ℕ) → Option (List ℕ) → List ℕ → Type 0
+BegunBy b told old new text =
+    (start : Start) × IsStart told start × (shown : Reads) × IsShown told start shown (run_by b told start shown text)
+    × ((front : List ℕ) × BeginsWith (printed_by start shown (run_by b told start shown text)) front × Appends old new front)
+
 abbrev HasBegunOn : Told → Option (List ℕ) → Option (List ℕ) → List ℕ → Type 0
-HasBegunOn told old new text =
-    (start : Start) × IsStart told start × (shown : Reads) × IsShown told start shown (orders_of [] (text_says text))
-    × ((front : List ℕ) × BeginsWith (printed_by start shown text) front × Appends old new front)
+HasBegunOn told old new text = BegunBy told.ways.stream told old new text
 
 module _ (told : Told) (known old new : Option (List ℕ)) where
-  told_done : (done : Unit {0}) → Answers told known old new (Ok done) → IfSome known (IsDoneOn told old new)
+  text_done : (done : Unit {0}) → Answers told known old new (Ok done) → IfSome known (DoneBy false told old new)
   unfolding Answers
-  told_done done (text, is_known, start, is, shown, is_shown, p) =
-      IfSome-known known text (IsDoneOn told old new) is_known (by p) where
-        by : Prints old new (session_lines start shown text) (session_end start shown text) (Ok done) → IsDoneOn told old new text
+  text_done done (text, is_known, start, is, shown, is_shown, p) =
+      IfSome-known known text (DoneBy false told old new) is_known (by p) where
+        by : Prints old new (session_lines told start shown text) (session_end told start shown text) (Ok done) → DoneBy false told old new text
         by (inl (e, a)) =
-            let (none, opened, lines) = done_right text shown (first_bad 1 (text_says text)) start done e in
+            let (none, opened, lines) = done_right (session_orders told start shown text) shown (first_bad 1 (text_says text)) start done e in
             (none, (start, is, opened, shown, is_shown, subst (λ (l : List ℕ). Appends old new l) lines a))
         by (inr (inl (e, q))) = absurd (cc)
         by (inr (inr (e, q))) = absurd (cc)
 
-  told_bad : (line : ℕ) (why : Why) → Answers told known old new (Err (Bad line why)) → Appends old new [] × IfSome known (λ text. first_bad 1 (text_says text) ≢ None)
+  text_bad : (line : ℕ) (why : Why) → Answers told known old new (Err (Bad line why)) → Appends old new [] × IfSome known (λ text. first_bad 1 (text_says text) ≢ None)
   unfolding Answers
-  told_bad line why (text, is_known, start, is, shown, is_shown, p) = by p where
-    by : Prints old new (session_lines start shown text) (session_end start shown text) (Err (Bad line why)) → Appends old new [] × IfSome known (λ t. first_bad 1 (text_says t) ≢ None)
+  text_bad line why (text, is_known, start, is, shown, is_shown, p) = by p where
+    by : Prints old new (session_lines told start shown text) (session_end told start shown text) (Err (Bad line why)) → Appends old new [] × IfSome known (λ t. first_bad 1 (text_says t) ≢ None)
     by (inl (e, a)) =
-        let (some, lines) = bad_right text shown (first_bad 1 (text_says text)) start line why e in
+        let (some, lines) = bad_right (session_orders told start shown text) shown (first_bad 1 (text_says text)) start line why e in
         (subst (λ (l : List (List ℕ)). Appends old new (flat l)) lines a, IfSome-known known text (λ (t : List ℕ). first_bad 1 (text_says t) ≢ None) is_known some)
     by (inr (inl (e, q))) = absurd (cc)
     by (inr (inr (e, q))) = absurd (cc)
 
-  told_words : (error : Error) → Answers told known old new (Err (Words error)) → ⊥
+  text_words : (error : Error) → Answers told known old new (Err (Words error)) → ⊥
   unfolding Answers
-  told_words error (text, is_known, start, is, shown, is_shown, inl (e, a)) = words_right text shown (first_bad 1 (text_says text)) start error e
-  told_words error (text, is_known, start, is, shown, is_shown, inr (inl (e, q))) = cc
-  told_words error (text, is_known, start, is, shown, is_shown, inr (inr (e, q))) = cc
+  text_words error (text, is_known, start, is, shown, is_shown, inl (e, a)) = words_right (session_orders told start shown text) shown (first_bad 1 (text_says text)) start error e
+  text_words error (text, is_known, start, is, shown, is_shown, inr (inl (e, q))) = cc
+  text_words error (text, is_known, start, is, shown, is_shown, inr (inr (e, q))) = cc
 
-  told_front : (end : Result (Unit {0}) Ending) → Answers told known old new end → IfSome known (HasBegunOn told old new)
+  text_front : (end : Result (Unit {0}) Ending) → Answers told known old new end → IfSome known (BegunBy false told old new)
   unfolding Answers
-  told_front end (text, is_known, start, is, shown, is_shown, p) =
-      let (front, begins, a) = Prints-front old new (session_lines start shown text) (session_end start shown text) end p in
-      let whole = front-trans (printed_by start shown text) (flat (session_lines start shown text)) front (front_right text shown (first_bad 1 (text_says text)) start) begins in
-      IfSome-known known text (HasBegunOn told old new) is_known (start, is, shown, is_shown, (front, whole, a))
+  text_front end (text, is_known, start, is, shown, is_shown, p) =
+      let (front, begins, a) = Prints-front old new (session_lines told start shown text) (session_end told start shown text) end p in
+      let whole = front-trans (printed_by start shown (session_orders told start shown text)) (flat (session_lines told start shown text)) front (front_right (session_orders told start shown text) shown (first_bad 1 (text_says text)) start) begins in
+      IfSome-known known text (BegunBy false told old new) is_known (start, is, shown, is_shown, (front, whole, a))
+
+  -- the same of a stream, for what its lines say
+  abbrev DoneSaid : List Says → Type 0
+  DoneSaid said =
+      (first_bad 1 said ≡ None) × ((start : Start) × IsStart told start × IsOk start × (shown : Reads) × IsShown told start shown (stream_orders told start shown said)
+      × Appends old new (printed_by start shown (stream_orders told start shown said)))
+
+  abbrev BegunSaid : List Says → Type 0
+  BegunSaid said =
+      (start : Start) × IsStart told start × (shown : Reads) × IsShown told start shown (stream_orders told start shown said)
+      × ((front : List ℕ) × BeginsWith (printed_by start shown (stream_orders told start shown said)) front × Appends old new front)
+
+  stream_done : (done : Unit {0}) → Streams told known old new (Ok done) → IfSome known (DoneBy true told old new)
+  unfolding Streams
+  stream_done done (said, is_known, start, is, shown, is_shown, p) = IfSome-said known said DoneSaid is_known (by p) where
+    by : Prints old new (stream_lines told start shown said) (stream_end told start shown said) (Ok done) → DoneSaid said
+    by (inl (e, a)) =
+        let (none, opened, lines) = streamed_done (stream_orders told start shown said) shown (first_bad 1 said) start done e in
+        (none, (start, is, opened, shown, is_shown, subst (λ (l : List ℕ). Appends old new l) lines a))
+    by (inr (inl (e, q))) = absurd (cc)
+    by (inr (inr (e, q))) = absurd (cc)
+
+  stream_bad : (line : ℕ) (why : Why) → Streams told known old new (Err (Bad line why)) → IfSome known (λ text. first_bad 1 (text_says text) ≢ None)
+  unfolding Streams
+  stream_bad line why (said, is_known, start, is, shown, is_shown, p) = IfSome-said known said (λ (ss : List Says). first_bad 1 ss ≢ None) is_known (by p) where
+    by : Prints old new (stream_lines told start shown said) (stream_end told start shown said) (Err (Bad line why)) → first_bad 1 said ≢ None
+    by (inl (e, a)) = streamed_bad (stream_orders told start shown said) shown (first_bad 1 said) start line why e
+    by (inr (inl (e, q))) = absurd (cc)
+    by (inr (inr (e, q))) = absurd (cc)
+
+  stream_words : (error : Error) → Streams told known old new (Err (Words error)) → ⊥
+  unfolding Streams
+  stream_words error (said, is_known, start, is, shown, is_shown, inl (e, a)) = streamed_words (stream_orders told start shown said) shown (first_bad 1 said) start error e
+  stream_words error (said, is_known, start, is, shown, is_shown, inr (inl (e, q))) = cc
+  stream_words error (said, is_known, start, is, shown, is_shown, inr (inr (e, q))) = cc
+
+  stream_front : (end : Result (Unit {0}) Ending) → Streams told known old new end → IfSome known (BegunBy true told old new)
+  unfolding Streams
+  stream_front end (said, is_known, start, is, shown, is_shown, p) =
+      let (front, begins, a) = Prints-front old new (stream_lines told start shown said) (stream_end told start shown said) end p in
+      let whole = front-trans (printed_by start shown (stream_orders told start shown said)) (flat (stream_lines told start shown said)) front
+      (front_right (stream_orders told start shown said) shown None start) begins in
+      IfSome-said known said BegunSaid is_known (start, is, shown, is_shown, (front, whole, a))
+
+  -- and of a session that is a stream or isn't
+  told_done : (done : Unit {0}) → IsAnswered told known old new (Ok done) → IfSome known (IsDoneOn told old new)
+  told_done done = by told.ways.stream refl where
+    by : (b : Bool) → told.ways.stream ≡ b → MatchBool b (Streams told known old new (Ok done)) (Answers told known old new (Ok done)) → IfSome known (IsDoneOn told old new)
+    by true is p = subst (λ (c : Bool). IfSome known (DoneBy c told old new)) (sym is) (stream_done done p)
+    by false is p = subst (λ (c : Bool). IfSome known (DoneBy c told old new)) (sym is) (text_done done p)
+
+  told_bad : (line : ℕ) (why : Why) → IsAnswered told known old new (Err (Bad line why))
+      → ((told.ways.stream ≡ true) ⊎ Appends old new []) × IfSome known (λ text. first_bad 1 (text_says text) ≢ None)
+  told_bad line why = by told.ways.stream refl where
+    by : (b : Bool) → told.ways.stream ≡ b → MatchBool b (Streams told known old new (Err (Bad line why))) (Answers told known old new (Err (Bad line why)))
+        → ((told.ways.stream ≡ true) ⊎ Appends old new []) × IfSome known (λ text. first_bad 1 (text_says text) ≢ None)
+    by true is p = (inl is, stream_bad line why p)
+    by false is p = let (nothing, some) = text_bad line why p in (inr nothing, some)
+
+  told_words : (error : Error) → IsAnswered told known old new (Err (Words error)) → ⊥
+  told_words error = by told.ways.stream where
+    by : (b : Bool) → MatchBool b (Streams told known old new (Err (Words error))) (Answers told known old new (Err (Words error))) → ⊥
+    by true p = stream_words error p
+    by false p = text_words error p
+
+  told_front : (end : Result (Unit {0}) Ending) → IsAnswered told known old new end → IfSome known (HasBegunOn told old new)
+  told_front end = by told.ways.stream refl where
+    by : (b : Bool) → told.ways.stream ≡ b → MatchBool b (Streams told known old new end) (Answers told known old new end) → IfSome known (HasBegunOn told old new)
+    by true is p = subst (λ (c : Bool). IfSome known (BegunBy c told old new)) (sym is) (stream_front end p)
+    by false is p = subst (λ (c : Bool). IfSome known (BegunBy c told old new)) (sym is) (text_front end p)
 
 -- ---- what follows of any session
 
--- the words ask for help, or give what all that the text orders is printed for
+-- the words ask for a text, or tell what all that the text orders is printed for
 abbrev IsAllDone : List (List ℕ) → Option (List ℕ) → Option (List ℕ) → Option (List ℕ) → Type 0
-IsAllDone words known old new = AsksForHelp words ⊎ ((told : Told) × AsksFor words told × IfSome known (IsDoneOn told old new))
+IsAllDone words known old new = AsksForText words ⊎ ((told : Told) × AsksFor words told × IfSome known (IsDoneOn told old new))
 
--- the words ask for help, or nothing is printed, or they give what a beginning of all that the text orders is printed for
+-- the words ask for a text, or nothing is printed, or they tell what a beginning of all that the text orders is printed for
 abbrev HasBegun : List (List ℕ) → Option (List ℕ) → Option (List ℕ) → Option (List ℕ) → Type 0
 HasBegun words known old new =
-    AsksForHelp words ⊎ Appends old new [] ⊎ ((told : Told) × AsksFor words told × IfSome known (HasBegunOn told old new))
+    AsksForText words ⊎ Appends old new [] ⊎ ((told : Told) × AsksFor words told × IfSome known (HasBegunOn told old new))
+
+-- a line is bad; nothing is printed then, unless the words ask for a stream
+abbrev IsBad : List (List ℕ) → Option (List ℕ) → Option (List ℕ) → Option (List ℕ) → Type 0
+IsBad words known old new = (AsksToStream words ⊎ Appends old new []) × IfSome known (λ text. first_bad 1 (text_says text) ≢ None)
+
+streams_or : (words : List (List ℕ)) (told : Told) (P : Type 0) → AsksFor words told → (told.ways.stream ≡ true) ⊎ P → AsksToStream words ⊎ P
+streams_or words told P tells (inl streams) = inl (told, tells, streams)
+streams_or words told P tells (inr p) = inr p
 
 -- words that name a store are not refused
 not_refused : (words : List (List ℕ)) (told : Told) → AsksFor words told → AreRefused words → ⊥
 not_refused words told (given, tells, is) refused = cc
+
+-- nor are words that ask for a text
+text_not_refused : (words : List (List ℕ)) → AsksForText words → AreRefused words → ⊥
+text_not_refused words (inl helps) refused = cc
+text_not_refused words (inr (told, tells, is)) refused = not_refused words told tells refused
 
 pub status-one : (end : Result (Unit {0}) Ending) (status : ℕ) → status ≡ status_of_end end → (status ≡ 0) ⊎ (status ≡ 2) ⊎ (status ≡ 3) ⊎ (status ≡ 4)
 status-one (Ok done) status e = inl e
@@ -349,7 +477,7 @@ module _ (words : List (List ℕ)) (known old new : Option (List ℕ)) (unread u
   refused_end (Err (Bad line why)) p s = absurd (omega arith)
   refused_end (Err (endings.Fault fault)) p s = absurd (omega arith)
   refused_end (Err Device) p s = absurd (omega arith)
-  refused_end (Err (Words error)) (inl (told, tells, answers)) s = absurd (told_words told known old new error answers)
+  refused_end (Err (Words error)) (inl (told, tells, runs, answers)) s = absurd (told_words told known old new error answers)
   refused_end (Err (Words error)) (inr (inl (not_read, asks, printed_help))) s =
       let four = one_text old new (Words error) printed_help in absurd (omega arith)
   refused_end (Err (Words error)) (inr (inr (not_read, not_touched, inl (refused, for_words)))) s = refused
@@ -364,8 +492,8 @@ module _ (words : List (List ℕ)) (known old new : Option (List ℕ)) (unread u
 
   when_refused : (end : Result (Unit {0}) Ending) → EndsBy words known old new unread untouched end → AreRefused words
       → ((status_of_end end ≡ 2) ⊎ (status_of_end end ≡ 4)) × unread × untouched
-  when_refused end (inl (told, tells, answers)) refused = absurd (not_refused words told tells refused)
-  when_refused end (inr (inl (not_read, asks, printed_help))) refused = absurd (cc)
+  when_refused end (inl (told, tells, runs, answers)) refused = absurd (not_refused words told tells refused)
+  when_refused end (inr (inl (not_read, asks, printed_help))) refused = absurd (text_not_refused words asks refused)
   when_refused end (inr (inr (not_read, not_touched, inl (is_refused, for_words)))) refused = (inl (for_words_status end for_words), not_read, not_touched)
   when_refused end (inr (inr (not_read, not_touched, inr e))) refused = (inr (ap status_of_end e), not_read, not_touched)
 
@@ -383,18 +511,20 @@ module _ (words : List (List ℕ)) (known old new : Option (List ℕ)) (unread u
   done_end (Err (Bad line why)) s p = absurd (omega arith)
   done_end (Err (endings.Fault fault)) s p = absurd (omega arith)
   done_end (Err Device) s p = absurd (omega arith)
-  done_end (Ok done) s (inl (told, tells, answers)) = inr (told, tells, told_done told known old new done answers)
+  done_end (Ok done) s (inl (told, tells, runs, answers)) = inr (told, tells, told_done told known old new done answers)
   done_end (Ok done) s (inr (inl (not_read, asks, printed_help))) = inl asks
   done_end (Ok done) s (inr (inr (not_read, not_touched, inl (refused, for_words)))) = absurd for_words
   done_end (Ok done) s (inr (inr (not_read, not_touched, inr e))) = absurd (cc)
 
   bad_end : (end : Result (Unit {0}) Ending) → status_of_end end ≡ 3 → EndsBy words known old new unread untouched end
-      → Appends old new [] × IfSome known (λ text. first_bad 1 (text_says text) ≢ None)
+      → IsBad words known old new
   bad_end (Ok done) s p = absurd (omega arith)
   bad_end (Err (Words error)) s p = absurd (omega arith)
   bad_end (Err (endings.Fault fault)) s p = absurd (omega arith)
   bad_end (Err Device) s p = absurd (omega arith)
-  bad_end (Err (Bad line why)) s (inl (told, tells, answers)) = told_bad told known old new line why answers
+  bad_end (Err (Bad line why)) s (inl (told, tells, runs, answers)) =
+      let (nothing, some) = told_bad told known old new line why answers in
+      (streams_or words told (Appends old new []) tells nothing, some)
   bad_end (Err (Bad line why)) s (inr (inl (not_read, asks, printed_help))) =
       let four = one_text old new (Bad line why) printed_help in absurd (omega arith)
   bad_end (Err (Bad line why)) s (inr (inr (not_read, not_touched, inl (refused, for_words)))) = absurd for_words
@@ -402,7 +532,7 @@ module _ (words : List (List ℕ)) (known old new : Option (List ℕ)) (unread u
 
   beginning_end : (end : Result (Unit {0}) Ending) → (untouched → Appends old new []) → EndsBy words known old new unread untouched end
       → HasBegun words known old new
-  beginning_end end kept (inl (told, tells, answers)) = inr (inr (told, tells, told_front told known old new end answers))
+  beginning_end end kept (inl (told, tells, runs, answers)) = inr (inr (told, tells, told_front told known old new end answers))
   beginning_end end kept (inr (inl (not_read, asks, printed_help))) = inl asks
   beginning_end end kept (inr (inr (not_read, not_touched, q))) = inr (inl (kept not_touched))
 
@@ -412,7 +542,7 @@ pub record Follows (words : List (List ℕ)) (known old new : Option (List ℕ))
   pub refused : (status ≡ 2) ↔ (AreRefused words × (status ≢ 4))
   pub untouched_is : AreRefused words → unread × untouched
   pub done : status ≡ 0 → IsAllDone words known old new
-  pub bad : status ≡ 3 → Appends old new [] × IfSome known (λ text. first_bad 1 (text_says text) ≢ None)
+  pub bad : status ≡ 3 → IsBad words known old new
   pub beginning : HasBegun words known old new
 
 pub all_follows : (words : List (List ℕ)) (known old new : Option (List ℕ)) (unread untouched : Type 0) (status : ℕ) (end : Result (Unit {0}) Ending) → status ≡ status_of_end end
@@ -444,6 +574,38 @@ module _ (words : List (List ℕ)) (known old new : Option (List ℕ)) (unread u
       → (kind ≢ DisplayHelp → kind ≢ OutOfMemory → IsForWords end × untouched) → unread → EndsBy words known old new unread untouched end
   EndsBy-words (inl memory) helps starves refuses not_read =
       let (e, same) = starves memory in inr (inr (not_read, same, inr e))
-  EndsBy-words (inr (inl (help, asks))) helps starves refuses not_read = inr (inl (not_read, asks, helps help))
+  EndsBy-words (inr (inl (help, asks))) helps starves refuses not_read = inr (inl (not_read, inl asks, helps help))
   EndsBy-words (inr (inr (no_help_nor_memory, refused))) helps starves refuses not_read =
       let (for_words, same) = refuses (not_help kind no_help_nor_memory) (not_memory kind no_help_nor_memory) in inr (inr (not_read, same, inl (refused, for_words)))
+
+-- words that tell something: the version is printed, or the batch file is run
+pub EndsBy-told : (words : List (List ℕ)) (known old new : Option (List ℕ)) (unread untouched : Type 0) (end : Result (Unit {0}) Ending) (told : Told) → AsksFor words told
+    → (told.ways.version ≡ true → unread × Prints old new (version_text ∷ []) (Ok tt) end) → (told.ways.version ≡ false → IsAnswered told known old new end)
+    → EndsBy words known old new unread untouched end
+EndsBy-told words known old new unread untouched end told tells shows runs = by told.ways.version refl where
+  by : (b : Bool) → told.ways.version ≡ b → EndsBy words known old new unread untouched end
+  by true is = let (not_read, printed) = shows is in inr (inl (not_read, inr (told, tells, is), (version_text, printed)))
+  by false is = inl (told, tells, is, runs is)
+
+-- more is told only where it is asked for
+pub more_if_asked : (words : List (List ℕ)) (told : Told) (more : List ℕ) → AsksFor words told → (told.ways.explain ≡ false → more ≡ []) → AsksToExplain words ⊎ (more ≡ [])
+more_if_asked words told more tells plain = by told.ways.explain refl where
+  by : (b : Bool) → told.ways.explain ≡ b → AsksToExplain words ⊎ (more ≡ [])
+  by true is = inl (told, tells, is)
+  by false is = inr (plain is)
+
+-- where no line is bad a stream ends as another session does
+or_none : {X : Type 0} (o : Option X) → option_or o None ≡ o
+or_none None = refl
+or_none (Some x) = refl
+
+pub ends-alike : (start : Start) (shown : Reads) (orders : List Order) → end_streamed None start shown orders ≡ end_after None start shown orders
+ends-alike (Err fault) shown orders = refl
+ends-alike (Ok p) shown orders = ap stopped_by (or_none (option_map (λ fault. endings.Fault fault) (first_refusal p.0 p.1.0 shown orders)))
+
+-- a session that is a stream, and one that isn't
+pub IsAnswered-stream : (told : Told) (known old new : Option (List ℕ)) (end : Result (Unit {0}) Ending) → told.ways.stream ≡ true → Streams told known old new end → IsAnswered told known old new end
+IsAnswered-stream told known old new end is p = at_true told.ways.stream (Streams told known old new end) (Answers told known old new end) is p
+
+pub IsAnswered-text : (told : Told) (known old new : Option (List ℕ)) (end : Result (Unit {0}) Ending) → told.ways.stream ≡ false → Answers told known old new end → IsAnswered told known old new end
+IsAnswered-text told known old new end is p = at_false told.ways.stream (Streams told known old new end) (Answers told known old new end) is p

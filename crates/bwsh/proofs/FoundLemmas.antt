@@ -8,14 +8,16 @@ use Rattle.std.proofs.lemmas.List.Elements.{All-head, All-tail}
 use Rattle.std.proofs.lemmas.Slice.Eq.{bytes_eq-Decides}
 use Rattle.crew.specs.declared.limits.Crew.{Crew}
 use Rattle.keys.specs.declared.settings.Settings.{Settings}
+use Rattle.bwsh.specs.declared.options.asked.Ways.{Ways}
 use Rattle.clap.specs.Lexer.{without_minus}
 use Rattle.clap.specs.Walk.{Row, Rule, at_row, default_rows, first_of, has_row, more_values, one_of, reading_by, row_text, with_default}
 use Rattle.clap.specs.declared.builder.value_parser.Reading.TheVariants.{AsWritten, WithoutMinus}
 use Rattle.clap.specs.declared.parser.matches.ValueSource.TheVariants.{DefaultValue}
 use Rattle.clap.specs.Values.{read_as}
 use Rattle.clap.proofs.WalkLemmas.{find-map}
-use Rattle.bwsh.specs.Options.{Text, Given, disk_of, fits, is_given, is_number, number_of, number_or, takes_number}
+use Rattle.bwsh.specs.Options.{Text, Given, disk_of, fits, flag_names, is_given, is_number, number_of, number_or, takes_nothing, takes_number}
 use Rattle.bwsh.specs.CommandLine.{AreGivable, IsGivable, built_rules, finished_rows, given_row, reading_at}
+use Rattle.bwsh.proofs.TurnLemmas.{any_of, no_number}
 
 abbrev pub at : Text → Row → Bool
 at id r = bytes_eq r.id id
@@ -204,18 +206,24 @@ given_found name (g ∷ given) = go (bytes_eq g.0 name) (given_found name given)
     go true later = refl
     go false later = later
 
--- the flag is read where it was given
-pub flag_read : (given : Given) (rows : List Row) (result : Bool) → AreGivable given → rows ≡ finished_rows given
-    → (one_of (codes "create") rows ≡ Some (codes "true") → result ≡ true) → (one_of (codes "create") rows ≡ Some (codes "false") → result ≡ false)
-    → result ≡ is_given (codes "create") given
-flag_read given rows result all is_rows set unset = go (find (λ g. bytes_eq g.0 (codes "create")) given) refl ∙ sym (given_found (codes "create") given)
+-- an option that takes nothing and was not given is read as this
+default_flag : (name : Text) → takes_nothing name ≡ true → option_and_then row_text (find (at name) (defaults_in built_rules)) ≡ Some (codes "false")
+default_flag = any_of (λ name. option_and_then row_text (find (at name) (defaults_in built_rules)) ≡ Some (codes "false")) flag_names
+    (refl, (refl, (refl, (refl, (refl, (refl, tt))))))
+
+-- an option that takes nothing is read where it was given
+pub flag_read : (name : Text) → takes_nothing name ≡ true → (given : Given) (rows : List Row) (result : Bool) → AreGivable given → rows ≡ finished_rows given
+    → (one_of name rows ≡ Some (codes "true") → result ≡ true) → (one_of name rows ≡ Some (codes "false") → result ≡ false)
+    → result ≡ is_given name given
+flag_read name is given rows result all is_rows set unset = go (find (λ g. bytes_eq g.0 name) given) refl ∙ sym (given_found name given)
   where
-    go : (o : Option (Text × Text)) → find (λ g. bytes_eq g.0 (codes "create")) given ≡ o → result ≡ is_some o
+    go : (o : Option (Text × Text)) → find (λ g. bytes_eq g.0 name) given ≡ o → result ≡ is_some o
     go (Some g) e =
-        let (named, (fit, flag)) = found_fits (codes "create") given g all e in
-        set (ap (one_of (codes "create")) is_rows ∙ ap (option_and_then row_text) (found_at (codes "create") given (Some g) e)
-        ∙ given_text (codes "create") g named ∙ ap (λ (t : Text). Some t) (flag ((bytes_eq-Decides (codes "create") g.0).1 (sym named))))
-    go None e = unset (ap (one_of (codes "create")) is_rows ∙ ap (option_and_then row_text) (found_at (codes "create") given None e))
+        let (named, (fit, flag)) = found_fits name given g all e in
+        set (ap (one_of name) is_rows ∙ ap (option_and_then row_text) (found_at name given (Some g) e)
+        ∙ given_text name g named ∙ ap (λ (b : Bool). Some (read_as (cond b WithoutMinus AsWritten) g.1)) (no_number name is)
+        ∙ ap (λ (t : Text). Some t) (flag (ap takes_nothing named ∙ is)))
+    go None e = unset (ap (one_of name) is_rows ∙ ap (option_and_then row_text) (found_at name given None e) ∙ default_flag name is)
 
 abbrev settings_with : ℕ → ℕ → ℕ → ℕ → ℕ → ℕ → Settings
 settings_with a b c d e f = record { fan = a; chain = b; max_key = c; max_value = d; seg_size = e; segments = f }
@@ -231,3 +239,10 @@ crew_with a b = record { workers = a; grain = b }
 -- so are crews
 pub crews_equal : {a b c d : ℕ} → a ≡ c → b ≡ d → crew_with a b ≡ crew_with c d
 crews_equal a b = rw (a, b) refl
+
+abbrev ways_with : Bool → Bool → Bool → Bool → Bool → Ways
+ways_with a b c d e = record { version = a; explain = b; stat = c; clean_when_full = d; stream = e }
+
+-- so are ways
+pub ways_equal : {a b c d e f g h i j : Bool} → a ≡ f → b ≡ g → c ≡ h → d ≡ i → e ≡ j → ways_with a b c d e ≡ ways_with f g h i j
+ways_equal a b c d e = rw (a, b, c, d, e) refl

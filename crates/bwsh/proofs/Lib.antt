@@ -4,6 +4,7 @@ mod BytesLemmas
 mod ClapLemmas
 mod CommandLineLemmas
 mod EndLemmas
+mod FirstLemmas
 mod FoundLemmas
 mod Literals
 mod NumberLemmas
@@ -11,9 +12,11 @@ mod OrderLemmas
 mod PrintedLemmas
 mod Prints
 mod ReadLemmas
+mod RoomLemmas
 mod RunLemmas
 mod ShowLemmas
 mod StoreLemmas
+mod StreamLemmas
 mod TellLemmas
 mod TokensReadBack
 mod TokenLemmas

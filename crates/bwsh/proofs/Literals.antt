@@ -173,11 +173,11 @@ some_options : asked (codes "--create" ∷ codes "--disk" ∷ codes "a b" ∷ co
 some_options = refl
 
 told_options : told_by ((codes "create", codes "true") ∷ (codes "disk", codes "a b") ∷ (codes "fan", codes "8") ∷ [])
-    ≡ record { settings = record { fan = 8; chain = 4; max_key = 64; max_value = 256; seg_size = 65536; segments = 64 }; crew = record { workers = 1; grain = 64 }; disk = Some (codes "a b"); create = true }
+    ≡ record { settings = record { fan = 8; chain = 4; max_key = 64; max_value = 256; seg_size = 65536; segments = 64 }; crew = record { workers = 1; grain = 64 }; disk = Some (codes "a b"); create = true; ways = record { version = false; explain = false; stat = false; clean_when_full = false; stream = false } }
 told_options = refl
 
 nothing_told : told_by []
-    ≡ record { settings = record { fan = 16; chain = 4; max_key = 64; max_value = 256; seg_size = 65536; segments = 64 }; crew = record { workers = 1; grain = 64 }; disk = None; create = false }
+    ≡ record { settings = record { fan = 16; chain = 4; max_key = 64; max_value = 256; seg_size = 65536; segments = 64 }; crew = record { workers = 1; grain = 64 }; disk = None; create = false; ways = record { version = false; explain = false; stat = false; clean_when_full = false; stream = false } }
 nothing_told = refl
 
 -- a path is any text, but after `--disk` none that looks like a flag
@@ -193,6 +193,16 @@ no_path = refl
 -- the flag takes no text, and is given once
 a_flag_with_a_text : asked (codes "--create=true" ∷ []) ≡ refused
 a_flag_with_a_text = refl
+
+asked_ways : asked (codes "--version" ∷ codes "--fan" ∷ codes "8" ∷ codes "--explain" ∷ [])
+    ≡ options ((codes "version", codes "true") ∷ (codes "fan", codes "8") ∷ (codes "explain", codes "true") ∷ [])
+asked_ways = refl
+
+told_version : (told_by ((codes "version", codes "true") ∷ [])).ways ≡ record { version = true; explain = false; stat = false; clean_when_full = false; stream = false }
+told_version = refl
+
+told_to_explain : (told_by ((codes "explain", codes "true") ∷ [])).ways ≡ record { version = false; explain = true; stat = false; clean_when_full = false; stream = false }
+told_to_explain = refl
 
 a_flag_twice : asked (codes "--create" ∷ codes "--create" ∷ []) ≡ refused
 a_flag_twice = refl

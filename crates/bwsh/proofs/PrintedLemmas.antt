@@ -12,11 +12,11 @@ use Rattle.keys.specs.declared.settings.Settings.{Settings}
 use Rattle.mapping.specs.Tree.{Store}
 use Rattle.verify.specs.Report.{report}
 use Rattle.bwsh.specs.declared.batch_file.Order.{Order}
-use Rattle.bwsh.specs.declared.batch_file.Order.TheVariants.{Batch, Flush, Clean, Upgrade, Verify}
+use Rattle.bwsh.specs.declared.batch_file.Order.TheVariants.{Batch, Flush, Clean, Upgrade, Verify, Numbers}
 use Rattle.bwsh.specs.declared.line.Says.{Says}
 use Rattle.bwsh.specs.BatchFile.{orders_of, commands_of, commands_said, IsBatch, IsForBatches}
-use Rattle.bwsh.specs.Session.{Reads, later, answer_lines, printed, behind}
-use Rattle.bwsh.specs.Shown.{shown_reply, shown_flushed, shown_cleaned, shown_upgraded, shown_report}
+use Rattle.bwsh.specs.Session.{Reads, later, answer_lines, numbers_of, printed, behind}
+use Rattle.bwsh.specs.Shown.{shown_reply, shown_flushed, shown_cleaned, shown_upgraded, shown_report, shown_numbers}
 use Rattle.bwsh.proofs.OrderLemmas.{commands-orders_of, batches-orders_of}
 use Rattle.bwsh.proofs.Prints.{flat-append, flat-map}
 
@@ -48,6 +48,11 @@ pub printed-verify : (settings : Settings) (st : Store) (shown : Reads) (m : Lis
 unfolding behind
 printed-verify settings st shown m rest = refl
 
+pub printed-numbers : (settings : Settings) (st : Store) (shown : Reads) (m : List (List ℕ × List ℕ)) (rest : List Order)
+    → printed settings st shown m (Numbers ∷ rest) ≡ shown_numbers (numbers_of settings st) ++ printed settings st (later shown) m rest
+unfolding behind
+printed-numbers settings st shown m rest = refl
+
 -- it makes no difference how the commands are cut into batches
 printed-commands : (settings : Settings) (st : Store) (shown : Reads) (m : List (List ℕ × List ℕ)) (orders : List Order) → AllByRecursion IsBatch orders
     → printed settings st shown m orders ≡ flat_map shown_reply (replies_to m (flat_map commands_of orders))
@@ -56,6 +61,7 @@ printed-commands settings st shown m (Flush ∷ rest) only = absurd only.0
 printed-commands settings st shown m (Clean ∷ rest) only = absurd only.0
 printed-commands settings st shown m (Upgrade ∷ rest) only = absurd only.0
 printed-commands settings st shown m (Verify ∷ rest) only = absurd only.0
+printed-commands settings st shown m (Numbers ∷ rest) only = absurd only.0
 printed-commands settings st shown m (Batch commands ∷ rest) only =
     let further = flat_map commands_of rest in
     let then : Store = (behind settings st (shown 0) (Batch commands)).0 in

@@ -100,6 +100,16 @@ Prints-device old mid new lines right end p k =
     let (front, begins, b) = Prints-front old mid lines right end p in
     inr (inr (refl, (front, begins, Appends-kept old mid new front b k)))
 
+-- an output to which nothing was appended first
+module _ (old mid new : Option (List ℕ)) (asked : Appends old mid []) where
+  after_nothing : (bs : List ℕ) → Appends mid new bs → Appends old new bs
+  after_nothing bs a = Appends-trans old mid new [] bs asked a
+
+  pub Prints-asked : (lines : List (List ℕ)) (right end : Result (Unit {0}) Ending) → Prints mid new lines right end → Prints old new lines right end
+  Prints-asked lines right end (inl (e, a)) = inl (e, after_nothing (flat lines) a)
+  Prints-asked lines right end (inr (inl (e, (front, begins, a)))) = inr (inl (e, (front, begins, after_nothing (flat front) a)))
+  Prints-asked lines right end (inr (inr (e, (front, begins, a)))) = inr (inr (e, (front, begins, after_nothing front a)))
+
 -- all is done, so all was printed
 pub Prints-all : (old new : Option (List ℕ)) (lines : List (List ℕ)) (right : Result (Unit {0}) Ending) (done : Unit {0})
     → Prints old new lines right (Ok done) → Appends old new (flat lines)
@@ -156,16 +166,22 @@ IfSome-known (Some bytes) text P e p = subst P e p
 -- ---- one text
 
 -- a text is written, and handed on to the device
+pub Prints-written : (old mid new : Option (List ℕ)) (bytes : List ℕ) (done end : Result (Unit {0}) Ending)
+    → OnOk done (Appends old mid bytes) → OnErr done ((front : List ℕ) × BeginsWith bytes front × Appends old mid front) → IsOkUnless done Device
+    → Keeps mid new → (end ≡ done) ⊎ (end ≡ Err Device) → Prints old new (bytes ∷ []) (Ok tt) end
+Prints-written old mid new bytes done end ok err device kept ended = Prints-flushed old mid new (bytes ∷ []) (Ok tt) done end (by done ok err device) kept ended
+  where
+    one : (xs : List ℕ) → xs ≡ flat (xs ∷ [])
+    one xs = sym (append-nil xs)
+
+    by : (r : Result (Unit {0}) Ending) → OnOk r (Appends old mid bytes) → OnErr r ((front : List ℕ) × BeginsWith bytes front × Appends old mid front) → IsOkUnless r Device
+        → Prints old mid (bytes ∷ []) (Ok tt) r
+    by (Ok x) a p q = inl (refl, subst (Appends old mid) (one bytes) a)
+    by (Err x) a (front, begins, b) q =
+        inr (inr (ap (λ (e : Ending). Err e) q, (front, subst (λ (xs : List ℕ). BeginsWith xs front) (one bytes) begins, b)))
+
+-- the same of one text that a clause doesn't name
 pub PrintsOneText-written : (old mid new : Option (List ℕ)) (bytes : List ℕ) (done end : Result (Unit {0}) Ending)
     → OnOk done (Appends old mid bytes) → OnErr done ((front : List ℕ) × BeginsWith bytes front × Appends old mid front) → IsOkUnless done Device
     → Keeps mid new → (end ≡ done) ⊎ (end ≡ Err Device) → PrintsOneText old new end
-PrintsOneText-written old mid new bytes done end ok err device kept ended =
-    (bytes, Prints-flushed old mid new (bytes ∷ []) (Ok tt) done end (by done ok err device) kept ended) where
-      one : (xs : List ℕ) → xs ≡ flat (xs ∷ [])
-      one xs = sym (append-nil xs)
-
-      by : (r : Result (Unit {0}) Ending) → OnOk r (Appends old mid bytes) → OnErr r ((front : List ℕ) × BeginsWith bytes front × Appends old mid front) → IsOkUnless r Device
-          → Prints old mid (bytes ∷ []) (Ok tt) r
-      by (Ok x) a p q = inl (refl, subst (Appends old mid) (one bytes) a)
-      by (Err x) a (front, begins, b) q =
-          inr (inr (ap (λ (e : Ending). Err e) q, (front, subst (λ (xs : List ℕ). BeginsWith xs front) (one bytes) begins, b)))
+PrintsOneText-written old mid new bytes done end ok err device kept ended = (bytes, Prints-written old mid new bytes done end ok err device kept ended)

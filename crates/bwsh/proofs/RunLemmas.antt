@@ -4,6 +4,7 @@ use Rattle.std.specs.Prelude.{Bool, true, false, IsTrue, if◌then◌else◌, On
 use Rattle.std.specs.List.{flat_map}
 use Rattle.std.specs.declared.alloc.Global.{Global}
 use Rattle.std.proofs.lemmas.List.{drop_more}
+use Rattle.std.specs.Io.KnownBytes.{Appends}
 use Rattle.std.proofs.KnownBytes.{Appends-nil}
 use Rattle.keys.specs.Step.{map_after_all}
 use Rattle.keys.specs.declared.fault.Fault.{Fault}
@@ -29,11 +30,12 @@ use Rattle.engine.specs.declared.step.Answer as code_answer
 use Rattle.verify.specs.Report.{report}
 use Rattle.verify.specs.declared.report.Report.{Report}
 use Rattle.bwsh.specs.declared.batch_file.Order.{Order}
-use Rattle.bwsh.specs.declared.batch_file.Order.TheVariants.{Batch, Flush, Clean, Upgrade, Verify}
+use Rattle.bwsh.specs.declared.batch_file.Order.TheVariants.{Batch, Flush, Clean, Upgrade, Verify, Numbers}
+use Rattle.bwsh.specs.declared.show.StoreNumbers.{StoreNumbers}
 use Rattle.bwsh.specs.declared.session.Ending.{Ending}
 use Rattle.bwsh.specs.declared.session.Ending.TheVariants as endings
-use Rattle.bwsh.specs.Session.{Stored, Reads, AreLeft, step_in, left_by, refused_by, behind_step, refusal_of_step, refusal_of, behind, map_behind, own_lines, answer_lines, accepted, orders_end, Prints, Runs, RunsOn, RunsOrder, LeavesStored}
-use Rattle.bwsh.specs.Shown.{shown_flushed, shown_cleaned, shown_upgraded, shown_report, shown_answer}
+use Rattle.bwsh.specs.Session.{Stored, Reads, AreLeft, step_in, left_by, refused_by, behind_step, refusal_of_step, refusal_of, behind, map_behind, own_lines, answer_lines, accepted, orders_end, numbers_of, Prints, Runs, RunsOrder, LeavesStored}
+use Rattle.bwsh.specs.Shown.{shown_flushed, shown_cleaned, shown_upgraded, shown_report, shown_numbers, shown_answer}
 use Rattle.bwsh.proofs.Prints.{Prints-all, Prints-behind, Prints-early}
 use Rattle.bwsh.proofs.StoreLemmas.{IsEndingOf}
 
@@ -101,11 +103,11 @@ module _ (settings : Settings) (st : Store) (file : List ℕ) (order : Order) (o
         let own : Prints old new [] (Err (endings.Fault fault)) (Err early) = rw some at p in
         rw some own
 
-    Runs-stops : (early : Ending) → AloneIs (Err early) → Runs settings st (first_shown file shown) (order ∷ rest) old new (Err early)
+    pub Runs-stops : (early : Ending) → AloneIs (Err early) → Runs settings st (first_shown file shown) (order ∷ rest) old new (Err early)
     Runs-stops early p = stops_by early (refusal_of settings st file order) refl p
 
-    -- all of it is done: what the rest prints is after it
-    Runs-goes_on : (now : Store) (last : Option (List ℕ)) (done : Unit {0}) (end : Result (Unit {0}) Ending) → refusal_of settings st file order ≡ None → now ≡ left.0
+    -- all of it is done: what the rest prints is behind it
+    pub Runs-goes_on : (now : Store) (last : Option (List ℕ)) (done : Unit {0}) (end : Result (Unit {0}) Ending) → refusal_of settings st file order ≡ None → now ≡ left.0
         → contents now.tree ≡ map_behind (contents st.tree) order → AloneIs (Ok done) → Runs settings now shown rest new last end
         → Runs settings st (first_shown file shown) (order ∷ rest) old last end
     unfolding Runs
@@ -128,28 +130,6 @@ pub AreLeft-left_shown : (settings : Settings) (st : Store) (file : List ℕ) (o
 AreLeft-left_shown settings st file [] = tt
 AreLeft-left_shown settings st file (order ∷ rest) =
     let left : Stored = behind settings st file order in (refl, AreLeft-left_shown settings left.0 left.1 rest)
-
-RunsOn-none : (honest : Bool) (settings : Settings) (st : Store) (left : List ℕ) (old : Option (List ℕ)) → RunsOn honest settings st left [] old old (Ok tt)
-RunsOn-none honest settings st left old = (λ i. left, λ h. tt, Runs-none settings st (λ i. left) old)
-
-module _ (honest : Bool) (settings : Settings) (st : Store) (left : List ℕ) (order : Order) (old new : Option (List ℕ)) (now : Store) (bytes : List ℕ) (rest : List Order) where
-  RunsOn-stops : (early : Ending) → RunsOrder honest settings st left order old new (Err early) now bytes → RunsOn honest settings st left (order ∷ rest) old new (Err early)
-  RunsOn-stops early (file, is, runs, none) =
-      let at : Stored = behind settings st file order in
-      let shown : Reads = left_shown settings at.0 at.1 rest in
-      (first_shown file shown, λ h. (is h, AreLeft-left_shown settings at.0 at.1 rest), Runs-stops settings st file order old new rest shown early runs)
-
-  RunsOn-goes_on : (done : Unit {0}) → RunsOrder honest settings st left order old new (Ok done) now bytes
-      → (last : Option (List ℕ)) (end : Result (Unit {0}) Ending) → RunsOn honest settings now bytes rest new last end → RunsOn honest settings st left (order ∷ rest) old last end
-  RunsOn-goes_on done (file, is, runs, leaves) last end (shown, are, further_on) =
-      let at : Stored = behind settings st file order in (
-        first_shown file shown,
-        λ h. (
-          is h,
-          subst (λ (f : List ℕ). AreLeft settings at.0 f shown rest) (leaves.bytes h) (subst (λ (s : Store). AreLeft settings s bytes shown rest) leaves.store (are h)),
-        ),
-        Runs-goes_on settings st file order old new rest shown now last done end leaves.unrefused leaves.store leaves.holds runs further_on,
-      )
 
 -- ---- what a step answers
 
@@ -256,6 +236,7 @@ module _ (settings : Settings) (st : Store) where
       ap (λ (q : Stored). shown_upgraded q.0.sequence ∷ []) left
       ∙ sym (ap shown_answer (answered_by of_upgrade (after_upgrade settings st file) p (subst (λ (z : Step Global). steps_to file z p) (sym same) done)).0)
   lines_of file Verify y p is done left = absurd (cc)
+  lines_of file Numbers y p is done left = absurd (cc)
 
   -- a batch that is planned holds the map after its commands
   abbrev PlansHold : Type 0
@@ -282,6 +263,7 @@ module _ (settings : Settings) (st : Store) where
       let same : (let z : Step Global = Step.Upgrade in z ≡ y) = cc in
       upgrade-leaves settings st file p.1 (answered_by of_upgrade (after_upgrade settings st file) p (subst (λ (z : Step Global). steps_to file z p) (sym same) done)).1
   map_of hold keep file Verify y p is done = absurd (cc)
+  map_of hold keep file Numbers y p is done = absurd (cc)
 
 -- a step is played on a store whose disk had the bytes `seen`, for an order
 module _ (honest : Bool) (settings : Settings) (st : Store) (seen : List ℕ) (order : Order) (x : code_step.Step) (is : step_in order ≡ Some (step_of x)) where
@@ -368,6 +350,39 @@ module _ (honest : Bool) (settings : Settings) (st : Store) (seen : List ℕ) (o
   RunsOrder-answered hold keep said now after (a, rest, said_is, mid, bytes, done, ended) after_is old new end p =
       one_answered a mid bytes done hold keep now ended.1 after after_is old new end said (said_is ∙ ap (λ (r : List code_answer.Answer). a ∷ r) ended.0) p
 
+-- a step that is refused leaves all as it was, but where a call of the disk failed; here the log was full for it
+pub refused_leaves : (honest : Bool) (settings : Settings) (st : Store) (seen : List ℕ) (x : code_step.Step) (said : List code_answer.Answer) (now : Store) (bytes : List ℕ) (place : ℕ)
+    (fault : Fault) (early : Ending) (had_failed has_failed : Bool) → place < 1 → IsEndingOf fault early → IsPlayed honest settings st seen (map step_of (take place (x ∷ []))) said now
+    → (IsTrue honest → fault ≢ Device → bytes ≡ (let p : Played Global = plays (batching settings) settings st seen (map step_of (take place (x ∷ []))) in p.bytes))
+    → (fault ≢ Device → has_failed ≡ had_failed) → (let end : Result (Unit {0}) Ending = Err early in end ≡ Err (endings.Fault Full))
+    → (now ≡ st) × (has_failed ≡ had_failed) × (IsTrue honest → bytes ≡ seen)
+refused_leaves honest settings st seen x said now bytes place fault early had_failed has_failed below (inl device) played shown counted full =
+    let bad : (let end : Result (Unit {0}) Ending = Err endings.Device in end ≡ Err (endings.Fault Full)) = ap (λ (e : Ending). Err e) (sym device.1) ∙ full in
+    absurd (cc)
+refused_leaves honest settings st seen x said now bytes place fault early had_failed has_failed below (inr other) played shown counted full =
+    let first : place ≡ 0 = omega (arith, below) in
+    let none_played = subst (λ (n : ℕ). IsPlayed honest settings st seen (map step_of (take n (x ∷ []))) said now) first played in
+    let left = λ (h : IsTrue honest). subst (λ (n : ℕ). bytes ≡ (let p : Played Global = plays (batching settings) settings st seen (map step_of (take n (x ∷ []))) in p.bytes)) first (shown h other.0) in
+    (none_played.1, counted other.0, left)
+
+-- what is printed for a step that was done ends so for no full log
+pub Prints-never_full : (old new : Option (List ℕ)) (lines : List (List ℕ)) (end : Result (Unit {0}) Ending) → Prints old new lines (Ok tt) end → end ≡ Err (endings.Fault Full) → ⊥
+Prints-never_full old new lines end (inl (e, a)) full = cc
+Prints-never_full old new lines end (inr (inl (e, a))) full = cc
+Prints-never_full old new lines end (inr (inr (e, a))) full = cc
+
+-- what orders can end by before anything of them is done
+abbrev pub IsCut : Ending → Type 0
+IsCut early = (early ≡ endings.Fault NoMemory) ⊎ (early ≡ endings.Device)
+
+pub Runs-cut : (settings : Settings) (st : Store) (shown : Reads) (orders : List Order) (old new : Option (List ℕ)) → Appends old new [] → (early : Ending) → IsCut early
+    → Runs settings st shown orders old new (Err early)
+unfolding Runs
+Runs-cut settings st shown orders old new none early (inl e) =
+    inr (inl (ap (λ (x : Ending). Err x) e, ([], (answer_lines settings st shown (contents st.tree) (accepted settings st shown orders), refl), none)))
+Runs-cut settings st shown orders old new none early (inr e) =
+    inr (inr (ap (λ (x : Ending). Err x) e, ([], (flat (answer_lines settings st shown (contents st.tree) (accepted settings st shown orders)), refl), none)))
+
 -- memory is refused before anything of an order is done
 pub RunsOrder-forgone : (honest : Bool) (settings : Settings) (st : Store) (seen : List ℕ) (order : Order) (old : Option (List ℕ)) → RunsOrder honest settings st seen order old old (Err (endings.Fault NoMemory)) st seen
 RunsOrder-forgone honest settings st seen order old = (seen, λ h. refl, stopped settings st seen order old old NoMemory refl (inl refl), tt)
@@ -393,37 +408,27 @@ module _ (honest : Bool) (settings : Settings) (st : Store) (seen : List ℕ) (o
       subst (λ (o : Order). RunsOrder honest settings st seen o old new end st seen) (sym order_is)
       (seen, λ h. refl, answered settings st seen Verify old new end (never_refused seen) printed, OnOk-always end unmoved)
 
--- ---- orders one after the other
+-- ---- the numbers of the store
 
--- what the orders that are left print after what stands there is, after what stood there first, what all of them print
-abbrev pub Leads : Bool → Settings → Store → List ℕ → List Order → Option (List ℕ) → Store → List ℕ → List Order → Option (List ℕ) → Type 0
-Leads honest settings first file orders old st seen left now =
-    (new : Option (List ℕ)) (end : Result (Unit {0}) Ending) → RunsOn honest settings st seen left now new end → RunsOn honest settings first file orders old new end
+module _ (honest : Bool) (settings : Settings) (st : Store) (seen : List ℕ) (order : Order) (order_is : order ≡ Numbers) where
+  numbers_given : (file : List ℕ) → refusal_of settings st file Numbers ≡ None
+  unfolding refusal_of
+  numbers_given file = refl
+
+  still : LeavesStored honest settings st seen Numbers st seen
+  unfolding behind refusal_of
+  still = record { unrefused = refl; store = refl; bytes = λ h. refl; holds = refl }
+
+  pub RunsOrder-uncounted : (old : Option (List ℕ)) (fault : Fault) → fault ≡ NoMemory → RunsOrder honest settings st seen order old old (Err (endings.Fault fault)) st seen
+  RunsOrder-uncounted old fault e = (seen, λ h. refl, stopped settings st seen order old old fault refl (inl e), tt)
+
+  pub RunsOrder-counted : (old new : Option (List ℕ)) (end : Result (Unit {0}) Ending) (numbers : StoreNumbers) → numbers ≡ numbers_of settings st
+      → Prints old new (shown_numbers numbers ∷ []) (Ok tt) end → RunsOrder honest settings st seen order old new end st seen
+  RunsOrder-counted old new end numbers is p =
+      let printed = subst (λ (n : StoreNumbers). Prints old new (shown_numbers n ∷ []) (Ok tt) end) is p in
+      subst (λ (o : Order). RunsOrder honest settings st seen o old new end st seen) (sym order_is)
+      (seen, λ h. refl, answered settings st seen Numbers old new end (numbers_given seen) printed, OnOk-always end still)
 
 -- the orders from this place on
 pub orders_left : (orders : List Order) (i : ℕ) (order : Order) → i < length orders → order ≡ get_or orders i order → drop i orders ≡ order ∷ drop (i + 1) orders
 orders_left orders i order h is = drop_more orders i order h ∙ ap (λ (o : Order). o ∷ drop (i + 1) orders) (sym is)
-
-module _ (honest : Bool) (settings : Settings) (first st : Store) (file seen : List ℕ) (orders left : List Order) (old now : Option (List ℕ))
-    (leads : Leads honest settings first file orders old st seen left now) where
-  pub Leads-done : left ≡ [] → RunsOn honest settings first file orders old now (Ok tt)
-  Leads-done none = leads now (Ok tt) (subst (λ (l : List Order). RunsOn honest settings st seen l now now (Ok tt)) (sym none) (RunsOn-none honest settings st seen now))
-
-  -- one more is run, on a store that has the settings of the first, and a disk that is as honest
-  module _ (order : Order) (rest : List Order) (is : left ≡ order ∷ rest) (b : Bool) (b_is : b ≡ honest) (s : Settings) (s_is : s ≡ settings) (new : Option (List ℕ))
-      (end : Result (Unit {0}) Ending) (after : Store) (bytes : List ℕ) (one : RunsOrder b s st seen order now new end after bytes) where
-    own : RunsOrder honest settings st seen order now new end after bytes
-    own = subst (λ (c : Bool). RunsOrder c settings st seen order now new end after bytes) b_is (subst (λ (t : Settings). RunsOrder b t st seen order now new end after bytes) s_is one)
-
-    further_on : (last : Option (List ℕ)) (ended : Result (Unit {0}) Ending) → RunsOn honest settings st seen (order ∷ rest) now last ended → RunsOn honest settings first file orders old last ended
-    further_on last ended p = leads last ended (subst (λ (l : List Order). RunsOn honest settings st seen l now last ended) (sym is) p)
-
-    pub Leads-stops : (early : Ending) → end ≡ Err early → RunsOn honest settings first file orders old new (Err early)
-    Leads-stops early e =
-        further_on new (Err early) (RunsOn-stops honest settings st seen order now new after bytes rest early
-        (subst (λ (r : Result (Unit {0}) Ending). RunsOrder honest settings st seen order now new r after bytes) e own))
-
-    pub Leads-goes_on : (done : Unit {0}) → end ≡ Ok done → Leads honest settings first file orders old after bytes rest new
-    Leads-goes_on done e last ended q =
-        further_on last ended (RunsOn-goes_on honest settings st seen order now new after bytes rest done
-        (subst (λ (r : Result (Unit {0}) Ending). RunsOrder honest settings st seen order now new r after bytes) e own) last ended q)

@@ -7,7 +7,9 @@ use Rattle.std.specs.Io.KnownBytes.{Appends}
 use Rattle.bwsh.specs.declared.session.Ending.{Ending}
 use Rattle.bwsh.specs.declared.session.Ending.TheVariants.{Words, Bad, Device}
 use Rattle.bwsh.specs.declared.session.Ending.TheVariants as endings
+use Rattle.std.proofs.KnownBytes.{Appends-trans}
 use Rattle.bwsh.specs.Session.{status_of_end, BeginsWith, IsBegun, EndsTold}
+use Rattle.bwsh.proofs.Prints.{front-longer, front-more, front-whole}
 
 -- the status is 0 only with all done
 pub quiet_end : (end : Result (Unit {0}) Ending) (status : ℕ) (P : Type 0) → status ≡ status_of_end end → IfOk end (λ _. P) → status ≡ 0 → P
@@ -67,3 +69,17 @@ told_at {V} {Y} r all of words known old new told_old told_new unread untouched 
 pub of_either : {X Y : Type 0} (r : Result X Y) (P : X → Type 0) (Q : Y → Type 0) (A : Type 0) → ((x : X) → P x → A) → ((y : Y) → Q y → A) → IfOk r P → IfErr r Q → A
 of_either (Ok x) P Q A f g p q = f x p
 of_either (Err y) P Q A f g p q = g y q
+
+-- ---- what more is told
+
+-- a beginning of a text is one of what is longer
+pub begun_longer : (o : Option (List ℕ)) (old new : Option (List ℕ)) (more : List ℕ) → IfSome o (IsBegun old new) → IfSome o (λ text. IsBegun old new (text ++ more))
+begun_longer None old new more b = tt
+begun_longer (Some text) old new more (front, begins, a) = (front, front-longer text more front begins, a)
+
+-- behind all of the text some of more was written, or all of it
+pub begun_with : {X : Type 0} (o : Option (List ℕ)) (old mid new : Option (List ℕ)) (more : List ℕ) (r : Result X Ending) → IfSome o (Appends old mid) → OnOk r (Appends mid new more)
+    → OnErr r ((front : List ℕ) × BeginsWith more front × Appends mid new front) → IfSome o (λ text. IsBegun old new (text ++ more))
+begun_with None old mid new more r a ok err = tt
+begun_with (Some text) old mid new more (Ok x) a ok err = (text ++ more, front-whole (text ++ more), Appends-trans old mid new text more a ok)
+begun_with (Some text) old mid new more (Err e) a ok (front, begins, b) = (text ++ front, front-more text more front begins, Appends-trans old mid new text front a b)

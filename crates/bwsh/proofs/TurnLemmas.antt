@@ -1,6 +1,7 @@
 -- What `clap` makes of one word of the command line.
-use Rattle.std.proofs.Common.{◌≡◌, ◌∙◌, ◌==◌, ◌&&◌, ap, refl, sym, subst, ℕ, Bool, true, false, cond, List, [], ◌∷◌, length, Option, Some, None, codes}
+use Rattle.std.proofs.Common.{◌≡◌, ◌∙◌, ◌==◌, ◌&&◌, ◌||◌, not, ap, refl, sym, subst, ℕ, Bool, true, false, cond, List, [], ◌∷◌, length, Option, Some, None, codes}
 use Rattle.std.specs.Prelude.{slice_get}
+use Rattle.std.specs.List.{AllByRecursion, list_any}
 use Rattle.std.specs.Option.{option_map_or}
 use Rattle.std.specs.Str.{bytes_eq, chars}
 use Rattle.std.proofs.lemmas.Slice.Eq.{bytes_eq-Decides}
@@ -13,18 +14,32 @@ use Rattle.clap.specs.Faults.{bundle_fault, bundle_step_fault, flag_word_fault, 
 use Rattle.clap.specs.declared.error.kind.ErrorKind.{ErrorKind}
 use Rattle.clap.specs.declared.error.kind.ErrorKind.TheVariants.{ArgumentConflict, DisplayHelp, TooManyValues, UnknownArgument, ValueValidation}
 use Rattle.clap.specs.declared.builder.value_parser.Reading.{Reading}
+use Rattle.clap.specs.declared.builder.value_parser.Reading.TheVariants.{AsWritten, WithoutMinus}
 use Rattle.clap.specs.declared.builder.value_parser.ValueParser.{ValueParser}
 use Rattle.clap.specs.declared.parser.matches.ValueSource.TheVariants.{CommandLine}
-use Rattle.bwsh.specs.Options.{Sort, awaits, gives, asks, ends, plain, unknown, Text, fits, is_refusal, sort_by, sort_of, sort_of_flag, sort_of_long, sort_of_short, takes_text}
-use Rattle.bwsh.specs.CommandLine.{bwsh, flag_rule, reading_at}
+use Rattle.bwsh.specs.Options.{Sort, awaits, gives, asks, ends, plain, unknown, Text, fits, flag_names, is_number, is_refusal, sort_by, sort_of, sort_of_flag, sort_of_long, sort_of_short, takes_nothing, takes_number, takes_text}
+use Rattle.bwsh.specs.CommandLine.{built_flag, bwsh, reading_at}
 
 -- the rule of `--help`
 abbrev pub built_help : Rule
 built_help = filled help_rule
 
--- the rule of `--create`
-abbrev pub built_create : Rule
-built_create = filled (flag_rule (codes "create"))
+-- what is so of each of some names is so of one that is among them
+pub any_of : (P : Text → Type 0) (names : List Text) → AllByRecursion P names → (name : Text) → list_any (λ known. bytes_eq known name) names ≡ true → P name
+any_of P [] all name e = absurd (cc)
+any_of P (known ∷ rest) all name e = go (bytes_eq known name) refl e (any_of P rest all.1 name)
+  where
+    go : (b : Bool) → bytes_eq known name ≡ b → (b || list_any (λ other. bytes_eq other name) rest) ≡ true
+        → (list_any (λ other. bytes_eq other name) rest ≡ true → P name) → P name
+    go true hit any later = subst P ((bytes_eq-Decides known name).0 hit) all.0
+    go false other any later = later any
+
+-- an option that takes nothing takes no number and no text
+pub no_number : (name : Text) → takes_nothing name ≡ true → takes_number name ≡ false
+no_number = any_of (λ name. takes_number name ≡ false) flag_names (refl, (refl, (refl, (refl, (refl, (refl, tt))))))
+
+no_text : (name : Text) → takes_nothing name ≡ true → takes_text name ≡ false
+no_text = any_of (λ name. takes_text name ≡ false) flag_names (refl, (refl, (refl, (refl, (refl, (refl, tt))))))
 
 -- an option that takes a text, with these defaults, and checked so
 abbrev pub taking : Text → List Text → ValueParser → Rule
@@ -47,10 +62,9 @@ pub record TakesText (c : List Rule) (name : Text) : Type 0 where
 -- these are the options of the command line
 pub record HasOptions (c : List Rule) : Type 0 where
   pub known : (name : Text) → takes_text name ≡ true → TakesText c name
-  pub create : arg_by_long c (codes "create") ≡ Some built_create
+  pub flags : (name : Text) → takes_nothing name ≡ true → arg_by_long c name ≡ Some (built_flag name)
   pub help : arg_by_long c (codes "help") ≡ Some built_help
-  pub others : (name : Text) → takes_text name ≡ false → bytes_eq (codes "create") name ≡ false → bytes_eq (codes "help") name ≡ false
-      → arg_by_long c name ≡ None
+  pub others : (name : Text) → takes_text name ≡ false → takes_nothing name ≡ false → bytes_eq (codes "help") name ≡ false → arg_by_long c name ≡ None
   pub short : (x : ℕ) → arg_by_short c x ≡ cond (104 == x) (Some built_help) None
   pub positional : arg_by_index c 1 ≡ None
 
@@ -75,9 +89,9 @@ held rows pen = record { rows = rows; pending = pen; skip = 0 }
 abbrev pub standing : List Row → Pending → Waiting → Bool → Walk
 standing rows pen waiting is_trailing = record { held = held rows pen; waiting = waiting; position = 1; is_trailing = is_trailing; stopped = None }
 
--- if the option is the flag, this is its text
+-- if the option takes nothing, this is its text
 abbrev pub HasText : Text → Text → Type 0
-HasText name text = bytes_eq (codes "create") name ≡ true → text ≡ codes "true"
+HasText name text = takes_nothing name ≡ true → text ≡ codes "true"
 
 -- a word of this sort has this fault, and leaves the walk so
 abbrev pub TurnIs : List Rule → List Row → Pending → Waiting → Text → Kinds → Walk → Sort → Type 0
@@ -106,11 +120,11 @@ pub or_else-last : (ks : Kinds) (k : ErrorKind) (next : Kinds) → or_else (or_e
 or_else-last [] k next = refl
 or_else-last (x ∷ ks) k next = refl
 
--- an option that takes a text is not the flag
+-- an option that takes a text is none that takes nothing
 pub not_flag_text : (name text : Text) → takes_text name ≡ true → HasText name text
 not_flag_text name text takes hit =
-    let bad : false ≡ true = subst (λ (n : Text). takes_text n ≡ true) (sym ((bytes_eq-Decides (codes "create") name).0 hit)) takes in
-    cc
+    let bad : false ≡ true = sym (no_text name hit) ∙ takes in
+    absurd (cc)
 
 -- an option that was given before, and else a text that is none for it
 repeat_or : (b d : Bool) → or_else (cond (b && true) (ArgumentConflict ∷ []) []) (or_else (cond d [] (ValueValidation ∷ [])) [])
@@ -131,9 +145,11 @@ pub used_is : (c : List Rule) (name text : Text) (k : TakesText c name) (rows : 
     → used (taking name k.defaults k.parser) (text ∷ []) rows ≡ given_rows name text rows
 used_is c name text k rows = ap (λ (how : Reading). with_values name how CommandLine (text ∷ []) (without name rows)) k.reads
 
--- one use of the flag
-flag_fault : (rows : List Row) → use_fault false built_create [] rows ≡ given_fault (codes "create") (codes "true") rows
-flag_fault rows = repeat_or (has_row (codes "create") rows) true
+-- one use of an option that takes nothing
+flag_fault : (name : Text) → takes_nothing name ≡ true → (rows : List Row) → use_fault false (built_flag name) [] rows ≡ given_fault name (codes "true") rows
+flag_fault name is rows =
+    repeat_or (has_row name rows) true
+    ∙ ap (λ (b : Bool). cond (has_row name rows) (ArgumentConflict ∷ []) (cond (not b || is_number (codes "true")) [] (ValueValidation ∷ []))) (sym (no_number name is))
 
 module _ (c : List Rule) (facts : HasOptions c) (rows : List Row) (pen : Pending) (waiting : Waiting) (word : Text) where
   abbrev here : Held
@@ -172,16 +188,16 @@ module _ (c : List Rule) (facts : HasOptions c) (rows : List Row) (pen : Pending
       subst (λ (r : Option Rule). Turn (long_fault c false r None here) (met_long r None) (awaits name))
       e (is, or_else-none _, refl)
 
-  -- `--create`
-  create_turn : (name : Text) (o : Option Rule) → codes "create" ≡ name → Some built_create ≡ o
+  -- `--name` of an option that takes nothing
+  given_turn : (name : Text) (o : Option Rule) → takes_nothing name ≡ true → Some (built_flag name) ≡ o
       → Turn (long_fault c false o None here) (met_long o None) (gives name (codes "true"))
-  create_turn name o same e =
-      subst (λ (n : Text). Turn (long_fault c false o None here) (met_long o None) (gives n (codes "true"))) same
-      (subst (λ (r : Option Rule). Turn (long_fault c false r None here) (met_long r None) (gives (codes "create") (codes "true"))) e (
+  given_turn name o is e =
+      let settled = settled_rows c pen rows in
+      subst (λ (r : Option Rule). Turn (long_fault c false r None here) (met_long r None) (gives name (codes "true"))) e (
         λ _. refl,
-        or_else-none _ ∙ ap (or_else (settle_fault c false here)) (flag_fault (settled_rows c pen rows)),
-        refl,
-      ))
+        or_else-none _ ∙ ap (or_else (settle_fault c false here)) (flag_fault name is settled),
+        ap (λ (b : Bool). standing (with_values name (cond b WithoutMinus AsWritten) CommandLine (codes "true" ∷ []) (without name settled)) None idle false) (sym (no_number name is)),
+      )
 
   -- a name that there is not
   unknown_turn : (v : Option Text) (o : Option Rule) (met : Held × Step) → None ≡ o → Turn (long_fault c false o v here) met unknown
@@ -204,30 +220,29 @@ module _ (c : List Rule) (facts : HasOptions c) (rows : List Row) (pen : Pending
   flag_at : (flag name : Text) (a : Rule) → bytes_eq flag name ≡ true → arg_by_long c flag ≡ Some a → Some a ≡ arg_by_long c name
   flag_at flag name a hit known = subst (λ (n : Text). Some a ≡ arg_by_long c n) ((bytes_eq-Decides flag name).0 hit) (sym known)
 
-  other_with : (name text : Text) (b d : Bool) (met : Held × Step) → bytes_eq (codes "create") name ≡ b → bytes_eq (codes "help") name ≡ d → takes_text name ≡ false
+  other_with : (name text : Text) (b d : Bool) (met : Held × Step) → takes_nothing name ≡ b → bytes_eq (codes "help") name ≡ d → takes_text name ≡ false
       → Turn (long_fault c false (arg_by_long c name) (Some text) here) met unknown
-  other_with name text true d met hit other is = unneeded_turn text (arg_by_long c name) built_create met refl (flag_at (codes "create") name built_create hit facts.create)
+  other_with name text true d met hit other is = unneeded_turn text (arg_by_long c name) (built_flag name) met refl (sym (facts.flags name hit))
   other_with name text false true met other hit is = unneeded_turn text (arg_by_long c name) built_help met refl (flag_at (codes "help") name built_help hit facts.help)
-  other_with name text false false met no_create no_help is = unknown_turn (Some text) (arg_by_long c name) met (sym (facts.others name is no_create no_help))
+  other_with name text false false met no_flag no_help is = unknown_turn (Some text) (arg_by_long c name) met (sym (facts.others name is no_flag no_help))
 
-  other_alone : (name : Text) (b d : Bool) → bytes_eq (codes "create") name ≡ b → bytes_eq (codes "help") name ≡ d → takes_text name ≡ false
+  other_alone : (name : Text) (b d : Bool) → takes_nothing name ≡ b → bytes_eq (codes "help") name ≡ d → takes_text name ≡ false
       → Turn (long_fault c false (arg_by_long c name) None here) (met_long (arg_by_long c name) None) (cond b (gives name (codes "true")) (cond d asks unknown))
-  other_alone name true d hit other is =
-      create_turn name (arg_by_long c name) ((bytes_eq-Decides (codes "create") name).0 hit) (flag_at (codes "create") name built_create hit facts.create)
+  other_alone name true d hit other is = given_turn name (arg_by_long c name) hit (sym (facts.flags name hit))
   other_alone name false true other hit is = help_turn (arg_by_long c name) (met_long (arg_by_long c name) None) (flag_at (codes "help") name built_help hit facts.help)
-  other_alone name false false no_create no_help is =
-      unknown_turn None (arg_by_long c name) (met_long (arg_by_long c name) None) (sym (facts.others name is no_create no_help))
+  other_alone name false false no_flag no_help is =
+      unknown_turn None (arg_by_long c name) (met_long (arg_by_long c name) None) (sym (facts.others name is no_flag no_help))
 
   long_with : (name text : Text) (b : Bool) → takes_text name ≡ b
       → Turn (long_fault c false (arg_by_long c name) (Some text) here) (met_long (arg_by_long c name) (Some text)) (cond b (gives name text) unknown)
   long_with name text true is = let k = facts.known name is in gives_turn name text k (arg_by_long c name) is (sym k.by_long)
   long_with name text false is =
-      other_with name text (bytes_eq (codes "create") name) (bytes_eq (codes "help") name) (met_long (arg_by_long c name) (Some text)) refl refl is
+      other_with name text (takes_nothing name) (bytes_eq (codes "help") name) (met_long (arg_by_long c name) (Some text)) refl refl is
 
   long_alone : (name : Text) (b : Bool) → takes_text name ≡ b
       → Turn (long_fault c false (arg_by_long c name) None here) (met_long (arg_by_long c name) None) (cond b (awaits name) (sort_of_flag name))
   long_alone name true is = let k = facts.known name is in awaits_turn name k (arg_by_long c name) is (sym k.by_long)
-  long_alone name false is = other_alone name (bytes_eq (codes "create") name) (bytes_eq (codes "help") name) refl refl is
+  long_alone name false is = other_alone name (takes_nothing name) (bytes_eq (codes "help") name) refl refl is
 
   long_turn : (name : Text) (v : Option Text)
       → Turn (long_fault c false (arg_by_long c name) v here) (met_long (arg_by_long c name) v) (sort_of_long name v)

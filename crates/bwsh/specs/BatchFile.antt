@@ -1,6 +1,7 @@
 -- Batch files: what the lines of a file say, all of them together.
-use Rattle.std.specs.Prelude.{◌≡◌, ⊤, ℕ, ◌+◌, Bool, true, false, List, [], ◌∷◌, ◌++◌, map, Option, Some, None}
+use Rattle.std.specs.Prelude.{◌≡◌, ◌≢◌, ⊤, ℕ, ◌+◌, Bool, true, false, List, [], ◌∷◌, ◌++◌, map, Option, Some, None}
 use Rattle.std.specs.declared.alloc.Global.{Global}
+use Rattle.std.specs.Io.BufRead.{take_through, drop_through}
 use Rattle.keys.specs.declared.command.Command.{Command}
 use Rattle.bstr.specs.Text.{lines_of, without_terminator}
 use Rattle.keys.specs.Bytes.{Bytes}
@@ -9,7 +10,7 @@ use Rattle.bwsh.specs.declared.line.Says.TheVariants.{Go, Bad}
 use Rattle.bwsh.specs.declared.line.Says.TheVariants as says
 use Rattle.bwsh.specs.declared.line.Why.{Why}
 use Rattle.bwsh.specs.declared.batch_file.Order.{Order}
-use Rattle.bwsh.specs.declared.batch_file.Order.TheVariants.{Batch, Flush, Clean, Upgrade, Verify}
+use Rattle.bwsh.specs.declared.batch_file.Order.TheVariants.{Batch, Flush, Clean, Upgrade, Verify, Numbers}
 use Rattle.bwsh.specs.declared.batch_file.TextFault.{TextFault}
 use Rattle.bwsh.specs.declared.batch_file.TextFault.TheVariants as faults
 use Rattle.bwsh.specs.Line.{line_says}
@@ -44,7 +45,51 @@ orders_of pending (says.Upgrade ∷ rest) = last_order pending ++ Upgrade ∷ or
 orders_of pending (says.Verify ∷ rest) = last_order pending ++ Verify ∷ orders_of [] rest
 orders_of pending (_ ∷ rest) = orders_of pending rest
 
--- the fault is that of the first bad line, or that memory was refused
+-- these, and then the order to print the numbers, where it is asked for
+abbrev pub with_numbers : Bool → List Order → List Order
+with_numbers false orders = orders
+with_numbers true orders = orders ++ Numbers ∷ []
+
+-- what is ordered by lines that say this, up to the first bad one, after commands that are pending: at the end these are run, and then the
+-- numbers are printed, where they are asked for; at a bad line they are not run
+abbrev pub streamed : Bool → List (Command Global) → List Says → List Order
+streamed numbers pending [] = with_numbers numbers (last_order pending)
+streamed numbers pending (Bad why ∷ rest) = []
+streamed numbers pending (Says.Command command ∷ rest) = streamed numbers (pending ++ command ∷ []) rest
+streamed numbers pending (Go ∷ rest) = Batch pending ∷ streamed numbers [] rest
+streamed numbers pending (says.Flush ∷ rest) = last_order pending ++ Flush ∷ streamed numbers [] rest
+streamed numbers pending (says.Clean ∷ rest) = last_order pending ++ Clean ∷ streamed numbers [] rest
+streamed numbers pending (says.Upgrade ∷ rest) = last_order pending ++ Upgrade ∷ streamed numbers [] rest
+streamed numbers pending (says.Verify ∷ rest) = last_order pending ++ Verify ∷ streamed numbers [] rest
+streamed numbers pending (_ ∷ rest) = streamed numbers pending rest
+
+-- what is ordered by a line that says this, after commands that are pending, where it ends their batch; else nothing
+abbrev pub ended_by : List (Command Global) → Says → List Order
+ended_by pending Go = Batch pending ∷ []
+ended_by pending says.Flush = last_order pending ++ Flush ∷ []
+ended_by pending says.Clean = last_order pending ++ Clean ∷ []
+ended_by pending says.Upgrade = last_order pending ++ Upgrade ∷ []
+ended_by pending says.Verify = last_order pending ++ Verify ∷ []
+ended_by pending _ = []
+
+-- the next line of known bytes is this, with its line feed, and these are left; or there is none, since there are no bytes
+abbrev pub IsNextLine : Option Bytes → Option Bytes → Bytes → Bool → Type 0
+IsNextLine None left line more = ⊤
+IsNextLine (Some bytes) left line true = (bytes ≢ []) × (line ≡ take_through 10 bytes) × (left ≡ Some (drop_through 10 bytes))
+IsNextLine (Some bytes) left line false = bytes ≡ []
+
+-- the commands of a batch that lines which say this don't end, after commands that are pending
+abbrev pub unended : List (Command Global) → List Says → List (Command Global)
+unended pending [] = pending
+unended pending (Says.Command command ∷ rest) = unended (pending ++ command ∷ []) rest
+unended pending (Go ∷ rest) = unended [] rest
+unended pending (says.Flush ∷ rest) = unended [] rest
+unended pending (says.Clean ∷ rest) = unended [] rest
+unended pending (says.Upgrade ∷ rest) = unended [] rest
+unended pending (says.Verify ∷ rest) = unended [] rest
+unended pending (_ ∷ rest) = unended pending rest
+
+-- the fault tells of the first bad line, or that memory was refused
 abbrev pub IsRightFault : List Says → TextFault → Type 0
 IsRightFault says (faults.Bad n why) = first_bad 1 says ≡ Some (n, why)
 IsRightFault says faults.Memory = Unit {0}
@@ -56,6 +101,12 @@ writes Flush = true
 writes Clean = true
 writes Upgrade = true
 writes Verify = false
+writes Numbers = false
+
+-- the order is a flush
+abbrev pub is_flush : Order → Bool
+is_flush Flush = true
+is_flush _ = false
 
 -- the order is a batch
 abbrev pub IsBatch : Order → Type 0
@@ -64,11 +115,17 @@ IsBatch Flush = ⊥
 IsBatch Clean = ⊥
 IsBatch Upgrade = ⊥
 IsBatch Verify = ⊥
+IsBatch Numbers = ⊥
 
 -- the order is no clean
 abbrev pub IsNoClean : Order → Type 0
 IsNoClean Clean = ⊥
 IsNoClean _ = ⊤
+
+-- the same as a test
+abbrev pub cleans_nothing : Order → Bool
+cleans_nothing Clean = false
+cleans_nothing _ = true
 
 -- the line orders nothing but batches
 abbrev pub IsForBatches : Says → Type 0
@@ -85,6 +142,7 @@ commands_of Flush = []
 commands_of Clean = []
 commands_of Upgrade = []
 commands_of Verify = []
+commands_of Numbers = []
 
 -- the commands that lines say
 abbrev pub commands_said : List Says → List (Command Global)

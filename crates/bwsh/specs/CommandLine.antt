@@ -4,13 +4,12 @@ use Rattle.std.specs.List.{All, fold}
 use Rattle.clap.specs.Words.{App, Row, Rule, new_app, new_rule, with_rule}
 use Rattle.clap.specs.Walk.{with_default}
 use Rattle.clap.specs.Simple.{filled, on_top}
-use Rattle.std.specs.Str.{bytes_eq}
 use Rattle.clap.specs.declared.builder.action.ArgAction.TheVariants.{SetTrue}
 use Rattle.clap.specs.declared.builder.value_parser.ValueParser.TheVariants as vp
 use Rattle.clap.specs.declared.builder.value_parser.Reading.{Reading}
 use Rattle.clap.specs.declared.builder.value_parser.Reading.TheVariants.{AsWritten, WithoutMinus}
 use Rattle.clap.specs.declared.parser.matches.ValueSource.TheVariants.{CommandLine}
-use Rattle.bwsh.specs.Options.{Text, Given, fits, takes_number}
+use Rattle.bwsh.specs.Options.{Text, Given, fits, flag_names, takes_nothing, takes_number}
 
 -- an option that takes a number
 abbrev pub number_rule : Text → Text → Rule
@@ -35,12 +34,14 @@ plain_bwsh = on_top (λ s. record s { no_binary_name = true }) (new_app (codes "
 
 -- the program with its options
 abbrev pub bwsh : App
-bwsh = with_rule (with_rule (with_rule (with_rule (with_rule (with_rule (with_rule (with_rule (with_rule (with_rule plain_bwsh
+bwsh = with_rule (with_rule (with_rule (with_rule (with_rule (with_rule (with_rule (with_rule (with_rule (with_rule (with_rule (with_rule (with_rule (with_rule (with_rule plain_bwsh
     (number_rule (codes "fan") (codes "16"))) (number_rule (codes "chain") (codes "4")))
     (number_rule (codes "max-key") (codes "64"))) (number_rule (codes "max-value") (codes "256")))
     (number_rule (codes "seg-size") (codes "65536"))) (number_rule (codes "segments") (codes "64")))
     (number_rule (codes "workers") (codes "1"))) (number_rule (codes "grain") (codes "64")))
-    (text_rule (codes "disk"))) (flag_rule (codes "create"))
+    (text_rule (codes "disk"))) (flag_rule (codes "create"))) (flag_rule (codes "version"))) (flag_rule (codes "explain")))
+    (flag_rule (codes "stat"))) (flag_rule (codes "clean-when-full")))
+    (flag_rule (codes "stream"))
 
 -- the options that take a number, each with the text of its default
 abbrev pub number_defaults : List (Text × Text)
@@ -52,9 +53,13 @@ number_defaults = (codes "fan", codes "16") ∷ (codes "chain", codes "4") ∷ (
 abbrev pub built_number : Text × Text → Rule
 built_number p = filled (number_rule p.0 p.1)
 
+-- an option that takes nothing as a parse reads it
+abbrev pub built_flag : Text → Rule
+built_flag name = filled (flag_rule name)
+
 -- all options as a parse reads them
 abbrev pub built_rules : List Rule
-built_rules = map built_number number_defaults ++ filled (text_rule (codes "disk")) ∷ filled (flag_rule (codes "create")) ∷ []
+built_rules = map built_number number_defaults ++ filled (text_rule (codes "disk")) ∷ map built_flag flag_names
 
 -- how the text of an option is read
 abbrev pub reading_at : Text → Reading
@@ -74,9 +79,9 @@ given_row g = record {
 abbrev pub finished_rows : Given → List Row
 finished_rows given = fold with_default (map given_row given) built_rules
 
--- this can be given: a text that is one for the option, and that of the flag is `true`
+-- this can be given: a text that is one for the option, and that of one which takes nothing is `true`
 abbrev pub IsGivable : Text × Text → Type 0
-IsGivable g = (fits g.0 g.1 ≡ true) × (bytes_eq (codes "create") g.0 ≡ true → g.1 ≡ codes "true")
+IsGivable g = (fits g.0 g.1 ≡ true) × (takes_nothing g.0 ≡ true → g.1 ≡ codes "true")
 
 -- each of these can be given
 abbrev pub AreGivable : Given → Type 0

@@ -12,6 +12,7 @@ use Rattle.clap.specs.declared.error.kind.ErrorKind.{ErrorKind}
 use Rattle.clap.specs.declared.error.kind.ErrorKind.TheVariants.{InvalidValue, UnknownArgument, ValueValidation, TooManyValues, ArgumentConflict, DisplayHelp, OutOfMemory}
 use Rattle.keys.specs.Bytes.{Bytes}
 use Rattle.bwsh.specs.declared.options.asked.Options.{Options}
+use Rattle.bwsh.specs.declared.options.asked.Ways.{Ways}
 
 -- a text, as its bytes
 abbrev pub Text : Type 0
@@ -34,7 +35,15 @@ takes_number name = list_any (λ known. bytes_eq known name) number_names
 abbrev pub takes_text : Text → Bool
 takes_text name = takes_number name || bytes_eq (codes "disk") name
 
--- the text is a whole number from 0 to 4294967295, in digits after a sign or none
+-- the options that take nothing
+abbrev pub flag_names : List Text
+flag_names = codes "create" ∷ codes "version" ∷ codes "explain" ∷ codes "stat" ∷ codes "clean-when-full" ∷ codes "stream" ∷ []
+
+-- the option takes nothing
+abbrev pub takes_nothing : Text → Bool
+takes_nothing name = list_any (λ known. bytes_eq known name) flag_names
+
+-- the text is a whole number from 0 to 4294967295, in digits behind a sign or none
 abbrev pub is_number : Text → Bool
 is_number text = is_signed_in (pos 0) (pos 4294967295) text
 
@@ -56,9 +65,9 @@ pub data Sort : Type 0 where
   plain : Sort
   unknown : Sort
 
--- `--name` of what takes no text: `--create` is as an option with the text `true`
+-- `--name` of what takes no text: an option that takes nothing is as one with the text `true`
 abbrev pub sort_of_flag : Text → Sort
-sort_of_flag name = if bytes_eq (codes "create") name then gives name (codes "true") else (if bytes_eq (codes "help") name then asks else unknown)
+sort_of_flag name = if takes_nothing name then gives name (codes "true") else (if bytes_eq (codes "help") name then asks else unknown)
 
 -- `--name`, or `--name=text`
 abbrev pub sort_of_long : Text → Option Text → Sort
@@ -148,16 +157,34 @@ crew_of given = record { workers = number_or 1 (codes "workers") given; grain = 
 abbrev pub disk_of : Given → Option Text
 disk_of given = option_map (λ g. g.1) (find (λ g. bytes_eq g.0 (codes "disk")) given)
 
--- what words ask for: the six settings, the crew, the file in which the store is, if it is in one, and whether that file is made anew
+-- the ways of what was given
+abbrev pub ways_of : Given → Ways
+ways_of given = record {
+  version = is_given (codes "version") given;
+  explain = is_given (codes "explain") given;
+  stat = is_given (codes "stat") given;
+  clean_when_full = is_given (codes "clean-when-full") given;
+  stream = is_given (codes "stream") given;
+}
+
+-- what words ask for: the six settings, the crew, the file in which the store is, if it is in one, whether that file is made anew, and in
+-- which ways the session differs from a plain one
 pub record Told : Type 0 where
   pub settings : Settings
   pub crew : Crew
   pub disk : Option Text
   pub create : Bool
+  pub ways : Ways
 
 -- what was given asks for this
 abbrev pub told_by : Given → Told
-told_by given = record { settings = settings_of given; crew = crew_of given; disk = disk_of given; create = is_given (codes "create") given }
+told_by given = record {
+  settings = settings_of given;
+  crew = crew_of given;
+  disk = disk_of given;
+  create = is_given (codes "create") given;
+  ways = ways_of given;
+}
 
 -- the words ask for these
 abbrev pub AsksFor : List Text → Told → Type 0
@@ -165,11 +192,27 @@ AsksFor words told = (given : Given) × (asked words ≡ options given) × (told
 
 -- what the options of the code say, as text
 abbrev pub told_of : Options → Told
-told_of o = record { settings = o.settings; crew = o.crew; disk = option_map string_bytes o.disk; create = o.create }
+told_of o = record { settings = o.settings; crew = o.crew; disk = option_map string_bytes o.disk; create = o.create; ways = o.ways }
 
 -- the words ask for help
 abbrev pub AsksForHelp : List Text → Type 0
 AsksForHelp words = asked words ≡ help
+
+-- the words ask for the version
+abbrev pub AsksForVersion : List Text → Type 0
+AsksForVersion words = (told : Told) × AsksFor words told × (told.ways.version ≡ true)
+
+-- the words ask for an explanation of the end
+abbrev pub AsksToExplain : List Text → Type 0
+AsksToExplain words = (told : Told) × AsksFor words told × (told.ways.explain ≡ true)
+
+-- the words ask for a stream
+abbrev pub AsksToStream : List Text → Type 0
+AsksToStream words = (told : Told) × AsksFor words told × (told.ways.stream ≡ true)
+
+-- the words ask for a text, and for nothing to be read: for help, or for the version
+abbrev pub AsksForText : List Text → Type 0
+AsksForText words = AsksForHelp words ⊎ AsksForVersion words
 
 -- the words are refused
 abbrev pub AreRefused : List Text → Type 0

@@ -1,5 +1,5 @@
 -- What a session starts on, what it runs and prints, and how it ends.
-use Rattle.std.specs.Prelude.{◌≡◌, ◌⊎◌, ℕ, suc, Bool, true, false, IsTrue, ⊤, List, [], ◌∷◌, ◌++◌, map, is_some, codes, replicate, if◌then◌else◌, Option, Some, None, IfSome, Result, Ok, Err, IfOk, OnOk}
+use Rattle.std.specs.Prelude.{◌≡◌, ◌⊎◌, ◌+◌, ◌-◌, ◌&&◌, ℕ, zero, suc, Bool, not, true, false, IsTrue, ⊤, List, [], ◌∷◌, ◌++◌, map, is_some, codes, replicate, if◌then◌else◌, Option, Some, None, IfSome, Result, Ok, Err, IfOk, OnOk}
 use Rattle.std.specs.Bool.{MatchBool}
 use Rattle.std.specs.Option.{option_map, option_or}
 use Rattle.std.specs.Fmt.{decimal}
@@ -13,28 +13,31 @@ use Rattle.keys.specs.Step.{replies_to, map_after_all}
 use Rattle.keys.specs.declared.settings.Settings.{Settings}
 use Rattle.keys.specs.declared.settings.Field.{Field}
 use Rattle.keys.specs.declared.fault.Fault.{Fault}
-use Rattle.keys.specs.declared.fault.Fault.TheVariants.{BadCrew, BadSettings, NoMemory}
+use Rattle.keys.specs.declared.fault.Fault.TheVariants.{BadCrew, BadSettings, Full, NoMemory, NothingToClean}
 use Rattle.mapping.specs.Tree.{Store}
 use Rattle.mapping.specs.Levels.{contents}
 use Rattle.verify.specs.Report.{report}
 use Rattle.flush_log.specs.Disk.{View}
 use Rattle.flush_log.specs.NewStore.{disk_of_new}
-use Rattle.flush_log.specs.Segments.{disk_size}
+use Rattle.flush_log.specs.Segments.{disk_size, last_segment}
 use Rattle.recovery.specs.StoreOfDisk.{first_store, store_of_disk}
 use Rattle.engine.specs.State.{State}
 use Rattle.engine.specs.Steps.{Step, Stepped, batching, after_step}
+use Rattle.bwsh.specs.declared.line.Says.{Says}
 use Rattle.bwsh.specs.declared.line.Why.{Why}
+use Rattle.bwsh.specs.declared.options.asked.Ways.{Ways}
 use Rattle.bwsh.specs.declared.batch_file.Order.{Order}
-use Rattle.bwsh.specs.declared.batch_file.Order.TheVariants.{Batch, Flush, Clean, Upgrade, Verify}
+use Rattle.bwsh.specs.declared.batch_file.Order.TheVariants.{Batch, Flush, Clean, Upgrade, Verify, Numbers}
 use Rattle.bwsh.specs.declared.batch_file.TextFault.{TextFault}
 use Rattle.bwsh.specs.declared.batch_file.TextFault.TheVariants as faults
 use Rattle.bwsh.specs.declared.session.Ending.{Ending}
 use Rattle.bwsh.specs.declared.session.Ending.TheVariants.{Words, Bad, Device}
 use Rattle.bwsh.specs.declared.session.Ending.TheVariants as endings
-use Rattle.bwsh.specs.BatchFile.{text_says, first_bad, orders_of}
+use Rattle.bwsh.specs.declared.show.StoreNumbers.{StoreNumbers}
+use Rattle.bwsh.specs.BatchFile.{text_says, first_bad, orders_of, streamed, with_numbers}
 use Rattle.bwsh.specs.Line.{why_text}
-use Rattle.bwsh.specs.Options.{Text, Told, AsksFor, AsksForHelp, AreRefused}
-use Rattle.bwsh.specs.Shown.{shown_reply, shown_flushed, shown_cleaned, shown_upgraded, shown_report}
+use Rattle.bwsh.specs.Options.{Text, Told, AsksFor, AsksForText, AsksToExplain, AreRefused}
+use Rattle.bwsh.specs.Shown.{shown_reply, shown_flushed, shown_cleaned, shown_upgraded, shown_report, shown_numbers}
 
 -- the exit status of a session that ends before all is done
 abbrev pub status_of : Ending → ℕ
@@ -63,6 +66,10 @@ told_text (Err early) = ending_text early
 -- the message for words that cannot be read, with its line feed
 abbrev pub unread_text : Bytes
 unread_text = codes "error: a word of the command line is no text" ++ 10 ∷ []
+
+-- what is printed for the version, with its line feed
+abbrev pub version_text : Bytes
+version_text = codes "bwsh 0.1.0" ++ 10 ∷ []
 
 -- the ending of a session whose text is not read
 abbrev pub ending_by : TextFault → Ending
@@ -125,6 +132,7 @@ step_in Flush = Some Step.Flush
 step_in Clean = Some Step.Clean
 step_in Upgrade = Some Step.Upgrade
 step_in Verify = None
+step_in Numbers = None
 
 -- what a step leaves of what is stored, and why it is refused, if it is
 abbrev pub left_by : Stored → Stepped Global → Stored
@@ -159,16 +167,30 @@ map_behind m Flush = m
 map_behind m Clean = m
 map_behind m Upgrade = m
 map_behind m Verify = m
+map_behind m Numbers = m
+
+-- the numbers of a store of these settings
+abbrev pub numbers_of : Settings → Store → StoreNumbers
+numbers_of settings st = record {
+  sequence = st.sequence;
+  head = st.head;
+  tail = st.tail;
+  in_use = last_segment settings st.tail + 1 - st.head;
+  segments = settings.segments;
+  pages = (report st.tree).pages;
+  pairs = (report st.tree).pairs;
+}
 
 -- the lines that an order answers, with their line feeds, where the store holds this map before it, and its disk shows these bytes:
 -- to a batch the replies of the map, the lines of each as one text; to a flush and to an upgrade the sequence number that it leaves;
--- to a clean the head segment; to a verify the report on the tree
+-- to a clean the head segment; to a verify the report on the tree; and the numbers of the store
 abbrev pub own_lines : Settings → Store → Bytes → Pairs Bytes → Order → List Bytes
 own_lines settings st file m (Batch commands) = map shown_reply (replies_to m commands)
 own_lines settings st file m Flush = shown_flushed (behind settings st file Flush).0.sequence ∷ []
 own_lines settings st file m Clean = shown_cleaned (behind settings st file Clean).0.head ∷ []
 own_lines settings st file m Upgrade = shown_upgraded (behind settings st file Upgrade).0.sequence ∷ []
 own_lines settings st file m Verify = shown_report (report st.tree) ∷ []
+own_lines settings st file m Numbers = shown_numbers (numbers_of settings st) ∷ []
 
 -- the lines that orders answer one after the other, of a store whose disk shows these bytes before each; each leaves its store and its
 -- map to the next
@@ -182,10 +204,10 @@ answer_lines settings st shown m (order ∷ rest) =
 abbrev pub printed : Settings → Store → Reads → Pairs Bytes → List Order → Bytes
 printed settings st shown m orders = flat (answer_lines settings st shown m orders)
 
--- all that the orders of a text print from this start, were each accepted: nothing, where there is no store
-abbrev pub printed_by : Start → Reads → Bytes → Bytes
-printed_by (Ok p) shown text = printed p.0 p.1.0 shown (contents p.1.0.tree) (orders_of [] (text_says text))
-printed_by (Err fault) shown text = []
+-- all that these orders print from this start, were each accepted: nothing, where there is no store
+abbrev pub printed_by : Start → Reads → List Order → Bytes
+printed_by (Ok p) shown orders = printed p.0 p.1.0 shown (contents p.1.0.tree) orders
+printed_by (Err fault) shown orders = []
 
 -- why a store refuses the first of the orders that it refuses, if there is one; each that is accepted leaves its store to the next
 abbrev pub first_refusal : Settings → Store → Reads → List Order → Option Fault
@@ -199,6 +221,43 @@ accepted settings st shown [] = []
 accepted settings st shown (order ∷ rest) =
     if is_some (refusal_of settings st (shown 0) order) then []
     else order ∷ accepted settings (behind settings st (shown 0) order).0 (later shown) rest
+
+-- it is refused since the log is full
+abbrev pub is_full : Option Fault → Bool
+is_full (Some Full) = true
+is_full _ = false
+
+-- it is refused since there is nothing to clean
+abbrev pub is_clean : Option Fault → Bool
+is_clean (Some NothingToClean) = true
+is_clean _ = false
+
+-- a flush of a store, whose disk shows these bytes, takes a clean in front of it: the log is full, and there is something to clean
+abbrev pub wants_clean : Settings → Store → Bytes → Bool
+wants_clean settings st file = is_full (refusal_of settings st file Flush) && not (is_clean (refusal_of settings st file Clean))
+
+-- a flush with as many cleans in front of it as it takes, at most this number, and then what is run on what they leave
+abbrev pub flush_with_room : ℕ → Settings → Store → Reads → (Store → Reads → List Order) → List Order
+flush_with_room zero settings st shown next = Flush ∷ next (behind settings st (shown 0) Flush).0 (later shown)
+flush_with_room (suc most) settings st shown next =
+    if wants_clean settings st (shown 0) then Clean ∷ flush_with_room most settings (behind settings st (shown 0) Clean).0 (later shown) next
+    else Flush ∷ next (behind settings st (shown 0) Flush).0 (later shown)
+
+-- orders with the cleans among them that make room for their flushes: in front of each as many as it takes, at most one a segment
+abbrev pub with_cleans : Settings → Store → Reads → List Order → List Order
+with_cleans settings st shown [] = []
+with_cleans settings st shown (Flush ∷ rest) = flush_with_room settings.segments settings st shown (λ now reads. with_cleans settings now reads rest)
+with_cleans settings st shown (order ∷ rest) = order ∷ with_cleans settings (behind settings st (shown 0) order).0 (later shown) rest
+
+-- what is run of orders: themselves; or, where a flush makes itself room, with these cleans among them
+abbrev pub run_of : Bool → Settings → Store → Reads → List Order → List Order
+run_of false settings st shown orders = orders
+run_of true settings st shown orders = with_cleans settings st shown orders
+
+-- the same from this start
+abbrev pub run_from : Bool → Start → Reads → List Order → List Order
+run_from cleans (Ok p) shown orders = run_of cleans p.0 p.1.0 shown orders
+run_from cleans (Err fault) shown orders = orders
 
 -- the disk shows what was left, before each of these orders: these bytes before the first
 abbrev pub AreLeft : Settings → Store → Bytes → Reads → List Order → Type 0
@@ -214,6 +273,11 @@ AreLeftFrom (Err fault) shown orders = ⊤
 -- the disk can show this before each of these orders, where the words give this: in memory what was left, in a file anything
 abbrev pub IsShown : Told → Start → Reads → List Order → Type 0
 IsShown told start shown orders = told.disk ≡ None → AreLeftFrom start shown orders
+
+-- whether all is done, whatever else is returned then
+abbrev pub without_value : {X : Type 0} → Result X Ending → Result (Unit {0}) Ending
+without_value (Ok x) = Ok tt
+without_value (Err early) = Err early
 
 -- an end for this reason, or with all done
 abbrev pub stopped_by : Option Ending → Result (Unit {0}) Ending
@@ -237,13 +301,48 @@ lines_after (Some bad) start shown orders = []
 lines_after None (Err fault) shown orders = []
 lines_after None (Ok p) shown orders = answer_lines p.0 p.1.0 shown (contents p.1.0.tree) (accepted p.0 p.1.0 shown orders)
 
+-- an end for this bad line
+abbrev pub bad_ending : ℕ × Why → Ending
+bad_ending bad = Bad bad.0 bad.1
+
+-- how a stream with this first bad line, if there is one, ends by its right, that starts so and runs these orders up to it: at a start that
+-- has no store, else at the first order that the store refuses, else at the bad line, or with all done
+abbrev pub end_streamed : Option (ℕ × Why) → Start → Reads → List Order → Result (Unit {0}) Ending
+end_streamed bad (Err fault) shown orders = Err (endings.Fault fault)
+end_streamed bad (Ok p) shown orders =
+    stopped_by (option_or (option_map (λ fault. endings.Fault fault) (first_refusal p.0 p.1.0 shown orders)) (option_map bad_ending bad))
+
+-- the orders of a session on this text that starts so: what its lines order, and then the numbers, where the words ask for them; and among
+-- them the cleans that make room for flushes, where they ask for these
+abbrev pub session_orders : Told → Start → Reads → Bytes → List Order
+session_orders told start shown text = run_from told.ways.clean_when_full start shown (with_numbers told.ways.stat (orders_of [] (text_says text)))
+
 -- how a session on this text ends by its right
-abbrev pub session_end : Start → Reads → Bytes → Result (Unit {0}) Ending
-session_end start shown text = end_after (first_bad 1 (text_says text)) start shown (orders_of [] (text_says text))
+abbrev pub session_end : Told → Start → Reads → Bytes → Result (Unit {0}) Ending
+session_end told start shown text = end_after (first_bad 1 (text_says text)) start shown (session_orders told start shown text)
 
 -- the lines that a session on this text prints by its right
-abbrev pub session_lines : Start → Reads → Bytes → List Bytes
-session_lines start shown text = lines_after (first_bad 1 (text_says text)) start shown (orders_of [] (text_says text))
+abbrev pub session_lines : Told → Start → Reads → Bytes → List Bytes
+session_lines told start shown text = lines_after (first_bad 1 (text_says text)) start shown (session_orders told start shown text)
+
+-- the same of a stream of lines that say this, up to the first bad one: what it runs, how it ends, and the lines that it prints
+abbrev pub stream_orders : Told → Start → Reads → List Says → List Order
+stream_orders told start shown said = run_from told.ways.clean_when_full start shown (streamed told.ways.stat [] said)
+
+abbrev pub stream_end : Told → Start → Reads → List Says → Result (Unit {0}) Ending
+stream_end told start shown said = end_streamed (first_bad 1 said) start shown (stream_orders told start shown said)
+
+abbrev pub stream_lines : Told → Start → Reads → List Says → List Bytes
+stream_lines told start shown said = lines_after None start shown (stream_orders told start shown said)
+
+-- what is run of this text, by a stream or not
+abbrev pub run_by : Bool → Told → Start → Reads → Bytes → List Order
+run_by true told start shown text = stream_orders told start shown (text_says text)
+run_by false told start shown text = session_orders told start shown text
+
+-- and by a session that is asked for this
+abbrev pub orders_run : Told → Start → Reads → Bytes → List Order
+orders_run told start shown text = run_by told.ways.stream told start shown text
 
 -- a session whose text has this first bad line, if it has one, can end so before anything is run
 abbrev pub IsReadEnding : Option (ℕ × Why) → Ending → Type 0
@@ -260,9 +359,13 @@ BeginsWith {X} xs front = (rest : List X) × (xs ≡ front ++ rest)
 abbrev pub IsBegun : Option Bytes → Option Bytes → Bytes → Type 0
 IsBegun old new text = (front : Bytes) × BeginsWith text front × Appends old new front
 
--- known bytes grow by a beginning of the message for this end, where a clause can say what that is
-abbrev pub IsTold : Result (Unit {0}) Ending → Option Bytes → Option Bytes → Type 0
-IsTold end old new = IfSome (told_text end) (IsBegun old new)
+-- known bytes grow by a beginning of what is told of this end, where a clause can say what that is, and of this after it
+abbrev pub IsToldWith : Bytes → Result (Unit {0}) Ending → Option Bytes → Option Bytes → Type 0
+IsToldWith more end old new = IfSome (told_text end) (λ text. IsBegun old new (text ++ more))
+
+-- so it is, and more than that is told only for words that ask for an explanation
+abbrev pub IsTold : List Bytes → Result (Unit {0}) Ending → Option Bytes → Option Bytes → Type 0
+IsTold words end old new = (more : Bytes) × (AsksToExplain words ⊎ (more ≡ [])) × IsToldWith more end old new
 
 -- known bytes grow by all of the lines where the end is the right one; memory can be refused after some whole lines, and a device can fail
 -- anywhere
@@ -279,10 +382,12 @@ Runs settings st shown orders old new end =
     Prints old new (answer_lines settings st shown (contents st.tree) (accepted settings st shown orders))
     (orders_end settings st shown orders) end
 
--- so it is where the disk shows some bytes before each: if it is honest, what was left, and these before the first
-abbrev pub RunsOn : Bool → Settings → Store → Bytes → List Order → Option Bytes → Option Bytes → Result (Unit {0}) Ending → Type 0
-RunsOn honest settings st left orders old new end =
-    (shown : Reads) × (IsTrue honest → AreLeft settings st left shown orders) × Runs settings st shown orders old new end
+-- so it is where flushes make themselves room or don't, and the disk shows some bytes before each that is run: if it is honest, what was
+-- left, and these before the first
+abbrev pub RunsOn : Bool → Bool → Settings → Store → Bytes → List Order → Option Bytes → Option Bytes → Result (Unit {0}) Ending → Type 0
+RunsOn cleans honest settings st left orders old new end =
+    (shown : Reads) × (IsTrue honest → AreLeft settings st left shown (run_of cleans settings st shown orders))
+    × Runs settings st shown (run_of cleans settings st shown orders) old new end
 
 -- the order is accepted, where the disk shows these bytes, and leaves this store, with its map; and on an honest disk these bytes
 pub record LeavesStored (honest : Bool) (settings : Settings) (st : Store) (file : Bytes) (order : Order) (now : Store) (left : Bytes) : Type 0 where
@@ -298,12 +403,42 @@ RunsOrder honest settings st left order old new end now bytes =
     (file : Bytes) × (IsTrue honest → file ≡ left) × Runs settings st (λ i. file) (order ∷ []) old new end
     × OnOk end (LeavesStored honest settings st file order now bytes)
 
--- what these orders print from this start, and how they end, is right but for memory and devices, where the disk shows some bytes
--- before each: what was left, where it is honest
-unfoldable pub RunsFrom : Type 0 → Start → List Order → Option Bytes → Option Bytes → Result (Unit {0}) Ending → Type 0
-RunsFrom IsHonest start orders old new end =
-    (shown : Reads) × (IsHonest → AreLeftFrom start shown orders)
-    × Prints old new (lines_after None start shown orders) (end_after None start shown orders) end
+-- What these orders print, and how they end, is right in front of any others that are run next: all of them are done, and the others go on
+-- with this store and, on an honest disk, these bytes; or they stop early, and so do all.
+abbrev pub RunsFirst : Bool → Bool → Settings → Store → Bytes → List Order → Option Bytes → Option Bytes → Result (Unit {0}) Ending → Store → Bytes → Type 0
+RunsFirst cleans honest settings st left orders old new (Ok done) now bytes =
+    (rest : List Order) (last : Option Bytes) (end : Result (Unit {0}) Ending) → RunsOn cleans honest settings now bytes rest new last end
+    → RunsOn cleans honest settings st left (orders ++ rest) old last end
+RunsFirst cleans honest settings st left orders old new (Err early) now bytes =
+    (rest : List Order) → RunsOn cleans honest settings st left (orders ++ rest) old new (Err early)
+
+-- What a stream of lines prints of this store, and how it ends, is right but for memory and devices, for what some lines say, which are
+-- those of the known text: the orders up to the first bad one, which is returned where all of these are done.
+abbrev pub StreamsOn : Ways → Bool → Settings → Store → Bytes → Option Bytes → Option Bytes → Option Bytes → Result (Option (ℕ × Why)) Ending → Type 0
+StreamsOn ways honest settings st left known old new end =
+    (said : List Says) × IfSome known (λ text. said ≡ text_says text)
+    × RunsOn ways.clean_when_full honest settings st left (streamed ways.stat [] said) old new (without_value end)
+    × IfOk end (λ bad. bad ≡ first_bad 1 said)
+
+-- how it ends, where a bad line is returned
+abbrev pub stream_ended : Result (Option (ℕ × Why)) Ending → Result (Unit {0}) Ending
+stream_ended (Ok bad) = stopped_by (option_map bad_ending bad)
+stream_ended (Err early) = Err early
+
+-- the same from this start, with the bad line as the end
+unfoldable pub StreamsFrom : Ways → Type 0 → Start → Option Bytes → Option Bytes → Option Bytes → Result (Unit {0}) Ending → Type 0
+StreamsFrom ways IsHonest start known old new end =
+    (said : List Says) × IfSome known (λ text. said ≡ text_says text) × (shown : Reads)
+    × (IsHonest → AreLeftFrom start shown (run_from ways.clean_when_full start shown (streamed ways.stat [] said)))
+    × Prints old new (lines_after None start shown (run_from ways.clean_when_full start shown (streamed ways.stat [] said)))
+    (end_streamed (first_bad 1 said) start shown (run_from ways.clean_when_full start shown (streamed ways.stat [] said))) end
+
+-- what these orders print from this start, and how they end, is right but for memory and devices, where flushes make themselves room or
+-- don't, and the disk shows some bytes before each that is run: what was left, where it is honest
+unfoldable pub RunsFrom : Bool → Type 0 → Start → List Order → Option Bytes → Option Bytes → Result (Unit {0}) Ending → Type 0
+RunsFrom cleans IsHonest start orders old new end =
+    (shown : Reads) × (IsHonest → AreLeftFrom start shown (run_from cleans start shown orders))
+    × Prints old new (lines_after None start shown (run_from cleans start shown orders)) (end_after None start shown (run_from cleans start shown orders)) end
 
 -- a session that starts so can end so before anything is run
 abbrev pub IsUnopened : Start → Ending → Type 0
@@ -325,8 +460,20 @@ IsHonestStore view opened = IfOk opened (λ x. IsTrue (view x.disk).is_honest)
 unfoldable pub Answers : Told → Option Bytes → Option Bytes → Option Bytes → Result (Unit {0}) Ending → Type 0
 Answers told known old new end =
     (text : Bytes) × IfSome known (λ bytes. text ≡ bytes) × (start : Start) × IsStart told start
-    × (shown : Reads) × IsShown told start shown (orders_of [] (text_says text))
-    × Prints old new (session_lines start shown text) (session_end start shown text) end
+    × (shown : Reads) × IsShown told start shown (session_orders told start shown text)
+    × Prints old new (session_lines told start shown text) (session_end told start shown text) end
+
+-- The same of a stream, for what some lines say, which are those of the known text: each of its orders is run and answered before the next line
+-- is read, up to the first bad line.
+unfoldable pub Streams : Told → Option Bytes → Option Bytes → Option Bytes → Result (Unit {0}) Ending → Type 0
+Streams told known old new end =
+    (said : List Says) × IfSome known (λ text. said ≡ text_says text) × (start : Start) × IsStart told start
+    × (shown : Reads) × IsShown told start shown (stream_orders told start shown said)
+    × Prints old new (stream_lines told start shown said) (stream_end told start shown said) end
+
+-- and of a session that is asked for this
+abbrev pub IsAnswered : Told → Option Bytes → Option Bytes → Option Bytes → Result (Unit {0}) Ending → Type 0
+IsAnswered told known old new end = MatchBool told.ways.stream (Streams told known old new end) (Answers told known old new end)
 
 -- a text is printed, but for memory and devices
 abbrev pub PrintsOneText : Option Bytes → Option Bytes → Result (Unit {0}) Ending → Type 0
@@ -338,15 +485,15 @@ IsForWords (Ok done) = ⊥
 IsForWords (Err (Words error)) = Unit {0}
 IsForWords (Err _) = ⊥
 
--- how a session with these words ends and what it prints, but for memory and devices: as it should for what they give; or
--- with nothing read, and help where they ask for it; or with nothing printed either, where they are refused
+-- how a session with these words ends and what it prints, but for memory and devices: as it should for what they tell; or
+-- with nothing read, and help or the version where they ask for it; or with nothing printed either, where they are refused
 abbrev pub EndsBy : List Bytes → Option Bytes → Option Bytes → Option Bytes → Type 0 → Type 0 → Result (Unit {0}) Ending → Type 0
 EndsBy words known old new unread untouched end =
-    ((told : Told) × AsksFor words told × Answers told known old new end)
-    ⊎ (unread × AsksForHelp words × PrintsOneText old new end)
+    ((told : Told) × AsksFor words told × (told.ways.version ≡ false) × IsAnswered told known old new end)
+    ⊎ (unread × AsksForText words × PrintsOneText old new end)
     ⊎ (unread × untouched × ((AreRefused words × IsForWords end) ⊎ (end ≡ Err (endings.Fault NoMemory))))
 
 -- a session with these words ends with this status: it has an end that is right as `EndsBy` says, and that is reported
 abbrev pub EndsTold : List Bytes → Option Bytes → Option Bytes → Option Bytes → Option Bytes → Option Bytes → Type 0 → Type 0 → ℕ → Type 0
 EndsTold words known old new told_old told_new unread untouched status =
-    (end : Result (Unit {0}) Ending) × (status ≡ status_of_end end) × EndsBy words known old new unread untouched end × IsTold end told_old told_new
+    (end : Result (Unit {0}) Ending) × (status ≡ status_of_end end) × EndsBy words known old new unread untouched end × IsTold words end told_old told_new

@@ -7,6 +7,7 @@ use Rattle.keys.specs.declared.command.Reply.TheVariants.{Value, Missing, New, R
 use Rattle.engine.specs.Steps.{Answer}
 use Rattle.engine.specs.Steps.Answer.{Replies, Flushed, Cleaned, Upgraded}
 use Rattle.verify.specs.declared.report.Report.{Report}
+use Rattle.bwsh.specs.declared.show.StoreNumbers.{StoreNumbers}
 use Rattle.bwsh.specs.Token.{shown_token}
 
 -- what the first line of a reply says
@@ -37,6 +38,14 @@ shown_reply reply = reply_text reply ++ 10 ∷ row_lines reply
 -- the line of a report: its pages, its height and its pairs, with the line feed
 abbrev pub shown_report : Report → Bytes
 shown_report report = codes "ok " ++ decimal report.pages ++ 32 ∷ decimal report.height ++ 32 ∷ decimal report.pairs ++ 10 ∷ []
+
+-- the line of the numbers of a store: the sequence number, the head and the tail of the log, how many of its segments are in use of how
+-- many, and the pages and the pairs of the tree, with the line feed
+abbrev pub shown_numbers : StoreNumbers → Bytes
+shown_numbers n =
+    codes "stat sequence " ++ decimal n.sequence ++ codes " head " ++ decimal n.head ++ codes " tail " ++ decimal n.tail
+    ++ codes " segments " ++ decimal n.in_use ++ codes " of " ++ decimal n.segments
+    ++ codes " pages " ++ decimal n.pages ++ codes " pairs " ++ decimal n.pairs ++ 10 ∷ []
 
 -- the line of a flush: the sequence number, with the line feed
 abbrev pub shown_flushed : ℕ → Bytes

@@ -3,7 +3,7 @@ ghost use Rattle.std.specs.Prelude.{◌≡◌, ◌∷◌, ◌++◌, [], length, 
 ghost use Rattle.bwsh.specs.declared.batch_file.TextFault.TheVariants.{Memory};
 ghost use Rattle.bwsh.specs.KeptBatch.{command_in};
 ghost use Rattle.bwsh.specs.Line.{line_says};
-ghost use Rattle.bwsh.specs.BatchFile.{text_says, first_bad, last_order, orders_of, writes, IsRightFault};
+ghost use Rattle.bwsh.specs.BatchFile.{text_says, first_bad, last_order, orders_of, is_flush, writes, IsRightFault};
 
 use crate::batch::Batch;
 use crate::line::{LineReader, Says, Why};
@@ -24,9 +24,18 @@ pub enum Order {
     Upgrade,
     /// To verify the store, and print its pages, its height and its pairs.
     Verify,
+    /// To print the numbers of the store. No line orders it.
+    Numbers,
 }
 
 impl Order {
+    /// Whether it is a flush.
+    pub fn is_flush(&self) -> bool
+        ensures { result ≡ is_flush self.now }
+    {
+        matches!(self, Order::Flush)
+    }
+
     /// Whether it writes to the disk of its store.
     pub fn writes(&self) -> bool
         ensures { result ≡ writes self.now }

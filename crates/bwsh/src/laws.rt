@@ -1,5 +1,5 @@
 //! What the definitions of `specs/` mean. Each law is the contract of a function with an empty body.
-ghost use Rattle.std.specs.Prelude.{◌≡◌, ◌<◌, ◌≤◌, false, List, [], ◌∷◌, ◌++◌, map, Option, Some, Result, Err};
+ghost use Rattle.std.specs.Prelude.{◌≡◌, ◌<◌, ◌≤◌, ◌+◌, Bool, false, List, [], ◌∷◌, ◌++◌, filter, length, map, Option, Some, None, Result, Err};
 ghost use Rattle.std.specs.List.{All, flat_map};
 ghost use Rattle.std.specs.declared.alloc.Global.{Global};
 ghost use Rattle.crew.specs.Crew.{is_crew};
@@ -12,13 +12,15 @@ ghost use Rattle.keys.specs.declared.settings.Settings.{Settings};
 ghost use Rattle.mapping.specs.Tree.{Store};
 ghost use Rattle.verify.specs.Report.{report};
 ghost use Rattle.bwsh.specs.declared.batch_file.Order.{Order};
-ghost use Rattle.bwsh.specs.declared.batch_file.Order.TheVariants.{Batch, Flush, Clean, Upgrade, Verify};
+ghost use Rattle.bwsh.specs.declared.batch_file.Order.TheVariants.{Batch, Flush, Clean, Upgrade, Verify, Numbers};
 ghost use Rattle.bwsh.specs.declared.line.Says.{Says};
+ghost use Rattle.bwsh.specs.declared.line.Says.TheVariants.{Bad};
+ghost use Rattle.bwsh.specs.declared.line.Why.{Why};
 ghost use Rattle.bwsh.specs.declared.session.Ending.{Ending};
-ghost use Rattle.bwsh.specs.BatchFile.{orders_of, commands_of, commands_said, batch_lines, IsBatch, IsForBatches, IsNoClean};
+ghost use Rattle.bwsh.specs.BatchFile.{orders_of, commands_of, commands_said, batch_lines, IsBatch, IsForBatches, IsNoClean, cleans_nothing, first_bad, last_order, streamed, unended, with_numbers};
 ghost use Rattle.bwsh.specs.Options.{Told};
-ghost use Rattle.bwsh.specs.Session.{Answers, AreLeft, IsStart, Reads, Start, accepted, answer_lines, behind, later, orders_end, printed};
-ghost use Rattle.bwsh.specs.Shown.{shown_reply, shown_flushed, shown_cleaned, shown_upgraded, shown_report};
+ghost use Rattle.bwsh.specs.Session.{Answers, AreLeft, IsStart, Reads, Start, accepted, answer_lines, behind, end_after, end_streamed, later, numbers_of, orders_end, printed, with_cleans};
+ghost use Rattle.bwsh.specs.Shown.{shown_reply, shown_flushed, shown_cleaned, shown_upgraded, shown_report, shown_numbers};
 ghost use Rattle.bwsh.specs.Token.{token_bytes, shown_token};
 ghost use Rattle.bwsh.specs.Words.{words_of};
 
@@ -43,7 +45,7 @@ pub fn batches_are_read_back()
 
 /// A batch prints the lines of its replies, in front of what the orders after it print on what it leaves and its map. A flush prints
 /// the line of the sequence number that it leaves, as an upgrade does, a clean that of the head segment, and all three leave the map as
-/// it is. A verify prints the line of the report on the tree, and leaves all as it is.
+/// it is. A verify prints the line of the report on the tree, the order for the numbers their line, and both leave all as it is.
 pub fn each_order_prints_its_answer()
     ensures none { (settings : Settings) → (st : Store) → (shown : Reads) → (m : Pairs Bytes) → printed settings st shown m [] ≡ [] }
     ensures batch { (settings : Settings) → (st : Store) → (shown : Reads) → (m : Pairs Bytes) → (commands : List (Command Global)) → (rest : List Order) →
@@ -60,6 +62,8 @@ pub fn each_order_prints_its_answer()
         ++ printed settings (behind settings st (shown 0) Upgrade).0 (later shown) m rest }
     ensures verify { (settings : Settings) → (st : Store) → (shown : Reads) → (m : Pairs Bytes) → (rest : List Order) →
         printed settings st shown m (Verify ∷ rest) ≡ shown_report (report st.tree) ++ printed settings st (later shown) m rest }
+    ensures numbers { (settings : Settings) → (st : Store) → (shown : Reads) → (m : Pairs Bytes) → (rest : List Order) →
+        printed settings st shown m (Numbers ∷ rest) ≡ shown_numbers (numbers_of settings st) ++ printed settings st (later shown) m rest }
 {}
 
 /// Where all are batches, what is printed in all are an ordered map's replies to the commands that are ordered, one after the other: it
@@ -97,6 +101,26 @@ pub fn what_was_left_decides_the_answers()
         orders_end settings st shown orders ≡ orders_end settings st other orders }
     ensures some { (settings : Settings) → (st : Store) → (file : Bytes) → (orders : List Order) →
         (shown : Reads) × AreLeft settings st file shown orders }
+{}
+
+/// The cleans that make room for flushes change nothing else of the orders: the commands are the same, and without the cleans the orders
+/// are, where none of these is a clean.
+pub fn cleans_alone_are_put_among_orders()
+    ensures commands { (settings : Settings) → (st : Store) → (shown : Reads) → (orders : List Order) →
+        flat_map commands_of (with_cleans settings st shown orders) ≡ flat_map commands_of orders }
+    ensures others { (settings : Settings) → (st : Store) → (shown : Reads) → (orders : List Order) → All IsNoClean orders →
+        filter cleans_nothing (with_cleans settings st shown orders) ≡ orders }
+{}
+
+/// A stream orders what a session does that reads all first: all of it where no line is bad, and it ends as that does; else what the lines before
+/// the first bad one order, without the commands that these don't end.
+pub fn a_stream_orders_what_stands_before_a_bad_line()
+    ensures good { (numbers : Bool) → (said : List Says) → first_bad 1 said ≡ None → streamed numbers [] said ≡ with_numbers numbers (orders_of [] said) }
+    ensures end { (start : Start) → (shown : Reads) → (orders : List Order) → end_streamed None start shown orders ≡ end_after None start shown orders }
+    ensures bad { (numbers : Bool) → (front : List Says) → first_bad 1 front ≡ None → (why : Why) → (rest : List Says) →
+        orders_of [] front ≡ streamed numbers [] (front ++ Bad why ∷ rest) ++ last_order (unended [] front) }
+    ensures found { (front : List Says) → first_bad 1 front ≡ None → (why : Why) → (rest : List Says) →
+        first_bad 1 (front ++ Bad why ∷ rest) ≡ Some (length front + 1, why) }
 {}
 
 /// It makes no difference to what a session may print and how it may end who its crew is, but for whether that is in range. With one

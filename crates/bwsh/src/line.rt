@@ -2,7 +2,7 @@
 ghost use Rattle.std.specs.Prelude.{◌≡◌, Some, IfOk};
 ghost use Rattle.bwsh.specs.Token.{token_bytes};
 ghost use Rattle.bwsh.specs.Words.{words_of};
-ghost use Rattle.bwsh.specs.Line.{only_key, key_and_value, bound_of, scan_says, wipe_says, alone, order_says, command_says, line_says, why_text};
+ghost use Rattle.bwsh.specs.Line.{only_key, key_and_value, bound_of, scan_says, wipe_says, alone, bad_of, order_says, command_says, line_says, why_text};
 
 use crate::number::number_in;
 use crate::token::unescape;
@@ -56,6 +56,18 @@ pub enum Says {
     Verify,
     /// It is no line of a batch file.
     Bad(Why),
+}
+
+impl Says {
+    /// What is wrong with the line, if it is bad.
+    pub fn bad(&self) -> Option<Why>
+        ensures { result ≡ bad_of self.now }
+    {
+        match self {
+            Says::Bad(why) => Some(*why),
+            _ => None,
+        }
+    }
 }
 
 /// Reads lines. It keeps the memory in which it takes the escapes out of a token.

@@ -3,15 +3,19 @@
 
 pub mod batch;
 pub mod batch_file;
+mod explain;
 pub mod laws;
 pub mod line;
+pub mod notes;
 pub mod number;
+mod opening;
 pub mod options;
+mod output;
 pub mod program;
+mod running;
 pub mod session;
 pub mod show;
-#[cfg(test)]
-mod tests;
+mod stream;
 pub mod token;
 pub mod words;
 

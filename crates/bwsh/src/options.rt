@@ -1,14 +1,12 @@
 //! The words of the command line: the settings of the store, the crew that works on it, and the file that it is in.
-ghost use Rattle.std.specs.Prelude.{◌≡◌, IfOk, IfErr, Some, codes, false, option_map, string_bytes, true};
+ghost use Rattle.std.specs.Prelude.{◌≡◌, IfOk, IfErr, Some, false, option_map, string_bytes, true};
 ghost use Rattle.clap.specs.Words.{FailsBy, app_of, fault_of, found_of, kind_of, matches_of, one_of, rows_of, rule_of, without_minus};
-ghost use Rattle.bwsh.specs.Options.{AsksFor, Given, IsRightKind, Text, crew_of, disk_of, is_given, is_number, number_of, settings_of, texts, told_of};
+ghost use Rattle.bwsh.specs.Options.{AsksFor, Given, IsRightKind, Text, crew_of, disk_of, is_given, is_number, number_of, settings_of, takes_nothing, texts, told_of, ways_of};
 ghost use Rattle.bwsh.specs.CommandLine.{AreGivable, bwsh, finished_rows, flag_rule, number_rule, text_rule};
 
 mod asked;
-#[cfg(test)]
-mod tests;
 
-pub use asked::Options;
+pub use asked::{Options, Ways};
 use clap::{Arg, ArgAction, ArgMatches, Command, Error, value_parser};
 use engine::Crew;
 use keys::Settings;
@@ -38,8 +36,31 @@ const DISK: &str =
 const CREATE: &str =
     "Makes the file anew, with the settings of this command line; what it held is lost";
 
-// What the help says after the options.
+const VERSION: &str = "Prints the version of this program";
+
+const EXPLAIN: &str =
+    "Writes a second line after that of a bad line or a fault: where it came from, and what to do";
+
+const STAT: &str =
+    "Prints one line more after all answers: the sequence number, the head and the tail of the log, \
+    its segments in use, and the pages and the pairs of the tree";
+
+const CLEAN_WHEN_FULL: &str =
+    "Where the log is full for a flush, cleans it as often as it takes, at most once a segment";
+
+const STREAM: &str =
+    "Reads line by line, and answers each batch before it reads on; a bad line ends \
+    the session there";
+
+// What the help says behind the options.
 const AFTER_HELP: &str = "\
+All of standard input is read before anything is run: where one of its lines is bad, nothing is run.
+With --stream it is read line by line: a line go, flush, clean, upgrade or verify is done, and its
+answers are written, before the next line is waited for. A bad line ends it, with what was ended
+before it done; commands that no line has ended are run at the end of the input, and not at a bad
+line. Such a session holds its file alone.
+Nothing lasts without a flush or an upgrade: what was ordered after the last of them ends with the
+program. --create replaces what stands at its path, whether that is a store or another file.
 A store in a file has the settings with which the file was made. Those of the command line are for a
 store in memory, and for a file that is made anew; otherwise they are ignored. Workers and grain are
 no settings of a store: they are for this session alone, which answers the same with any of them.
@@ -68,9 +89,9 @@ Keys and values are words of printed ASCII. In them %XX is the byte of two hexad
 %20 for a space, and % alone is the word of no bytes.
 
 Exit status:
-  0  All is done, or help was asked for
+  0  All is done, or help or the version was asked for
   2  The words of the command line are refused; nothing was read
-  3  A line of the batch file is bad; nothing was run
+  3  A line of the batch file is bad; nothing was run, or with --stream what was ended before it
   4  A fault: settings, workers, a grain or a batch that are refused, a full log, one with nothing to
      clean or one of version 2 that is to be upgraded, no memory, or a device: a stream or a file
      that is closed, held, full or missing\
@@ -128,7 +149,12 @@ fn command<'a>(alloc: Global) -> Result<Command<'a>, AllocError>
         .arg(number(alloc, "workers", "1", WORKERS))?
         .arg(number(alloc, "grain", "64", GRAIN))?
         .arg(path(alloc, "disk", DISK))?
-        .arg(flag(alloc, "create", CREATE))
+        .arg(flag(alloc, "create", CREATE))?
+        .arg(flag(alloc, "version", VERSION))?
+        .arg(flag(alloc, "explain", EXPLAIN))?
+        .arg(flag(alloc, "stat", STAT))?
+        .arg(flag(alloc, "clean-when-full", CLEAN_WHEN_FULL))?
+        .arg(flag(alloc, "stream", STREAM))
 }
 
 // What clap finds in the words.
@@ -182,16 +208,31 @@ fn disk(alloc: Global, matches: &ArgMatches<'_>) -> Result<Option<String>, Alloc
     }
 }
 
-// Whether the file is to be made anew.
-fn create(matches: &ArgMatches<'_>) -> bool
-    ensures { (given : Given) → AreGivable given → rows_of (found_of matches.now) ≡ finished_rows given → result ≡ is_given (codes "create") given }
+// Whether the option of this name, which takes nothing, was given.
+fn flag_at(matches: &ArgMatches<'_>, name: &str) -> bool
+    ensures { takes_nothing name.now ≡ true → (given : Given) → AreGivable given → rows_of (found_of matches.now) ≡ finished_rows given
+        → result ≡ is_given name.now given }
 {
-    matches.get_flag("create")
+    matches.get_flag(name)
 }
 
-/// Reads the words after the program's name: `[--fan N] [--chain N] [--max-key N] [--max-value N] [--seg-size N]
-/// [--segments N] [--workers N] [--grain N] [--disk PATH] [--create]`, in any order, `--fan=N` too, and `--help` or `-h`. A
-/// number that is not given has its default. Whether the numbers are in range is for `Settings::check` and `Crew::check` to say.
+// The ways of the session that were found.
+fn ways(matches: &ArgMatches<'_>) -> Ways
+    ensures { (given : Given) → AreGivable given → rows_of (found_of matches.now) ≡ finished_rows given → result ≡ ways_of given }
+{
+    Ways {
+        version: flag_at(matches, "version"),
+        explain: flag_at(matches, "explain"),
+        stat: flag_at(matches, "stat"),
+        clean_when_full: flag_at(matches, "clean-when-full"),
+        stream: flag_at(matches, "stream"),
+    }
+}
+
+/// Reads the words behind the program's name: `[--fan N] [--chain N] [--max-key N] [--max-value N] [--seg-size N]
+/// [--segments N] [--workers N] [--grain N] [--disk PATH] [--create] [--version] [--explain] [--stat] [--clean-when-full]
+/// [--stream]`, in any order,
+/// `--fan=N` too, and `--help` or `-h`. A number that is not given has its default. Whether the numbers are in range is for `Settings::check` and `Crew::check` to say.
 pub fn options(alloc: Global, words: &[String]) -> Result<Options, Error>
     ensures ok { IfOk result (λ o. AsksFor (texts words.now) (told_of o)) }
     ensures err { IfErr result (λ e. IsRightKind (texts words.now) (kind_of e)) }
@@ -202,6 +243,7 @@ pub fn options(alloc: Global, words: &[String]) -> Result<Options, Error>
         settings: settings(&matches),
         crew: crew(&matches),
         disk,
-        create: create(&matches),
+        create: flag_at(&matches, "create"),
+        ways: ways(&matches),
     })
 }

@@ -1,38 +1,33 @@
-//! A session: the batch file is read, and run by a crew on the store that the command line names: a new one in memory, or one in a file.
-ghost use Rattle.std.specs.Prelude.{false, IsTrue, replicate, ◌≡◌, ◌≢◌, ◌↔◌, ◌⊎◌, ℕ, [], ◌∷◌, ◌++◌, map, None, Some, IfSome, Result, Ok, Err, IsOk, IfOk, OnOk, OnErr, IsOkUnless, MatchResult, take, length, ◌≤◌};
-ghost use Rattle.std.specs.List.{flat_map, list_any};
+//! A session: the batch file is read, and run by a crew on the store that the command line tells: a new one in memory, or one in a file.
+ghost use Rattle.std.specs.Prelude.{false, true, replicate, ◌≡◌, ◌≢◌, ◌↔◌, ◌⊎◌, [], ◌∷◌, ◌++◌, map, None, IfSome, Result, Ok, Err, IsOk, IfOk, OnOk, OnErr, MatchResult};
+ghost use Rattle.std.specs.List.{list_any};
 ghost use Rattle.std.specs.String.{string_bytes};
 ghost use Rattle.std.specs.IoError.{error_kind};
-ghost use Rattle.std.specs.Io.KnownBytes.{Appends, Keeps};
+ghost use Rattle.std.specs.Io.KnownBytes.{Appends};
 ghost use Rattle.clap.specs.Words.{kind_of};
-ghost use Rattle.crew.specs.Crew.{is_crew};
 ghost use Rattle.clap.specs.declared.error.kind.ErrorKind.TheVariants.{DisplayHelp, OutOfMemory};
 ghost use Rattle.keys.specs.Bytes.{Bytes};
-ghost use Rattle.keys.specs.Limits.{first_bad_field};
 ghost use Rattle.keys.specs.declared.fault.Fault.TheVariants.{NoMemory};
 ghost use Rattle.keys.specs.declared.fault.Fault.TheVariants as faults;
-ghost use Rattle.flush_log.specs.Segments.{disk_size};
-ghost use Rattle.engine.specs.Plays.{step_of, answer_of};
 ghost use Rattle.bwsh.specs.declared.session.Ending.{Ending};
 ghost use Rattle.bwsh.specs.declared.session.Ending.TheVariants.{Device};
 ghost use Rattle.bwsh.specs.declared.session.Ending.TheVariants as endings;
-ghost use Rattle.bwsh.specs.BatchFile.{text_says, first_bad, orders_of, writes};
-ghost use Rattle.bwsh.specs.Options.{Told, AsksFor, AsksForHelp, AreRefused, told_of};
-ghost use Rattle.bwsh.specs.Session.{status_of, status_of_end, ending_text, unread_text, ending_by, printed_by, BeginsWith, IsBegun, IsTold, IsReadEnding, IsForWords, Prints, PrintsOneText, Reads, RunsOn, RunsOrder, RunsFrom, Start, IsStart, IsShown, Opens, IsHonestStore, Answers, EndsBy, EndsTold, step_in, new_start, found_start};
-ghost use Rattle.bwsh.specs.Shown.{shown_reply, shown_flushed, shown_cleaned, shown_upgraded, shown_report, shown_answer};
+ghost use Rattle.bwsh.specs.BatchFile.{text_says, first_bad, orders_of, with_numbers, writes};
+ghost use Rattle.bwsh.specs.Options.{Told, AsksFor, AsksForText, AsksToExplain, AsksToStream, AreRefused, told_of};
+ghost use Rattle.bwsh.specs.Session.{status_of, status_of_end, ending_text, unread_text, version_text, ending_by, printed_by, orders_run, BeginsWith, IsBegun, IsToldWith, IsReadEnding, IsForWords, Prints, PrintsOneText, Reads, Start, IsStart, IsShown, Answers, IsAnswered, EndsBy, EndsTold};
 
 use crate::batch_file::{Order, TextFault, parse};
+use crate::explain::explained;
 use crate::line::Why;
+use crate::notes::{Notes, Source};
+use crate::opening::{new_store_in_file, store_in_file, store_in_memory};
 use crate::options::{Options, options};
-use crate::show::{show_cleaned, show_flushed, show_reply, show_report, show_upgraded};
-use cleaner::laws::a_clean_keeps_the_store;
-use climb_plan::laws::the_plan_holds_the_map_after_the_commands;
-use engine::{
-    Answer, BadCrew, Crew, Disk, FileDisk, LockFile, MemDisk, NoGate, Report, Step, Store,
-};
-use flush_log::disk_size;
-use keys::{Fault, Reply, Settings};
-use std::alloc::{AllocError, Global};
+use crate::output::{ask, flush, write_bytes};
+use crate::running::run_opened;
+use crate::stream::run_stream;
+use engine::{BadCrew, LockFile};
+use keys::Fault;
+use std::alloc::{AllocError, AllocFailed, Global};
 use std::fmt::{InlineText, Write as _};
 use std::io::{ErrorKind, Read, Write};
 use std::rt::Files;
@@ -42,7 +37,10 @@ use std::{fmt, io};
 // Bytes that hold the line of each ending but that for refused words.
 const LINE: usize = 64;
 
-// The message for words that cannot be read.
+// What is printed for the version.
+const VERSION: &[u8] = b"bwsh 0.1.0\n";
+
+// What is told of words that cannot be read.
 const UNREAD: &[u8] = b"error: a word of the command line is no text\n";
 
 /// Why a session ends before all is done. It prints as what goes to standard error, with its line feeds.
@@ -93,6 +91,14 @@ impl From<AllocError> for Ending {
     }
 }
 
+impl<T: Drop> From<AllocFailed<T>> for Ending {
+    ghost from_gives = { λ _ ending. ending ≡ endings.Fault NoMemory };
+
+    fn from(_refused: AllocFailed<T>) -> Ending {
+        Ending::Fault(Fault::NoMemory)
+    }
+}
+
 impl From<Fault> for Ending {
     ghost from_gives = { λ fault ending. ending ≡ endings.Fault fault };
 
@@ -121,7 +127,7 @@ impl From<TextFault> for Ending {
 }
 
 // The fault of a read that failed: what was read may have found no memory.
-fn read_fault(error: io::Error) -> Ending
+pub(crate) fn read_fault(error: io::Error) -> Ending
     ensures memory { (result ≡ Ending.Fault Fault.NoMemory) ↔ (error_kind error ≡ ErrorKind.OutOfMemory) }
     ensures either { (result ≡ Ending.Fault Fault.NoMemory) ⊎ (result ≡ Ending.Device) }
 {
@@ -131,369 +137,27 @@ fn read_fault(error: io::Error) -> Ending
     }
 }
 
-// Reads all of the input, and returns the orders of its text.
-fn read_orders<I: Read>(alloc: Global, input: &mut I) -> Result<Vec<Order>, Ending>
+// Reads all of the input, and returns the orders of its text, and then the one to print the numbers, where it is asked for.
+fn read_orders<I: Read>(
+    alloc: Global,
+    input: &mut I,
+    numbers: bool,
+    notes: &mut Notes,
+) -> Result<Vec<Order>, Ending>
     ensures { (text : Bytes) × IfSome (I.remaining input.old) (λ known. text ≡ known)
-        × MatchResult result (λ orders. (first_bad 1 (text_says text) ≡ None) × (orders.items ≡ orders_of [] (text_says text))) (IsReadEnding (first_bad 1 (text_says text))) }
+        × MatchResult result (λ orders. (first_bad 1 (text_says text) ≡ None) × (orders.items ≡ with_numbers numbers (orders_of [] (text_says text)))) (IsReadEnding (first_bad 1 (text_says text))) }
 {
     let mut text = Vec::new(alloc);
     if let Err(error) = input.read_to_end(&mut text) {
+        notes.failed(Source::Input, Some(error));
         return Err(read_fault(error));
     }
-    Ok(parse(alloc, &text)?)
-}
-
-// Appends the lines of the replies. After an `Err` the first of them stand there.
-fn show_replies(replies: &[Reply<Global>], lines: &mut Vec<u8>) -> Result<(), AllocError>
-    ensures ok { OnOk result (lines.new.items ≡ lines.old.items ++ flat_map shown_reply replies.now) }
-    ensures err { OnErr result ((shown : ℕ) × (lines.new.items ≡ lines.old.items ++ flat_map shown_reply (take shown replies.now))) }
-{
-    for reply in replies {
-        show_reply(reply, lines)?;
+    let mut orders = parse(alloc, &text)?;
+    notes.read(text);
+    if numbers {
+        orders.push(Order::Numbers)?;
     }
-    Ok(())
-}
-
-// Writes some of the bytes, and returns how many: none where the call was interrupted.
-fn write_some<O: Write>(bytes: &[u8], out: &mut O) -> Result<usize, Ending>
-    ensures ok { IfOk result (λ taken. (taken ≤ length bytes.now) × Appends (O.contents out.old) (O.contents out.new) (take taken bytes.now)) }
-    ensures err { OnErr result (Keeps (O.contents out.old) (O.contents out.new)) }
-    ensures device { IsOkUnless result Ending.Device }
-{
-    match out.write(bytes) {
-        Ok(0) => Err(Ending::Device),
-        Ok(taken) => Ok(taken),
-        Err(error) if error.kind() == ErrorKind::Interrupted => Ok(0),
-        Err(_) => Err(Ending::Device),
-    }
-}
-
-// Writes the bytes. Where the output fails, the first of them stand there; `write_all` would not say so.
-fn write_bytes<O: Write>(bytes: &[u8], out: &mut O) -> Result<(), Ending>
-    ensures ok { OnOk result (Appends (O.contents out.old) (O.contents out.new) bytes.now) }
-    ensures err { OnErr result ((front : Bytes) × BeginsWith bytes.now front × Appends (O.contents out.old) (O.contents out.new) front) }
-    ensures device { IsOkUnless result Ending.Device }
-{
-    let mut rest = bytes;
-    for _ in 0..u64::MAX {
-        if rest.is_empty() {
-            return Ok(());
-        }
-        let taken = write_some(rest, out)?;
-        rest = &rest[taken..];
-    }
-    Err(Ending::Device)
-}
-
-// Writes the lines of the replies, in the memory of `lines`. Where memory is refused, those that were made
-// before are written.
-fn write_replies<O: Write>(
-    replies: &[Reply<Global>],
-    lines: &mut Vec<u8>,
-    out: &mut O,
-) -> Result<(), Ending>
-    ensures { Prints (O.contents out.old) (O.contents out.new) (map shown_reply replies.now) (Ok tt) result }
-{
-    lines.clear();
-    let shown = show_replies(replies, lines);
-    write_bytes(lines, out)?;
-    Ok(shown?)
-}
-
-// Writes the line of a flush that left this sequence number, in the memory of `lines`.
-fn write_flushed<O: Write>(sequence: u64, lines: &mut Vec<u8>, out: &mut O) -> Result<(), Ending>
-    ensures { Prints (O.contents out.old) (O.contents out.new) (shown_flushed sequence ∷ []) (Ok tt) result }
-{
-    lines.clear();
-    show_flushed(sequence, lines)?;
-    write_bytes(lines, out)
-}
-
-// Writes the line of a clean that left the log beginning in this segment, in the memory of `lines`.
-fn write_cleaned<O: Write>(head: u64, lines: &mut Vec<u8>, out: &mut O) -> Result<(), Ending>
-    ensures { Prints (O.contents out.old) (O.contents out.new) (shown_cleaned head ∷ []) (Ok tt) result }
-{
-    lines.clear();
-    show_cleaned(head, lines)?;
-    write_bytes(lines, out)
-}
-
-// Writes the line of an upgrade that left this sequence number, in the memory of `lines`.
-fn write_upgraded<O: Write>(sequence: u64, lines: &mut Vec<u8>, out: &mut O) -> Result<(), Ending>
-    ensures { Prints (O.contents out.old) (O.contents out.new) (shown_upgraded sequence ∷ []) (Ok tt) result }
-{
-    lines.clear();
-    show_upgraded(sequence, lines)?;
-    write_bytes(lines, out)
-}
-
-// Writes the line of the report, in the memory of `lines`.
-fn write_report<O: Write>(report: &Report, lines: &mut Vec<u8>, out: &mut O) -> Result<(), Ending>
-    ensures { Prints (O.contents out.old) (O.contents out.new) (shown_report report.now ∷ []) (Ok tt) result }
-{
-    lines.clear();
-    show_report(report, lines)?;
-    write_bytes(lines, out)
-}
-
-// Writes the lines of an answer.
-fn write_answer<O: Write>(answer: &Answer, lines: &mut Vec<u8>, out: &mut O) -> Result<(), Ending>
-    ensures { Prints (O.contents out.old) (O.contents out.new) (shown_answer (answer_of answer.now)) (Ok tt) result }
-{
-    match answer {
-        Answer::Replies(replies) => write_replies(replies, lines, out),
-        Answer::Flushed(sequence) => write_flushed(*sequence, lines, out),
-        Answer::Cleaned(head) => write_cleaned(*head, lines, out),
-        Answer::Upgraded(sequence) => write_upgraded(*sequence, lines, out),
-    }
-}
-
-// Writes the lines of the answers.
-fn write_answers<O: Write>(
-    answers: &[Answer],
-    lines: &mut Vec<u8>,
-    out: &mut O,
-) -> Result<(), Ending>
-    ensures { Prints (O.contents out.old) (O.contents out.new) (flat_map shown_answer (map answer_of answers.now)) (Ok tt) result }
-{
-    for answer in answers {
-        write_answer(answer, lines, out)?;
-    }
-    Ok(())
-}
-
-// Why a session ends whose store answered this.
-fn store_fault(fault: Fault) -> Ending
-    ensures { ((fault ≡ Fault.Device) × (result ≡ Ending.Device)) ⊎ ((fault ≢ Fault.Device) × (result ≡ Ending.Fault fault)) }
-{
-    match fault {
-        Fault::Device => Ending::Device,
-        _ => Ending::Fault(fault),
-    }
-}
-
-// Plays a step, and writes what it answers.
-fn run_step<R: Threads + Sync, D: Disk, O: Write>(
-    rt: &R,
-    crew: Crew,
-    store: &mut Store<D>,
-    step: Step<'_>,
-    lines: &mut Vec<u8>,
-    out: &mut O,
-) -> Result<(), Ending>
-    requires crew { IsTrue (is_crew crew) }
-    requires fine { store.old.has_failed ≡ false }
-    ensures runs { (order : Order) → step_in order ≡ Some (step_of step.entry) →
-        RunsOrder (D.view store.old.disk).is_honest store.old.settings store.old.store (D.view store.old.disk).seen order
-        (O.contents out.old) (O.contents out.new) result store.new.store (D.view store.new.disk).seen }
-    ensures settings { store.new.settings ≡ store.old.settings }
-    ensures honest { (D.view store.new.disk).is_honest ≡ (D.view store.old.disk).is_honest }
-    ensures failed { OnOk result (store.new.has_failed ≡ store.old.has_failed) }
-{
-    // Only for the proof.
-    the_plan_holds_the_map_after_the_commands::<Global>();
-    a_clean_keeps_the_store();
-    match store.play(rt, crew, &NoGate, &[step]) {
-        Ok(answers) => write_answers(&answers, lines, out),
-        Err(refused) => Err(store_fault(refused.2)),
-    }
-}
-
-// Runs an order, and writes what it answers.
-fn run_order<R: AllocGlobal + Threads + Sync, D: Disk, O: Write>(
-    rt: &R,
-    crew: Crew,
-    store: &mut Store<D>,
-    order: &Order,
-    lines: &mut Vec<u8>,
-    out: &mut O,
-) -> Result<(), Ending>
-    requires crew { IsTrue (is_crew crew) }
-    requires fine { store.old.has_failed ≡ false }
-    ensures runs { RunsOrder (D.view store.old.disk).is_honest store.old.settings store.old.store (D.view store.old.disk).seen order.now
-        (O.contents out.old) (O.contents out.new) result store.new.store (D.view store.new.disk).seen }
-    ensures settings { store.new.settings ≡ store.old.settings }
-    ensures honest { (D.view store.new.disk).is_honest ≡ (D.view store.old.disk).is_honest }
-    ensures failed { OnOk result (store.new.has_failed ≡ store.old.has_failed) }
-{
-    match order {
-        Order::Batch(batch) => {
-            let commands = batch.commands(rt.alloc())?;
-            run_step(
-                rt,
-                crew,
-                store,
-                Step::Batch(commands.as_slice()),
-                lines,
-                out,
-            )
-        }
-        Order::Flush => run_step(rt, crew, store, Step::Flush, lines, out),
-        Order::Clean => run_step(rt, crew, store, Step::Clean, lines, out),
-        Order::Upgrade => run_step(rt, crew, store, Step::Upgrade, lines, out),
-        Order::Verify => {
-            let report = store.verify(rt)?;
-            write_report(&report, lines, out)
-        }
-    }
-}
-
-// Runs the orders one after the other, and writes what each answers before the next runs.
-fn run_orders<R: AllocGlobal + Threads + Sync, D: Disk, O: Write>(
-    rt: &R,
-    crew: Crew,
-    store: &mut Store<D>,
-    orders: &[Order],
-    out: &mut O,
-) -> Result<(), Ending>
-    requires crew { IsTrue (is_crew crew) }
-    requires fine { store.old.has_failed ≡ false }
-    ensures { RunsOn (D.view store.old.disk).is_honest store.old.settings store.old.store (D.view store.old.disk).seen orders.now
-        (O.contents out.old) (O.contents out.new) result }
-{
-    let mut lines = Vec::new(rt.alloc());
-    for order in orders {
-        run_order(rt, crew, store, order, &mut lines, out)?;
-    }
-    Ok(())
-}
-
-// Hands on to the device what was written. A fault of the output goes before one that was found earlier.
-fn flush<O: Write>(done: Result<(), Ending>, out: &mut O) -> Result<(), Ending>
-    ensures bytes { Keeps (O.contents out.old) (O.contents out.new) }
-    ensures end { (result ≡ done) ⊎ (result ≡ Err Ending.Device) }
-{
-    match out.flush() {
-        Ok(()) => done,
-        Err(_) => Err(Ending::Device),
-    }
-}
-
-// A new store on a disk that has room for it.
-fn store_made<D: Disk + Drop>(
-    alloc: Global,
-    disk: D,
-    settings: Settings,
-) -> Result<Store<D>, Ending>
-    requires good { first_bad_field settings ≡ None }
-    requires room { disk_size settings ≤ (D.view disk).size }
-    ensures opens { (file : Bytes) → (IsTrue (D.view disk).is_honest → (D.view disk).seen ≡ file) →
-        Opens D.view (new_start settings file) result }
-    ensures honest { IfOk result (λ store. (D.view store.disk).is_honest ≡ (D.view disk).is_honest) }
-    ensures fine { IfOk result (λ store. store.has_failed ≡ false) }
-{
-    match Store::create(alloc, disk, settings) {
-        Ok(store) => Ok(store),
-        Err(refused) => Err(store_fault(refused.0)),
-    }
-}
-
-// A new store on a disk in memory, which has just the room that it needs.
-fn store_in_memory(alloc: Global, settings: Settings) -> Result<Store<MemDisk<Global>>, Ending>
-    ensures opens { Opens ⟦<MemDisk<Global> as Disk>⟧.view (new_start settings (replicate (disk_size settings) 0)) result }
-    ensures honest { IsHonestStore ⟦<MemDisk<Global> as Disk>⟧.view result }
-    ensures fine { IfOk result (λ store. store.has_failed ≡ false) }
-{
-    settings.check()?;
-    let disk = MemDisk::new(alloc, disk_size(&settings) as usize)?;
-    store_made(alloc, disk, settings)
-}
-
-// The disk of the file that there is. It is open for writing only where the session writes, and is held then.
-fn old_disk<R: Files>(rt: &R, path: &str, writes: bool) -> io::Result<FileDisk<R::File>>
-where
-    R::File: LockFile,
-{
-    if writes {
-        FileDisk::open(rt, path)
-    } else {
-        FileDisk::open_shared(rt, path)
-    }
-}
-
-// A new store in the file, which is made anew. Where the settings are refused the file isn't touched.
-fn new_store_in_file<R: AllocGlobal + Files>(
-    rt: &R,
-    path: &str,
-    settings: Settings,
-) -> Result<Store<FileDisk<R::File>>, Ending>
-where
-    R::File: LockFile,
-    ensures opens { (file : Bytes) → Opens ⟦<FileDisk<R::File> as Disk>⟧.view (new_start settings file) result }
-    ensures fine { IfOk result (λ store. store.has_failed ≡ false) }
-{
-    settings.check()?;
-    match FileDisk::create(rt, path, disk_size(&settings)) {
-        Ok(disk) => store_made(rt.alloc(), disk, settings),
-        Err(_) => Err(Ending::Device),
-    }
-}
-
-// The store that the disk holds, which is settled first: an earlier program may have ended between its write and its sync, and
-// all that this session does stands on what it reads. Nothing is written.
-fn store_found<R: AllocGlobal + Threads + Sync, D: Disk + Drop>(
-    rt: &R,
-    crew: Crew,
-    disk: D,
-) -> Result<Store<D>, Ending>
-    requires crew { IsTrue (is_crew crew) }
-    ensures opens { (file : Bytes) × (IsTrue (D.view disk).is_honest → file ≡ (D.view disk).seen) × Opens D.view (found_start file) result }
-    ensures fine { IfOk result (λ store. store.has_failed ≡ false) }
-{
-    match Store::open(rt, rt.alloc(), disk, crew) {
-        Ok(store) => Ok(store),
-        Err(refused) => Err(store_fault(refused.0)),
-    }
-}
-
-// The store that the file holds.
-fn store_in_file<R: AllocGlobal + Threads + Sync + Files>(
-    rt: &R,
-    crew: Crew,
-    path: &str,
-    writes: bool,
-) -> Result<Store<FileDisk<R::File>>, Ending>
-where
-    R::File: LockFile,
-    requires crew { IsTrue (is_crew crew) }
-    ensures opens { (file : Bytes) × Opens ⟦<FileDisk<R::File> as Disk>⟧.view (found_start file) result }
-    ensures fine { IfOk result (λ store. store.has_failed ≡ false) }
-{
-    match old_disk(rt, path, writes) {
-        Ok(disk) => store_found(rt, crew, disk),
-        Err(_) => Err(Ending::Device),
-    }
-}
-
-// Runs the orders on the store that was opened, and hands on to the device what was written.
-fn run_opened<R: AllocGlobal + Threads + Sync, D: Disk + Drop, O: Write>(
-    rt: &R,
-    crew: Crew,
-    opened: Result<Store<D>, Ending>,
-    orders: &[Order],
-    out: &mut O,
-) -> Result<(), Ending>
-    requires crew { IsTrue (is_crew crew) }
-    requires fine { IfOk opened (λ store. store.has_failed ≡ false) }
-    ensures { (start : Start) → Opens D.view start opened →
-        RunsFrom (IsHonestStore D.view opened) start orders.now (O.contents out.old) (O.contents out.new) result }
-{
-    let mut store = opened?;
-    let done = run_orders(rt, crew, &mut store, orders, out);
-    flush(done, out)
-}
-
-// Asks the output whether it is there, since a file that is opened while it is closed would get its descriptor, and with
-// that the answers. A call that was interrupted was begun.
-fn ask<O: Write>(out: &mut O) -> Result<(), Ending>
-    ensures bytes { Appends (O.contents out.old) (O.contents out.new) [] }
-    ensures device { IsOkUnless result Ending.Device }
-{
-    match out.write(&[]) {
-        Ok(_) => Ok(()),
-        Err(error) if error.kind() == ErrorKind::Interrupted => Ok(()),
-        Err(_) => Err(Ending::Device),
-    }
+    Ok(orders)
 }
 
 // Whether one of the orders writes to the disk of its store.
@@ -503,45 +167,74 @@ fn has_writing(orders: &[Order]) -> bool
     orders.iter().any(|order| order.writes())
 }
 
-/// Reads the batch file that `input` holds, and has it run by the crew on the store that is named: a new one in memory, or in a
+// Reads all of the input, and has it run.
+fn run_file<R: AllocGlobal + Threads + Sync + Files, I: Read, O: Write>(
+    rt: &R,
+    told: &Options,
+    input: &mut I,
+    out: &mut O,
+    notes: &mut Notes,
+) -> Result<(), Ending>
+where
+    R::File: LockFile,
+    ensures { Answers (told_of told.now) (I.remaining input.old) (O.contents out.old) (O.contents out.new) result }
+{
+    let orders = read_orders(rt.alloc(), input, told.ways.stat, notes)?;
+    ask(out)?;
+    let (crew, cleans) = (told.crew, told.ways.clean_when_full);
+    crew.check()?;
+    match &told.disk {
+        None => {
+            let opened = store_in_memory(rt.alloc(), told.settings, notes);
+            run_opened(rt, crew, cleans, opened, &orders, out, notes)
+        }
+        Some(path) if told.create => {
+            let opened = new_store_in_file(rt, path, told.settings, notes);
+            run_opened(rt, crew, cleans, opened, &orders, out, notes)
+        }
+        Some(path) => {
+            let opened = store_in_file(rt, crew, path, has_writing(&orders), notes);
+            run_opened(rt, crew, cleans, opened, &orders, out, notes)
+        }
+    }
+}
+
+/// Reads the batch file that `input` holds, and has it run by the crew on the store that is told: a new one in memory, or in a
 /// file that is made anew; or the one that the file holds. The answers go to `out`, in lines, and are the same for every
 /// crew. Where all is done, or a line is bad or there is no store (nothing is run then), or the store refuses an order, all
 /// answers stand there. Where memory is refused, some first lines of them do; where a device fails, some first bytes. A bad
 /// line goes before an output that is closed, that before a crew out of range, and that before settings that are refused and before
 /// a fault of the file; and a fault of the output goes before one that was found earlier.
 ///
+/// Where `clean_when_full` is asked for, a flush for which the log is full is made after as many cleans as it takes, at most one for each
+/// segment, and each of them prints its line. Where they make no room it is `Fault::Full`.
+///
+/// A stream is read line by line: what a line ends is run, and its answers are handed on, before the next line is read. Its lines come after all
+/// else: an output that is closed, a crew out of range, settings that are refused and a fault of the file go before a bad line. What was ended
+/// before a bad line is done then, and commands that no line has ended are not; at the end of the input these are run. It holds its file alone,
+/// since what will come isn't known.
+///
 /// Where an order is a flush, a clean or an upgrade, or the file is made anew, the session holds it alone, and else it shares it and only
 /// reads; a lock that is refused is a fault of the file. A file in which no store is found, or that can't be opened or locked, stays as
 /// it was. One that can't be made anew is left as `FileDisk::of_zeros` says; or, where only the writes of a new store failed, with its
 /// new length, and with zeros but for what was written of them.
+///
+/// `notes` gets what an explanation of the end needs.
 pub fn run<R: AllocGlobal + Threads + Sync + Files, I: Read, O: Write>(
     rt: &R,
     told: &Options,
     input: &mut I,
     out: &mut O,
+    notes: &mut Notes,
 ) -> Result<(), Ending>
 where
     R::File: LockFile,
-    ensures { Answers (told_of told.now) (I.remaining input.old) (O.contents out.old) (O.contents out.new) result }
+    ensures { IsAnswered (told_of told.now) (I.remaining input.old) (O.contents out.old) (O.contents out.new) result }
 {
-    let orders = read_orders(rt.alloc(), input)?;
-    ask(out)?;
-    let crew = told.crew;
-    crew.check()?;
-    match &told.disk {
-        None => {
-            let opened = store_in_memory(rt.alloc(), told.settings);
-            run_opened(rt, crew, opened, &orders, out)
-        }
-        Some(path) if told.create => {
-            let opened = new_store_in_file(rt, path, told.settings);
-            run_opened(rt, crew, opened, &orders, out)
-        }
-        Some(path) => {
-            let opened = store_in_file(rt, crew, path, has_writing(&orders));
-            run_opened(rt, crew, opened, &orders, out)
-        }
+    if told.ways.stream {
+        return run_stream(rt, told, input, out, notes);
     }
+    run_file(rt, told, input, out, notes)
 }
 
 // Prints the help that was asked for.
@@ -553,7 +246,15 @@ fn show_help<O: Write>(alloc: Global, help: &clap::Error, out: &mut O) -> Result
     flush(done, out)
 }
 
-// Answers words that give no settings: with help where they ask for it. Nothing else is printed here.
+// Prints the version that was asked for.
+fn show_version<O: Write>(out: &mut O) -> Result<(), Ending>
+    ensures { Prints (O.contents out.old) (O.contents out.new) (version_text ∷ []) (Ok tt) result }
+{
+    let done = write_bytes(VERSION, out);
+    flush(done, out)
+}
+
+// Answers words that tell no settings: with help where they ask for it. Nothing else is printed here.
 fn answer_words<O: Write>(alloc: Global, error: clap::Error, out: &mut O) -> Result<(), Ending>
     ensures help { kind_of error ≡ DisplayHelp → PrintsOneText (O.contents out.old) (O.contents out.new) result }
     ensures memory { kind_of error ≡ OutOfMemory → (result ≡ Err (Ending.Fault Fault.NoMemory)) × (out.new ≡ out.old) }
@@ -566,19 +267,51 @@ fn answer_words<O: Write>(alloc: Global, error: clap::Error, out: &mut O) -> Res
     }
 }
 
-// Does what the words ask for.
+// Does what the options ask for: prints the version, or runs the batch file. `more` gets the explanation of its end, where it is
+// asked for.
+fn obey_options<R: AllocGlobal + Threads + Sync + Files, I: Read, O: Write>(
+    rt: &R,
+    told: &Options,
+    input: &mut I,
+    out: &mut O,
+    more: &mut Vec<u8>,
+) -> Result<(), Ending>
+where
+    R::File: LockFile,
+    requires { more.old.items ≡ [] }
+    ensures version { told.now.ways.version ≡ true → (input.new ≡ input.old)
+        × Prints (O.contents out.old) (O.contents out.new) (version_text ∷ []) (Ok tt) result }
+    ensures answers { told.now.ways.version ≡ false →
+        IsAnswered (told_of told.now) (I.remaining input.old) (O.contents out.old) (O.contents out.new) result }
+    ensures more { told.now.ways.explain ≡ false → more.new.items ≡ [] }
+{
+    if told.ways.version {
+        return show_version(out);
+    }
+    let mut notes = Notes::new(rt.alloc(), told.ways.explain);
+    let done = run(rt, told, input, out, &mut notes);
+    if told.ways.explain {
+        *more = explained(rt.alloc(), told, &mut notes, &done).into_bytes();
+    }
+    done
+}
+
+// Does what the words ask for. `more` gets the explanation of its end, where it is asked for.
 fn obey<R: AllocGlobal + Threads + Sync + Files, I: Read, O: Write>(
     rt: &R,
     words: &[String],
     input: &mut I,
     out: &mut O,
+    more: &mut Vec<u8>,
 ) -> Result<(), Ending>
 where
     R::File: LockFile,
-    ensures { EndsBy (map string_bytes words.now) (I.remaining input.old) (O.contents out.old) (O.contents out.new) (input.new ≡ input.old) (out.new ≡ out.old) result }
+    requires { more.old.items ≡ [] }
+    ensures ends { EndsBy (map string_bytes words.now) (I.remaining input.old) (O.contents out.old) (O.contents out.new) (input.new ≡ input.old) (out.new ≡ out.old) result }
+    ensures more { AsksToExplain (map string_bytes words.now) ⊎ (more.new.items ≡ []) }
 {
     match options(rt.alloc(), words) {
-        Ok(told) => run(rt, &told, input, out),
+        Ok(told) => obey_options(rt, &told, input, out, more),
         Err(error) => answer_words(rt.alloc(), error, out),
     }
 }
@@ -600,17 +333,25 @@ fn tell<E: Write>(ending: &Ending, err: &mut E) -> Result<(), Ending>
     write_bytes(line.as_str().as_bytes(), err)
 }
 
-// Reports why the session ends early, if it does, and returns the exit status. Where that cannot be reported, nobody is left to report it
-// to.
-fn end<E: Write>(done: Result<(), Ending>, err: &mut E) -> u8
+// Tells why the session ends early, and then more of it.
+fn tell_all<E: Write>(ending: &Ending, more: &[u8], err: &mut E) -> Result<(), Ending>
+    ensures { IfSome (ending_text ending.now) (λ text. IsBegun (E.contents err.old) (E.contents err.new) (text ++ more.now)) }
+{
+    tell(ending, err)?;
+    write_bytes(more, err)
+}
+
+// Tells why the session ends early, if it does, and then more of it, and returns the exit status. Where that cannot be told, nothing
+// is left to tell it to.
+fn end<E: Write>(done: Result<(), Ending>, more: &[u8], err: &mut E) -> u8
     ensures status { result ≡ status_of_end done }
     ensures quiet { IfOk done (λ _. err.new ≡ err.old) }
-    ensures told { IsTold done (E.contents err.old) (E.contents err.new) }
+    ensures told { IsToldWith more.now done (E.contents err.old) (E.contents err.new) }
 {
     match done {
         Ok(()) => 0,
         Err(ending) => {
-            let _ = tell(&ending, err);
+            let _ = tell_all(&ending, more, err);
             ending.status()
         }
     }
@@ -624,7 +365,7 @@ pub fn unread_words<E: Write>(error: io::Error, err: &mut E) -> u8
     ensures told { result ≡ 2 → IsBegun (E.contents err.old) (E.contents err.new) unread_text }
 {
     match error.kind() {
-        ErrorKind::OutOfMemory => end(Err(Ending::Fault(Fault::NoMemory)), err),
+        ErrorKind::OutOfMemory => end(Err(Ending::Fault(Fault::NoMemory)), &[], err),
         _ => {
             let _ = write_bytes(UNREAD, err);
             2
@@ -635,12 +376,14 @@ pub fn unread_words<E: Write>(error: io::Error, err: &mut E) -> u8
 /// Does what the `words` of the command line ask for, and returns the exit status. Where they name a store, the batch file that `input`
 /// holds is run on it, as `run` says. The answers go to `out`, in lines; what stopped the session goes to `err`.
 ///
-/// - 0: all is done; or the words ask for help, which went to `out`, and nothing was read.
+/// - 0: all is done; or the words ask for help or the version, which went to `out`, and nothing was read.
 /// - 2: the words are refused. Nothing was read.
-/// - 3: a line of the batch file is bad. Nothing was run, and no file was opened.
+/// - 3: a line of the batch file is bad. Nothing was run, and no file was opened; or, in a stream, what was ended before it is done.
 /// - 4: a fault. The answers to what was run before it stand in `out`, or some first of them where memory was refused
 ///   or a device failed. Where that is an output that is closed or a crew out of range, nothing was run, and no file was opened.
 ///   Its line is written when the file is closed.
+///
+/// Where the words ask for `--explain`, a second line follows on that of a bad line or a fault: where it came from, and what to do.
 pub fn session<R: AllocGlobal + Threads + Sync + Files, I: Read, O: Write, E: Write>(
     rt: &R,
     words: &[String],
@@ -656,23 +399,24 @@ where
     ensures refused { (result ≡ 2) ↔ (AreRefused (map string_bytes words.now) × (result ≢ 4)) }
     ensures untouched { AreRefused (map string_bytes words.now) → (input.new ≡ input.old) × (out.new ≡ out.old) }
 
-    // What stands on the output with each status: always a beginning of what the orders of the input answer on the store that the words
-    // name, unless that is help. In memory and in a file that is made anew it is a new one of the settings that they give; else it is the
-    // one that the bytes of the file stand for, whichever these are. With a crew out of range there is none, and else the crew doesn't
-    // matter. A clean is done of what the disk shows: in memory that is what was left, and a file may show anything.
-    ensures done { result ≡ 0 → AsksForHelp (map string_bytes words.now) ⊎ ((told : Told) × AsksFor (map string_bytes words.now) told
+    // What stands on the output with each status: always a beginning of what the orders of the input answer on the store that the
+    // words tell, unless that is help or the version. In memory and in a file that is made anew it is a new one of the settings that they tell;
+    // else it is the one that the bytes of the file stand for, whichever these are. With a crew out of range there is none, and
+    // else the crew doesn't matter. A clean is done of what the disk shows: in memory that is what was left, and a file may show
+    // anything.
+    ensures done { result ≡ 0 → AsksForText (map string_bytes words.now) ⊎ ((told : Told) × AsksFor (map string_bytes words.now) told
         × IfSome (I.remaining input.old) (λ text. (first_bad 1 (text_says text) ≡ None)
-        × ((start : Start) × IsStart told start × IsOk start × (shown : Reads) × IsShown told start shown (orders_of [] (text_says text))
-        × Appends (O.contents out.old) (O.contents out.new) (printed_by start shown text)))) }
-    ensures bad { result ≡ 3 → Appends (O.contents out.old) (O.contents out.new) []
+        × ((start : Start) × IsStart told start × IsOk start × (shown : Reads) × IsShown told start shown (orders_run told start shown text)
+        × Appends (O.contents out.old) (O.contents out.new) (printed_by start shown (orders_run told start shown text))))) }
+    ensures bad { result ≡ 3 → (AsksToStream (map string_bytes words.now) ⊎ Appends (O.contents out.old) (O.contents out.new) [])
         × IfSome (I.remaining input.old) (λ text. first_bad 1 (text_says text) ≢ None) }
-    ensures beginning { AsksForHelp (map string_bytes words.now) ⊎ Appends (O.contents out.old) (O.contents out.new) []
+    ensures beginning { AsksForText (map string_bytes words.now) ⊎ Appends (O.contents out.old) (O.contents out.new) []
         ⊎ ((told : Told) × AsksFor (map string_bytes words.now) told × IfSome (I.remaining input.old) (λ text. (start : Start) × IsStart told start
-        × (shown : Reads) × IsShown told start shown (orders_of [] (text_says text))
-        × ((front : Bytes) × BeginsWith (printed_by start shown text) front × Appends (O.contents out.old) (O.contents out.new) front))) }
+        × (shown : Reads) × IsShown told start shown (orders_run told start shown text)
+        × ((front : Bytes) × BeginsWith (printed_by start shown (orders_run told start shown text)) front × Appends (O.contents out.old) (O.contents out.new) front))) }
 
     // How it ends, and what is read and printed, is right for the words and the text but for memory and devices.
-    // What goes to `err` is the message for this end, or a beginning of it.
+    // What goes to `err` is told of this end, or a beginning of it; and more only where the words ask to explain it.
     ensures ends { EndsTold (map string_bytes words.now)
         (I.remaining input.old) (O.contents out.old) (O.contents out.new)
         (E.contents err.old) (E.contents err.new)
@@ -681,6 +425,7 @@ where
     // A session with all done reports nothing.
     ensures quiet { result ≡ 0 → err.new ≡ err.old }
 {
-    let done = obey(rt, words, input, out);
-    end(done, err)
+    let mut more = Vec::new(rt.alloc());
+    let done = obey(rt, words, input, out, &mut more);
+    end(done, &more, err)
 }

@@ -2,14 +2,33 @@
 ghost use Rattle.std.specs.Prelude.{◌≡◌, ◌∷◌, ◌++◌, [], codes, length, take, OnOk, OnErr};
 ghost use Rattle.std.specs.Fmt.{decimal};
 ghost use Rattle.std.specs.List.{flat_map};
-ghost use Rattle.bwsh.specs.Shown.{reply_text, row_lines, shown_reply, shown_flushed, shown_cleaned, shown_upgraded, shown_report, shown_row};
+ghost use Rattle.bwsh.specs.Shown.{reply_text, row_lines, shown_reply, shown_flushed, shown_cleaned, shown_upgraded, shown_report, shown_numbers, shown_row};
 
 use crate::token::push_token;
 use engine::Report;
 use keys::{Reply, RowList};
 use std::alloc::{AllocError, Global};
 
-// Appends what the first line of a reply with `count` rows says.
+/// The numbers of a store.
+#[derive(Clone, Copy, Debug, PartialEq, Eq)]
+pub struct StoreNumbers {
+    /// Of the last flush, clean or upgrade.
+    pub sequence: u64,
+    /// The first segment of the log.
+    pub head: u64,
+    /// Where the log ends.
+    pub tail: u64,
+    /// The segments of the log that are in use.
+    pub in_use: u64,
+    /// The segments that it may have.
+    pub segments: u64,
+    /// The pages of the tree.
+    pub pages: u128,
+    /// The pairs of the tree.
+    pub pairs: u128,
+}
+
+// Appends what the first line of a reply with so many rows says.
 fn push_count(count: usize, out: &mut Vec<u8>) -> Result<(), AllocError>
     ensures ok { OnOk result (out.new.items ≡ out.old.items ++ codes "rows " ++ decimal count) }
     ensures err { OnErr result (out.new.items ≡ out.old.items) }
@@ -136,5 +155,25 @@ pub fn show_report(report: &Report, out: &mut Vec<u8>) -> Result<(), AllocError>
         pairs,
     } = *report;
     let line = format!(in *out.allocator(); "ok {pages} {height} {pairs}\n")?;
+    out.extend_from_slice(line.as_bytes())
+}
+
+/// Appends the line of the numbers, with its line feed. After an `Err` `out` is as it was before.
+pub fn show_numbers(numbers: &StoreNumbers, out: &mut Vec<u8>) -> Result<(), AllocError>
+    ensures ok { OnOk result (out.new.items ≡ out.old.items ++ shown_numbers numbers.now) }
+    ensures err { OnErr result (out.new.items ≡ out.old.items) }
+{
+    let StoreNumbers {
+        sequence,
+        head,
+        tail,
+        in_use,
+        segments,
+        pages,
+        pairs,
+    } = *numbers;
+    let line = format!(in *out.allocator();
+        "stat sequence {sequence} head {head} tail {tail} segments {in_use} of {segments} pages {pages} pairs {pairs}\n"
+    )?;
     out.extend_from_slice(line.as_bytes())
 }

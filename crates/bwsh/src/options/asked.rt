@@ -13,4 +13,21 @@ pub struct Options {
     pub disk: Option<String>,
     /// Whether that file is made anew, so that what it held is lost. Without a file it changes nothing.
     pub create: bool,
+    /// In which ways the session differs from one without options.
+    pub ways: Ways,
+}
+
+/// In which ways a session differs from one without options. Each is off unless it is asked for.
+#[derive(Clone, Copy, Debug, PartialEq, Eq)]
+pub struct Ways {
+    /// The version is printed, and nothing is read or done.
+    pub version: bool,
+    /// Where the session ends early, a second line on standard error says where that came from, and what to do.
+    pub explain: bool,
+    /// Where all orders are done, one more line has the numbers of the store.
+    pub stat: bool,
+    /// A flush for which the log is full is made after as many cleans as it takes, at most one for each segment; each prints its line.
+    pub clean_when_full: bool,
+    /// The input is read line by line, and each batch is answered before the next line is waited for.
+    pub stream: bool,
 }

@@ -1,5 +1,5 @@
 use Rattle.std.proofs.Common.{refl}
-use Rattle.bwsh.proofs.PrintedLemmas.{printed-batch, printed-flush, printed-clean, printed-upgrade, printed-verify}
+use Rattle.bwsh.proofs.PrintedLemmas.{printed-batch, printed-flush, printed-clean, printed-upgrade, printed-verify, printed-numbers}
 use Rattle.bwsh.proofs.laws.each_order_prints_its_answer.Goals as goal
 
 pub returns : goal.returns
@@ -10,4 +10,5 @@ returns c = record {
   clean = printed-clean;
   upgrade = printed-upgrade;
   verify = printed-verify;
+  numbers = printed-numbers;
 }

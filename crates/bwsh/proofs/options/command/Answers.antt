@@ -18,4 +18,9 @@ returns c =
     let seven = rule_added _ _ _ _ _ c.in_ok-arg-7.ensures c.number-7.ensures.local six c.number-7.ensures.rule in
     let eight = rule_added _ _ _ _ _ c.in_ok-arg-8.ensures c.number-8.ensures.local seven c.number-8.ensures.rule in
     let nine = rule_added _ _ _ _ _ c.in_ok-arg-9.ensures c.path.ensures.local eight c.path.ensures.rule in
-    IfOk-weaker c.arg-10.result _ _ (λ _ added. rule_added _ _ _ _ _ added c.flag.ensures.local nine c.flag.ensures.rule) c.arg-10.ensures
+    let ten = rule_added _ _ _ _ _ c.in_ok-arg-10.ensures c.flag.ensures.local nine c.flag.ensures.rule in
+    let eleven = rule_added _ _ _ _ _ c.in_ok-arg-11.ensures c.flag-2.ensures.local ten c.flag-2.ensures.rule in
+    let twelve = rule_added _ _ _ _ _ c.in_ok-arg-12.ensures c.flag-3.ensures.local eleven c.flag-3.ensures.rule in
+    let thirteen = rule_added _ _ _ _ _ c.in_ok-arg-13.ensures c.flag-4.ensures.local twelve c.flag-4.ensures.rule in
+    let fourteen = rule_added _ _ _ _ _ c.in_ok-arg-14.ensures c.flag-5.ensures.local thirteen c.flag-5.ensures.rule in
+    IfOk-weaker c.arg-15.result _ _ (λ _ added. rule_added _ _ _ _ _ added c.flag-6.ensures.local fourteen c.flag-6.ensures.rule) c.arg-15.ensures

@@ -9,7 +9,7 @@ returns c =
     let w = options_are_asked _ _ c.in_ok-matches.ensures.err c.in_ok-matches.ensures.ok in
     let path = c.in_ok-disk.ensures w.0 w.2 in
     record {
-      ok = (w.0, w.1, rw (c.settings.ensures w.0 w.3 w.2, c.crew.ensures w.0 w.3 w.2, path, c.create.ensures w.0 w.3 w.2) refl);
+      ok = (w.0, w.1, rw (c.settings.ensures w.0 w.3 w.2, c.crew.ensures w.0 w.3 w.2, path, c.flag_at.ensures refl w.0 w.3 w.2, c.ways.ensures w.0 w.3 w.2) refl);
       err = tt;
     }
 

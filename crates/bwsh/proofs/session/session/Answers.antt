@@ -1,5 +1,6 @@
-use Rattle.std.proofs.Common.{◌≡◌, map}
+use Rattle.std.proofs.Common.{◌≡◌, ℕ, List, map, subst}
 use Rattle.std.specs.String.{string_bytes}
+use Rattle.bwsh.specs.Session.{IsToldWith}
 use Rattle.bwsh.proofs.EndLemmas.{all_follows, Appends-same}
 use Rattle.bwsh.proofs.TellLemmas.{quiet_end}
 use Rattle.bwsh.proofs.session.session.Goals as goal
@@ -10,7 +11,7 @@ returns g c =
     let known = g.I.Read.remaining c.args.input.now in
     let old = g.O.Write.contents c.args.out.now in
     let new = g.O.Write.contents c.obey-done.new.out in
-    let ends = c.obey-done.ensures in
+    let ends = c.obey-done.ensures.ends in
     let follows = all_follows words known old new (c.obey-done.new.input ≡ c.args.input.now) (c.obey-done.new.out ≡ c.args.out.now) c.end.result c.obey-done.result c.end.ensures.status
     (Appends-same g.O.Write.contents c.args.out.now c.obey-done.new.out) ends in
     record {
@@ -20,6 +21,6 @@ returns g c =
       done = follows.done;
       bad = follows.bad;
       beginning = follows.beginning;
-      ends = (c.obey-done.result, c.end.ensures.status, ends, c.end.ensures.told);
+      ends = (c.obey-done.result, c.end.ensures.status, ends, (c.obey-done.new.more.items, c.obey-done.ensures.more, subst (λ (m : List ℕ). IsToldWith m c.obey-done.result (g.E.Write.contents c.args.err.now) (g.E.Write.contents c.end.new.err)) c.deref.ensures.value c.end.ensures.told));
       quiet = quiet_end c.obey-done.result c.end.result _ c.end.ensures.status c.end.ensures.quiet;
     }

@@ -1,0 +1,92 @@
+/* Fails calls of one kind, FAIL_CALL: FAIL_COUNT of them from the number FAIL_FROM on, counted from 0, with the error FAIL_ERROR. The kinds are
+
+   input, output, error         a read of standard input, a write to standard output, to standard error
+   open                         opening the file FAIL_FILE to write; those that follow are of this file:
+   hold, share, length          its lock for itself, its shared lock, asking for its length
+   cut, read, write, sync       setting its length, a read, a write, a sync
+   thread                       starting a thread: that ends the program with FAIL_ERROR as its status
+
+   Where FAIL_CUT is set, each read and each write of the file or of a stream takes a byte. It is loaded in front of the C library; `calls.py`
+   builds and runs it. It includes nothing, since the kit has a compiler and no headers. */
+typedef __SIZE_TYPE__ size_t;
+
+int *__errno_location(void);
+char *getenv(const char *);
+long atol(const char *);
+int strcmp(const char *, const char *);
+long syscall(long, ...);
+void *dlsym(void *, const char *);
+
+enum { READ = 0, WRITE = 1, OPEN = 2, FLOCK = 73, FDATASYNC = 75, FTRUNCATE = 77, EXIT_GROUP = 231, STATX = 332 };
+enum { O_WRITES = 03, LOCK_EX = 2 };
+
+static const char *kind, *path;
+static long first, count, error, made;
+static int cuts, file = -1;
+
+__attribute__((constructor)) static void start(void) {
+    path = getenv("FAIL_FILE");
+    kind = getenv("FAIL_CALL");
+    first = atol(getenv("FAIL_FROM"));
+    count = atol(getenv("FAIL_COUNT"));
+    error = atol(getenv("FAIL_ERROR"));
+    cuts = getenv("FAIL_CUT") != 0;
+}
+
+/* Counts a call of this kind, and says whether it fails. */
+static int fails(const char *call) {
+    if (strcmp(call, kind) != 0) {
+        return 0;
+    }
+    long number = __atomic_fetch_add(&made, 1, __ATOMIC_SEQ_CST);
+    if (number < first || number - first >= count) {
+        return 0;
+    }
+    *__errno_location() = error;
+    return 1;
+}
+
+static size_t taken(size_t size) { return cuts && size > 1 ? 1 : size; }
+
+int open(const char *name, int flags, int mode) {
+    int is_file = strcmp(name, path) == 0;
+    if (is_file && flags & O_WRITES && fails("open")) {
+        return -1;
+    }
+    int opened = syscall(OPEN, name, flags, mode);
+    file = is_file ? opened : file;
+    return opened;
+}
+
+int flock(int fd, int how) { return fd == file && fails(how & LOCK_EX ? "hold" : "share") ? -1 : syscall(FLOCK, fd, how); }
+
+int statx(int fd, const char *name, int flags, unsigned mask, void *buf) {
+    return fd == file && fails("length") ? -1 : syscall(STATX, fd, name, flags, mask, buf);
+}
+
+int ftruncate(int fd, long length) { return fd == file && fails("cut") ? -1 : syscall(FTRUNCATE, fd, length); }
+
+int fdatasync(int fd) { return fd == file && fails("sync") ? -1 : syscall(FDATASYNC, fd); }
+
+long read(int fd, void *buf, size_t size) {
+    if (fd != 0 && fd != file) {
+        return syscall(READ, fd, buf, size);
+    }
+    return fails(fd ? "read" : "input") ? -1 : syscall(READ, fd, buf, taken(size));
+}
+
+long write(int fd, const void *bytes, size_t size) {
+    if (fd != 1 && fd != 2 && fd != file) {
+        return syscall(WRITE, fd, bytes, size);
+    }
+    const char *call = fd == 1 ? "output" : fd == 2 ? "error" : "write";
+    return fails(call) ? -1 : syscall(WRITE, fd, bytes, taken(size));
+}
+
+int pthread_create(void *thread, const void *how, void *(*run)(void *), void *given) {
+    if (fails("thread")) {
+        syscall(EXIT_GROUP, error);
+    }
+    int (*create)(void *, const void *, void *(*)(void *), void *) = dlsym((void *)-1, "pthread_create"); /* the next one, the C library's */
+    return create(thread, how, run, given);
+}

@@ -1,0 +1,286 @@
+-- Lemmas on the cleans that make room for flushes.
+use Rattle.std.proofs.Common.{◌≡◌, ◌≢◌, ◌⊎◌, ◌&&◌, not, inl, inr, ℕ, zero, suc, Bool, true, false, List, [], ◌∷◌, ◌++◌, Option, Some, None, Result, Ok, Err, refl, sym, ap, ◌∙◌, subst, append-nil}
+use Rattle.std.specs.Prelude.{filter, IsTrue}
+use Rattle.std.specs.Io.KnownBytes.{Appends}
+use Rattle.std.specs.List.{AllByRecursion, flat_map}
+use Rattle.std.specs.declared.alloc.Global.{Global}
+use Rattle.keys.specs.declared.command.Command.{Command}
+use Rattle.keys.specs.declared.settings.Settings.{Settings}
+use Rattle.mapping.specs.Tree.{Store}
+use Rattle.bwsh.specs.declared.batch_file.Order.{Order}
+use Rattle.bwsh.specs.declared.batch_file.Order.TheVariants.{Batch, Flush, Clean, Upgrade, Verify, Numbers}
+use Rattle.bwsh.specs.BatchFile.{IsNoClean, cleans_nothing, commands_of, is_flush}
+use Rattle.keys.specs.Lists.{flat}
+use Rattle.keys.specs.declared.fault.Fault.{Fault}
+use Rattle.keys.specs.declared.fault.Fault.TheVariants.{Full, NoMemory, NothingToClean}
+use Rattle.mapping.specs.Levels.{contents}
+use Rattle.bwsh.specs.declared.session.Ending.{Ending}
+use Rattle.bwsh.specs.declared.session.Ending.TheVariants.{Device}
+use Rattle.bwsh.specs.declared.session.Ending.TheVariants as endings
+use Rattle.bwsh.specs.Session.{BeginsWith, Prints, Reads, Runs, RunsFirst, RunsOn, RunsOrder, behind, flush_with_room, is_clean, is_full, later, own_lines, refusal_of, wants_clean, with_cleans}
+use Rattle.bwsh.proofs.BytesLemmas.{behind-same}
+use Rattle.bwsh.proofs.FirstLemmas.{Leavable, RunsBy, RunsBy-asked, RunsBy-cut, RunsBy-goes_on, RunsBy-stops, leave, leave_flush}
+use Rattle.bwsh.proofs.RunLemmas.{IsCut, first_shown}
+
+-- what is so of what is next is so behind the cleans of a flush
+module _ {X : Type 0} (of : List Order → X) (skips : (orders : List Order) → of (Clean ∷ orders) ≡ of orders) (settings : Settings) where
+  room_by : (next : Store → Reads → List Order) (all : X) → ((st : Store) (shown : Reads) → of (Flush ∷ next st shown) ≡ all)
+      → (most : ℕ) (st : Store) (shown : Reads) → of (flush_with_room most settings st shown next) ≡ all
+  room_by next all same zero st shown = same (behind settings st (shown 0) Flush).0 (later shown)
+  room_by next all same (suc most) st shown =
+      go (wants_clean settings st (shown 0)) refl (room_by next all same most (behind settings st (shown 0) Clean).0 (later shown))
+    where
+      go : (b : Bool) → wants_clean settings st (shown 0) ≡ b → of (flush_with_room most settings (behind settings st (shown 0) Clean).0 (later shown) next) ≡ all
+          → of (flush_with_room (suc most) settings st shown next) ≡ all
+      go true is further_on = rw is (skips _ ∙ further_on)
+      go false is further_on = rw is (same (behind settings st (shown 0) Flush).0 (later shown))
+
+-- the commands are those of the orders
+pub commands-with_cleans : (settings : Settings) (st : Store) (shown : Reads) (orders : List Order)
+    → flat_map commands_of (with_cleans settings st shown orders) ≡ flat_map commands_of orders
+commands-with_cleans settings st shown [] = refl
+commands-with_cleans settings st shown (Flush ∷ rest) =
+    room_by (flat_map commands_of) (λ orders. refl) settings (λ now after. with_cleans settings now after rest) (flat_map commands_of rest)
+    (λ now after. commands-with_cleans settings now after rest) settings.segments st shown
+commands-with_cleans settings st shown (Batch cs ∷ rest) =
+    ap (λ (l : List (Command Global)). cs ++ l) (commands-with_cleans settings (behind settings st (shown 0) (Batch cs)).0 (later shown) rest)
+commands-with_cleans settings st shown (Clean ∷ rest) = commands-with_cleans settings (behind settings st (shown 0) Clean).0 (later shown) rest
+commands-with_cleans settings st shown (Upgrade ∷ rest) = commands-with_cleans settings (behind settings st (shown 0) Upgrade).0 (later shown) rest
+commands-with_cleans settings st shown (Verify ∷ rest) = commands-with_cleans settings (behind settings st (shown 0) Verify).0 (later shown) rest
+commands-with_cleans settings st shown (Numbers ∷ rest) = commands-with_cleans settings (behind settings st (shown 0) Numbers).0 (later shown) rest
+
+-- without the cleans they are the orders
+pub others-with_cleans : (settings : Settings) (st : Store) (shown : Reads) (orders : List Order) → AllByRecursion IsNoClean orders
+    → filter cleans_nothing (with_cleans settings st shown orders) ≡ orders
+others-with_cleans settings st shown [] none = refl
+others-with_cleans settings st shown (Flush ∷ rest) none =
+    room_by (filter cleans_nothing) (λ orders. refl) settings (λ now after. with_cleans settings now after rest) (Flush ∷ rest)
+    (λ now after. ap (λ (os : List Order). Flush ∷ os) (others-with_cleans settings now after rest none.1)) settings.segments st shown
+others-with_cleans settings st shown (Clean ∷ rest) none = absurd none.0
+others-with_cleans settings st shown (Batch cs ∷ rest) none =
+    ap (λ (os : List Order). Batch cs ∷ os) (others-with_cleans settings (behind settings st (shown 0) (Batch cs)).0 (later shown) rest none.1)
+others-with_cleans settings st shown (Upgrade ∷ rest) none =
+    ap (λ (os : List Order). Upgrade ∷ os) (others-with_cleans settings (behind settings st (shown 0) Upgrade).0 (later shown) rest none.1)
+others-with_cleans settings st shown (Verify ∷ rest) none =
+    ap (λ (os : List Order). Verify ∷ os) (others-with_cleans settings (behind settings st (shown 0) Verify).0 (later shown) rest none.1)
+others-with_cleans settings st shown (Numbers ∷ rest) none =
+    ap (λ (os : List Order). Numbers ∷ os) (others-with_cleans settings (behind settings st (shown 0) Numbers).0 (later shown) rest none.1)
+
+-- ---- a flush that makes itself room
+
+-- what comes behind it
+abbrev pub behind_flush : Settings → List Order → Store → Reads → List Order
+behind_flush settings rest now after = with_cleans settings now after rest
+
+-- a flush with so many cleans in front of it at most, of which nothing is done yet, prints behind what stands there is, behind what stood there
+-- first, what a flush does that makes itself room
+abbrev pub LeadsRoom : Bool → Settings → Store → List ℕ → Option (List ℕ) → ℕ → Store → List ℕ → Option (List ℕ) → Type 0
+LeadsRoom honest settings first file old most st seen now =
+    (rest : List Order) (new : Option (List ℕ)) (end : Result (Unit {0}) Ending)
+    → RunsBy honest settings st seen (λ shown. flush_with_room most settings st shown (behind_flush settings rest)) now new end
+    → RunsOn true honest settings first file (Flush ∷ rest) old new end
+
+pub LeadsRoom-first : (honest : Bool) (settings : Settings) (st : Store) (seen : List ℕ) (old : Option (List ℕ)) → LeadsRoom honest settings st seen old settings.segments st seen old
+LeadsRoom-first honest settings st seen old rest new end p = p
+
+leavable_room : (settings : Settings) (rest : List Order) (most : ℕ) → Leavable settings (λ s shown. flush_with_room most settings s shown (behind_flush settings rest))
+leavable_room settings rest most = leave_flush settings (behind_flush settings rest) (leave true settings rest) most
+
+-- an order alone that ends early: by its right, with nothing printed, or for want of memory or since a device failed
+data Early (now new : Option (List ℕ)) (r : Option Fault) (early : Ending) : Type 0 where
+  by_right : (fault : Fault) → r ≡ Some fault → early ≡ endings.Fault fault → Appends now new [] → Early now new r early
+  refused_cut : (fault : Fault) → r ≡ Some fault → IsCut early → Appends now new [] → Early now new r early
+  cut : r ≡ None → IsCut early → Early now new r early
+
+nothing_front : (xs : List ℕ) → BeginsWith [] xs → xs ≡ []
+nothing_front [] b = refl
+nothing_front (x ∷ xs) (rest, e) = absurd (cc)
+
+no_lines : (xs : List (List ℕ)) → BeginsWith [] xs → xs ≡ []
+no_lines [] b = refl
+no_lines (x ∷ xs) (rest, e) = absurd (cc)
+
+same_ending : (early other : Ending) → (let end : Result (Unit {0}) Ending = Err early in end ≡ Err other) → early ≡ other
+same_ending early other e = cc
+
+never_ends : (early : Ending) → (let end : Result (Unit {0}) Ending = Err early in end ≡ Ok tt) → ⊥
+never_ends early e = cc
+
+-- of lines that are printed where it isn't refused
+early_of_none : (now new : Option (List ℕ)) (lines : List (List ℕ)) (early : Ending) → Prints now new lines (Ok tt) (Err early) → Early now new None early
+early_of_none now new lines early (inl (e, a)) = absurd (never_ends early e)
+early_of_none now new lines early (inr (inl (e, q))) = cut refl (inl (same_ending early (endings.Fault NoMemory) e))
+early_of_none now new lines early (inr (inr (e, q))) = cut refl (inr (same_ending early Device e))
+
+-- of nothing that is printed where it is
+early_of_some : (now new : Option (List ℕ)) (fault : Fault) (early : Ending) → Prints now new [] (Err (endings.Fault fault)) (Err early) → Early now new (Some fault) early
+early_of_some now new fault early (inl (e, a)) = by_right fault refl (same_ending early (endings.Fault fault) e) a
+early_of_some now new fault early (inr (inl (e, (front, begins, a)))) =
+    refused_cut fault refl (inl (same_ending early (endings.Fault NoMemory) e)) (subst (λ (l : List (List ℕ)). Appends now new (flat l)) (no_lines front begins) a)
+early_of_some now new fault early (inr (inr (e, (front, begins, a)))) =
+    refused_cut fault refl (inr (same_ending early Device e)) (subst (Appends now new) (nothing_front front begins) a)
+
+early_by : (settings : Settings) (st : Store) (file : List ℕ) (order : Order) (now new : Option (List ℕ)) (early : Ending) (r : Option Fault) → refusal_of settings st file order ≡ r
+    → Runs settings st (λ i. file) (order ∷ []) now new (Err early) → Early now new r early
+unfolding Runs
+early_by settings st file order now new early None none p =
+    let own : Prints now new (own_lines settings st file (contents st.tree) order ++ []) (Ok tt) (Err early) = rw none at p in
+    early_of_none now new (own_lines settings st file (contents st.tree) order ++ []) early own
+early_by settings st file order now new early (Some fault) some p =
+    let own : Prints now new [] (Err (endings.Fault fault)) (Err early) = rw some at p in
+    early_of_some now new fault early own
+
+-- whether the flush wants a clean is known by why it and a clean are refused
+module _ (settings : Settings) (st : Store) (file : List ℕ) where
+  wants_by : (r q : Option Fault) → refusal_of settings st file Flush ≡ r → refusal_of settings st file Clean ≡ q → wants_clean settings st file ≡ is_full r && not (is_clean q)
+  wants_by r q is_r is_q = rw (is_r, is_q) refl
+
+  room_wanted : (most : ℕ) (next : Store → Reads → List Order) → wants_clean settings st file ≡ true → (shown : Reads)
+      → flush_with_room (suc most) settings st (first_shown file shown) next ≡ Clean ∷ flush_with_room most settings (behind settings st file Clean).0 shown next
+  room_wanted most next wants shown = rw wants refl
+
+  room_made : (most : ℕ) (next : Store → Reads → List Order) → wants_clean settings st file ≡ false → (shown : Reads)
+      → flush_with_room most settings st (first_shown file shown) next ≡ Flush ∷ next (behind settings st file Flush).0 shown
+  room_made zero next wants shown = refl
+  room_made (suc most) next wants shown = rw wants refl
+
+-- the log was full for a flush, of whichever bytes
+pub full_alike : (settings : Settings) (st : Store) (f g : List ℕ) → refusal_of settings st f Flush ≡ Some Full → refusal_of settings st g Flush ≡ Some Full
+full_alike settings st f g full = sym (behind-same settings st f g Flush tt).1 ∙ full
+
+-- a flush that is refused so alone
+full_alone : (settings : Settings) (st : Store) (file : List ℕ) (now new : Option (List ℕ)) → refusal_of settings st file Flush ≡ Some Full → Appends now new []
+    → Runs settings st (λ i. file) (Flush ∷ []) now new (Err (endings.Fault Full))
+unfolding Runs
+full_alone settings st file now new full a = rw full (inl (refl, a))
+
+-- a flush that ends since the log is full is refused for that, and prints nothing
+pub is_refused_full : (honest : Bool) (settings : Settings) (st : Store) (seen : List ℕ) (now new : Option (List ℕ)) (after : Store) (bytes : List ℕ)
+    → (one : RunsOrder honest settings st seen Flush now new (Err (endings.Fault Full)) after bytes) → (refusal_of settings st one.0 Flush ≡ Some Full) × Appends now new []
+is_refused_full honest settings st seen now new after bytes (file, is, runs, none) =
+    by (refusal_of settings st file Flush) refl (early_by settings st file Flush now new (endings.Fault Full) (refusal_of settings st file Flush) refl runs)
+  where
+    by : (r : Option Fault) → refusal_of settings st file Flush ≡ r → Early now new r (endings.Fault Full) → (refusal_of settings st file Flush ≡ Some Full) × Appends now new []
+    by r is_r (by_right fault some e a) = let same : Full ≡ fault = cc in (is_r ∙ some ∙ ap (λ (f : Fault). Some f) (sym same), a)
+    by r is_r (refused_cut fault some (inl e) a) = absurd (cc)
+    by r is_r (refused_cut fault some (inr e) a) = absurd (cc)
+    by r is_r (cut none (inl e)) = absurd (cc)
+    by r is_r (cut none (inr e)) = absurd (cc)
+
+module _ (honest : Bool) (settings : Settings) (first : Store) (file : List ℕ) (old : Option (List ℕ)) (most : ℕ) (st : Store) (seen : List ℕ) (now : Option (List ℕ))
+    (leads : LeadsRoom honest settings first file old most st seen now) where
+  -- the flush is answered, or refused for another reason than that the log is full; or nothing may be cleaned any more
+  pub LeadsRoom-ends : (new : Option (List ℕ)) (end : Result (Unit {0}) Ending) (after : Store) (bytes : List ℕ) → (most ≡ 0) ⊎ (end ≢ Err (endings.Fault Full))
+      → RunsOrder honest settings st seen Flush now new end after bytes → RunsFirst true honest settings first file (Flush ∷ []) old new end after bytes
+  LeadsRoom-ends new (Ok done) after bytes why (of, is, runs, leaves) = λ rest last ended q.
+      leads rest last ended (RunsBy-goes_on honest settings st seen Flush now new after bytes (λ shown. flush_with_room most settings st shown (behind_flush settings rest)) (behind_flush settings rest)
+      done (of, is, runs, leaves) (room_made settings st of most (behind_flush settings rest) (wants_by settings st of None (refusal_of settings st of Clean) leaves.unrefused refl)) last ended q)
+  LeadsRoom-ends new (Err early) after bytes (inl none_left) one = λ rest.
+      leads rest new (Err early) (RunsBy-stops honest settings st seen Flush now new after bytes (λ shown. flush_with_room most settings st shown (behind_flush settings rest)) (behind_flush settings rest)
+      (leave true settings rest) early one
+      (subst (λ (n : ℕ). (shown : Reads) → flush_with_room n settings st (first_shown one.0 shown) (behind_flush settings rest) ≡ Flush ∷ behind_flush settings rest (behind settings st one.0 Flush).0 shown)
+      (sym none_left) (λ shown. refl)))
+  LeadsRoom-ends new (Err early) after bytes (inr other) (of, is, runs, none) = λ rest. leads rest new (Err early) (by rest (wants_clean settings st of) refl) where
+    full_of : (r : Option Fault) → is_full r ≡ true → r ≡ Some Full
+    full_of None e = cc
+    full_of (Some fault) e = full_fault fault e
+      where
+        full_fault : (fault : Fault) → is_full (Some fault) ≡ true → Some fault ≡ Some Full
+        full_fault Full e = refl
+        full_fault _ e = cc
+
+    both_true : (a b : Bool) → (a && b) ≡ true → a ≡ true
+    both_true true b e = refl
+    both_true false b e = cc
+
+    cut_off : Early now new (Some Full) early → IsCut early × Appends now new []
+    cut_off (by_right fault some e a) = let same : Full ≡ fault = cc in absurd (other (ap (λ (x : Ending). Err x) e ∙ ap (λ (f : Fault). Err (endings.Fault f)) (sym same)))
+    cut_off (refused_cut fault some how a) = (how, a)
+    cut_off (cut unrefused how) = absurd (cc)
+
+    by : (rest : List Order) (b : Bool) → wants_clean settings st of ≡ b → RunsBy honest settings st seen (λ shown. flush_with_room most settings st shown (behind_flush settings rest)) now new (Err early)
+    by rest false wants =
+        RunsBy-stops honest settings st seen Flush now new after bytes (λ shown. flush_with_room most settings st shown (behind_flush settings rest)) (behind_flush settings rest)
+        (leave true settings rest) early (of, is, runs, none) (room_made settings st of most (behind_flush settings rest) wants)
+    by rest true wants =
+        let full = full_of (refusal_of settings st of Flush) (both_true _ _ wants) in
+        let (how, a) = cut_off (early_by settings st of Flush now new early (Some Full) full runs) in
+        RunsBy-cut honest settings st seen (λ s shown. flush_with_room most settings s shown (behind_flush settings rest)) (leavable_room settings rest most) now new a early how
+
+module _ (honest : Bool) (settings : Settings) (first : Store) (file : List ℕ) (old : Option (List ℕ)) (most : ℕ) (st : Store) (seen : List ℕ) (now mid : Option (List ℕ))
+    (leads : LeadsRoom honest settings first file old (suc most) st seen now) (nothing : Appends now mid []) (of : List ℕ) (full : refusal_of settings st of Flush ≡ Some Full)
+    (new : Option (List ℕ)) (after : Store) (bytes : List ℕ) where
+  -- a clean is done
+  pub LeadsRoom-cleaned : (done : Unit {0}) → RunsOrder honest settings st seen Clean mid new (Ok done) after bytes → LeadsRoom honest settings first file old most after bytes new
+  LeadsRoom-cleaned done (at, is, runs, leaves) rest last end q =
+      leads rest last end (RunsBy-asked honest settings st seen (λ shown. flush_with_room (suc most) settings st shown (behind_flush settings rest)) now mid last nothing end
+      (RunsBy-goes_on honest settings st seen Clean mid new after bytes (λ shown. flush_with_room (suc most) settings st shown (behind_flush settings rest))
+      (λ s shown. flush_with_room most settings s shown (behind_flush settings rest)) done (at, is, runs, leaves)
+      (room_wanted settings st at most (behind_flush settings rest)
+      (wants_by settings st at (Some Full) None (full_alike settings st of at full) leaves.unrefused)) last end q))
+
+  -- it is refused
+  pub LeadsRoom-refused : (early result : Ending) → ((early ≡ endings.Fault NothingToClean) × (result ≡ endings.Fault Full)) ⊎ ((early ≢ endings.Fault NothingToClean) × (result ≡ early))
+      → RunsOrder honest settings st seen Clean mid new (Err early) after bytes → RunsFirst true honest settings first file (Flush ∷ []) old new (Err result) after bytes
+  LeadsRoom-refused early result want (at, is, runs, none) = λ rest.
+      leads rest new (Err result) (RunsBy-asked honest settings st seen (λ shown. flush_with_room (suc most) settings st shown (behind_flush settings rest)) now mid new nothing (Err result)
+      (by rest (refusal_of settings st at Clean) refl (early_by settings st at Clean mid new early (refusal_of settings st at Clean) refl runs) want))
+    where
+      full_here : refusal_of settings st at Flush ≡ Some Full
+      full_here = full_alike settings st of at full
+
+      -- the clean stands in front, and is refused so
+      stops : (rest : List Order) → wants_clean settings st at ≡ true
+          → RunsBy honest settings st seen (λ shown. flush_with_room (suc most) settings st shown (behind_flush settings rest)) mid new (Err early)
+      stops rest wants =
+          RunsBy-stops honest settings st seen Clean mid new after bytes (λ shown. flush_with_room (suc most) settings st shown (behind_flush settings rest))
+          (λ s shown. flush_with_room most settings s shown (behind_flush settings rest)) (leavable_room settings rest most) early (at, is, runs, none)
+          (room_wanted settings st at most (behind_flush settings rest) wants)
+
+      as_is : (rest : List Order) → result ≡ early → RunsBy honest settings st seen (λ shown. flush_with_room (suc most) settings st shown (behind_flush settings rest)) mid new (Err early)
+          → RunsBy honest settings st seen (λ shown. flush_with_room (suc most) settings st shown (behind_flush settings rest)) mid new (Err result)
+      as_is rest same p = subst (λ (x : Ending). RunsBy honest settings st seen (λ shown. flush_with_room (suc most) settings st shown (behind_flush settings rest)) mid new (Err x)) (sym same) p
+
+      -- the flush stands in front, and the log is full for it
+      flush_stops : (rest : List Order) → wants_clean settings st at ≡ false → Appends mid new []
+          → RunsBy honest settings st seen (λ shown. flush_with_room (suc most) settings st shown (behind_flush settings rest)) mid new (Err (endings.Fault Full))
+      flush_stops rest wants a =
+          RunsBy-stops honest settings st seen Flush mid new after bytes (λ shown. flush_with_room (suc most) settings st shown (behind_flush settings rest)) (behind_flush settings rest)
+          (leave true settings rest) (endings.Fault Full) (at, is, full_alone settings st at mid new full_here a, tt) (room_made settings st at (suc most) (behind_flush settings rest) wants)
+
+      wanted : (fault : Fault) → fault ≢ NothingToClean → (is_full (Some Full) && not (is_clean (Some fault))) ≡ true
+      wanted NothingToClean other = absurd (other refl)
+      wanted _ other = refl
+
+      not_clean : IsCut early → (early ≡ endings.Fault NothingToClean) → ⊥
+      not_clean (inl memory) e = cc
+      not_clean (inr device) e = cc
+
+      kept : IsCut early → ((early ≡ endings.Fault NothingToClean) × (result ≡ endings.Fault Full)) ⊎ ((early ≢ endings.Fault NothingToClean) × (result ≡ early)) → result ≡ early
+      kept how (inl (e, full_is)) = absurd (not_clean how e)
+      kept how (inr (other, same)) = same
+
+      by : (rest : List Order) (r : Option Fault) → refusal_of settings st at Clean ≡ r → Early mid new r early
+          → ((early ≡ endings.Fault NothingToClean) × (result ≡ endings.Fault Full)) ⊎ ((early ≢ endings.Fault NothingToClean) × (result ≡ early))
+          → RunsBy honest settings st seen (λ shown. flush_with_room (suc most) settings st shown (behind_flush settings rest)) mid new (Err result)
+      by rest r is_r (cut unrefused how) w = as_is rest (kept how w) (stops rest (wants_by settings st at (Some Full) None full_here (is_r ∙ unrefused)))
+      by rest r is_r (refused_cut fault some how a) w =
+          as_is rest (kept how w) (RunsBy-cut honest settings st seen (λ s shown. flush_with_room (suc most) settings s shown (behind_flush settings rest)) (leavable_room settings rest (suc most)) mid new a early how)
+      by rest r is_r (by_right fault some e a) (inl (nothing_left, full_is)) =
+          let same : fault ≡ NothingToClean = cc in
+          subst (λ (x : Ending). RunsBy honest settings st seen (λ shown. flush_with_room (suc most) settings st shown (behind_flush settings rest)) mid new (Err x)) (sym full_is)
+          (flush_stops rest (wants_by settings st at (Some Full) (Some NothingToClean) full_here (is_r ∙ some ∙ ap (λ (f : Fault). Some f) same)) a)
+      by rest r is_r (by_right fault some e a) (inr (other, same)) =
+          as_is rest same (stops rest (wants_by settings st at (Some Full) (Some fault) full_here (is_r ∙ some) ∙ wanted fault (λ (is_none : fault ≡ NothingToClean). other (e ∙ ap (λ (f : Fault). endings.Fault f) is_none))))
+
+-- an order that is a flush, where flushes make themselves room
+pub RunsFirst-roomy : (cleans honest : Bool) (settings : Settings) (st : Store) (left : List ℕ) (order : Order) (old new : Option (List ℕ)) (end : Result (Unit {0}) Ending) (now : Store)
+    (bytes : List ℕ) → (cleans && is_flush order) ≡ true → RunsFirst true honest settings st left (Flush ∷ []) old new end now bytes
+    → RunsFirst cleans honest settings st left (order ∷ []) old new end now bytes
+RunsFirst-roomy false honest settings st left order old new end now bytes both p = absurd (cc)
+RunsFirst-roomy true honest settings st left Flush old new end now bytes both p = p
+RunsFirst-roomy true honest settings st left (Batch cs) old new end now bytes both p = absurd (cc)
+RunsFirst-roomy true honest settings st left Clean old new end now bytes both p = absurd (cc)
+RunsFirst-roomy true honest settings st left Upgrade old new end now bytes both p = absurd (cc)
+RunsFirst-roomy true honest settings st left Verify old new end now bytes both p = absurd (cc)
+RunsFirst-roomy true honest settings st left Numbers old new end now bytes both p = absurd (cc)

@@ -1,0 +1,333 @@
+-- Lemmas on streams: lines that are read one after the other, and what they end.
+use Rattle.std.proofs.Common.{◌≡◌, ◌≢◌, ◌≤◌, ◌<◌, ◌+◌, ◌==◌, ◌⊎◌, inl, inr, ℕ, zero, suc, length, take, drop, Bool, true, false, cond, List, [], ◌∷◌, ◌++◌, map, Option, Some, None, IfSome, Result, Ok, Err, IfOk, refl, sym, ap, ◌∙◌, subst, append_assoc, append-nil, arith}
+use Rattle.std.specs.Prelude.{IsTrue, nat_lt}
+use Rattle.std.specs.Option.{option_map, option_or}
+use Rattle.std.specs.Io.BufRead.{DropsThrough, drop_through, take_through}
+use Rattle.std.specs.Io.KnownBytes.{Appends, IsAtEnd, Keeps}
+use Rattle.std.specs.declared.alloc.Global.{Global}
+use Rattle.std.proofs.KnownBytes.{Appends-nil}
+use Rattle.bstr.specs.Text.{line_len, lines_from, lines_of, without_terminator}
+use Rattle.keys.specs.Lists.{flat}
+use Rattle.keys.specs.declared.command.Command.{Command}
+use Rattle.crew.specs.Crew.{is_crew}
+use Rattle.keys.specs.declared.fault.Fault.{Fault}
+use Rattle.keys.specs.declared.fault.Fault.TheVariants.{BadCrew}
+use Rattle.keys.specs.declared.settings.Settings.{Settings}
+use Rattle.mapping.specs.Tree.{Store}
+use Rattle.flush_log.specs.Disk.{View}
+use Rattle.engine.specs.State.{State}
+use Rattle.bwsh.specs.declared.batch_file.Order.{Order}
+use Rattle.bwsh.specs.declared.batch_file.Order.TheVariants.{Batch, Flush, Clean, Upgrade, Verify}
+use Rattle.bwsh.specs.declared.line.Says.{Says}
+use Rattle.bwsh.specs.declared.line.Says.TheVariants.{Nothing, Go, Bad}
+use Rattle.bwsh.specs.declared.line.Says.TheVariants as says
+use Rattle.bwsh.specs.declared.line.Why.{Why}
+use Rattle.bwsh.specs.declared.options.asked.Ways.{Ways}
+use Rattle.bwsh.specs.declared.session.Ending.{Ending}
+use Rattle.bwsh.specs.declared.session.Ending.TheVariants.{Device}
+use Rattle.bwsh.specs.declared.session.Ending.TheVariants as endings
+use Rattle.bwsh.specs.BatchFile.{IsNextLine, ended_by, first_bad, last_order, lines, streamed, text_says, unended, with_numbers}
+use Rattle.bwsh.specs.Line.{bad_of, line_says}
+use Rattle.bwsh.specs.Options.{Told}
+use Rattle.bwsh.specs.Session.{AreLeft, IsHonestStore, IsStart, IsUnopened, Opens, Prints, Reads, Runs, RunsFirst, RunsOn, Start, Streams, StreamsFrom, StreamsOn, bad_ending, end_streamed, first_refusal, lines_after, orders_end, run_from, run_of, stopped_by, stream_end, stream_ended, stream_lines, without_value}
+use Rattle.bwsh.proofs.EndLemmas.{Prints-cut, leave_from, start_of, start_without_crew}
+use Rattle.bwsh.proofs.FirstLemmas.{RunsOn-cut, RunsOn-none}
+use Rattle.bwsh.proofs.Prints.{Prints-asked, Prints-flushed}
+use Rattle.bwsh.proofs.RunLemmas.{IsCut}
+
+-- ---- the lines of a text
+
+first_taken : (xs : List ℕ) → take (line_len xs) xs ≡ take_through 10 xs
+unfolding line_len
+first_taken [] = refl
+first_taken (x ∷ xs) = go (x == 10) (first_taken xs)
+  where
+    go : (b : Bool) → take (line_len xs) xs ≡ take_through 10 xs → take (cond b 1 (suc (line_len xs))) (x ∷ xs) ≡ cond b (x ∷ []) (x ∷ take_through 10 xs)
+    go true e = refl
+    go false e = ap (λ (l : List ℕ). x ∷ l) e
+
+first_dropped : (xs : List ℕ) → drop (line_len xs) xs ≡ drop_through 10 xs
+unfolding line_len
+first_dropped [] = refl
+first_dropped (x ∷ xs) = go (x == 10) (first_dropped xs)
+  where
+    go : (b : Bool) → drop (line_len xs) xs ≡ drop_through 10 xs → drop (cond b 1 (suc (line_len xs))) (x ∷ xs) ≡ cond b xs (drop_through 10 xs)
+    go true e = refl
+    go false e = e
+
+less_left : (x : ℕ) (xs : List ℕ) → length (drop_through 10 (x ∷ xs)) ≤ length xs
+less_left x [] = go (x == 10)
+  where
+    go : (b : Bool) → length (cond b [] (drop_through 10 [])) ≤ 0
+    go true = omega arith
+    go false = omega arith
+less_left x (y ∷ ys) = go (x == 10) (less_left y ys)
+  where
+    go : (b : Bool) → length (drop_through 10 (y ∷ ys)) ≤ length ys → length (cond b (y ∷ ys) (drop_through 10 (y ∷ ys))) ≤ length (y ∷ ys)
+    go true less = omega arith
+    go false less = omega (arith, less)
+
+-- more fuel makes no difference
+enough : (n m : ℕ) (xs : List ℕ) → length xs ≤ n → length xs ≤ m → lines_from n xs ≡ lines_from m xs
+unfolding lines_from
+enough zero zero xs a b = refl
+enough zero (suc m) [] a b = refl
+enough zero (suc m) (x ∷ xs) a b = absurd (omega (arith, a))
+enough (suc n) zero [] a b = refl
+enough (suc n) zero (x ∷ xs) a b = absurd (omega (arith, b))
+enough (suc n) (suc m) [] a b = refl
+enough (suc n) (suc m) (x ∷ xs) a b =
+    let less : length (drop (line_len (x ∷ xs)) (x ∷ xs)) ≤ length xs = subst (λ (l : List ℕ). length l ≤ length xs) (sym (first_dropped (x ∷ xs))) (less_left x xs) in
+    ap (λ (ls : List (List ℕ)). take (line_len (x ∷ xs)) (x ∷ xs) ∷ ls) (enough n m (drop (line_len (x ∷ xs)) (x ∷ xs)) (omega (arith, a, less)) (omega (arith, b, less)))
+
+lines_of-first : (x : ℕ) (xs : List ℕ) → lines_of (x ∷ xs) ≡ take_through 10 (x ∷ xs) ∷ lines_of (drop_through 10 (x ∷ xs))
+unfolding lines_from
+lines_of-first x xs =
+    let rest : List ℕ = drop (line_len (x ∷ xs)) (x ∷ xs) in
+    let less : length rest ≤ length xs = subst (λ (l : List ℕ). length l ≤ length xs) (sym (first_dropped (x ∷ xs))) (less_left x xs) in
+    ap (λ (l : List ℕ). l ∷ lines_from (length xs) rest) (first_taken (x ∷ xs))
+    ∙ ap (λ (ls : List (List ℕ)). take_through 10 (x ∷ xs) ∷ ls) (enough (length xs) (length rest) rest less (omega arith) ∙ ap lines_of (first_dropped (x ∷ xs)))
+
+-- what the first line says, and the others
+text_says-first : (bytes : List ℕ) → bytes ≢ [] → text_says bytes ≡ line_says (without_terminator (take_through 10 bytes)) ∷ text_says (drop_through 10 bytes)
+text_says-first [] some = absurd (some refl)
+text_says-first (x ∷ xs) some = ap (λ (ls : List (List ℕ)). map line_says (map without_terminator ls)) (lines_of-first x xs)
+
+text_says-none : text_says [] ≡ []
+unfolding lines_from
+text_says-none = refl
+
+-- ---- a line that is read
+
+-- the bytes up to a line feed were read behind nothing, and the others are left
+pub IsNextLine-read : (known left : Option (List ℕ)) (line : List ℕ) (n : ℕ) → IfSome known (λ xs. line ≡ take_through 10 xs) → DropsThrough known left 10
+    → (n ≡ 0 → IsAtEnd known) → length line ≡ n → (b : Bool) → nat_lt 0 n ≡ b → IsNextLine known left line b
+IsNextLine-read None left line n is rest at_end counted b some = tt
+IsNextLine-read (Some xs) left line n is rest at_end counted true some =
+    (λ none. let no_line : line ≡ [] = is ∙ ap (take_through 10) none in let zero_read : 0 ≡ n = sym (ap length no_line) ∙ counted in absurd (omega (arith, some, zero_read)), is, rest)
+IsNextLine-read (Some xs) left line n is rest at_end counted false none = at_end (omega (arith, none))
+
+-- behind what there was, which is nothing
+pub IsNextLine-got : (known left : Option (List ℕ)) (before line : List ℕ) (n : ℕ) → before ≡ [] → IfSome known (λ xs. line ≡ before ++ take_through 10 xs) → DropsThrough known left 10
+    → (n ≡ 0 → IsAtEnd known) → length line ≡ length before + n → IsNextLine known left line (nat_lt 0 n)
+IsNextLine-got known left before line n none is rest at_end counted =
+    let whole : length line ≡ 0 + n = subst (λ (b : List ℕ). length line ≡ length b + n) none counted in
+    IsNextLine-read known left line n (subst (λ (b : List ℕ). IfSome known (λ xs. line ≡ b ++ take_through 10 xs)) none is) rest at_end (omega (arith, whole)) (nat_lt 0 n) refl
+
+-- what known bytes that are left say, or anything
+pub some_said : (known : Option (List ℕ)) → (said : List Says) × IfSome known (λ text. said ≡ text_says text)
+some_said None = ([], tt)
+some_said (Some bytes) = (text_says bytes, refl)
+
+-- a line that says this was read
+pub said_first : (known left : Option (List ℕ)) (line : List ℕ) (said : Says) (rest : List Says) → IsNextLine known left line true → said ≡ line_says (without_terminator line)
+    → IfSome left (λ text. rest ≡ text_says text) → IfSome known (λ text. said ∷ rest ≡ text_says text)
+said_first None left line said rest next is others = tt
+said_first (Some bytes) left line said rest (some, line_is, left_is) is others =
+    let rest_is : rest ≡ text_says (drop_through 10 bytes) = subst (λ (o : Option (List ℕ)). IfSome o (λ text. rest ≡ text_says text)) left_is others in
+    ap (λ (s : Says). s ∷ rest) (is ∙ ap (λ (l : List ℕ). line_says (without_terminator l)) line_is)
+    ∙ ap (λ (ss : List Says). line_says (without_terminator (take_through 10 bytes)) ∷ ss) rest_is
+    ∙ sym (text_says-first bytes some)
+
+-- there was none
+pub said_none : (known left : Option (List ℕ)) (line : List ℕ) → IsNextLine known left line false → IfSome known (λ text. [] ≡ text_says text)
+said_none None left line none = tt
+said_none (Some bytes) left line none = sym (ap text_says none ∙ text_says-none)
+
+-- ---- what a line ends
+
+bad_by : (said : Says) (why : Why) → bad_of said ≡ Some why → said ≡ Bad why
+bad_by (Bad other) why e = let same : other ≡ why = cc in ap (λ (w : Why). Bad w) same
+bad_by Nothing why e = absurd (cc)
+bad_by (Says.Command command) why e = absurd (cc)
+bad_by Go why e = absurd (cc)
+bad_by says.Flush why e = absurd (cc)
+bad_by says.Clean why e = absurd (cc)
+bad_by says.Upgrade why e = absurd (cc)
+bad_by says.Verify why e = absurd (cc)
+
+grouped : (numbers : Bool) (pending : List (Command Global)) (order : Order) (rest : List Says)
+    → last_order pending ++ order ∷ streamed numbers [] rest ≡ (last_order pending ++ order ∷ []) ++ streamed numbers [] rest
+grouped numbers pending order rest = sym (append_assoc (last_order pending) (order ∷ []) (streamed numbers [] rest))
+
+streamed-first : (numbers : Bool) (pending : List (Command Global)) (said : Says) (rest : List Says) → bad_of said ≡ None
+    → streamed numbers pending (said ∷ rest) ≡ ended_by pending said ++ streamed numbers (unended pending (said ∷ [])) rest
+streamed-first numbers pending Nothing rest good = refl
+streamed-first numbers pending (Says.Command command) rest good = refl
+streamed-first numbers pending Go rest good = refl
+streamed-first numbers pending says.Flush rest good = grouped numbers pending Flush rest
+streamed-first numbers pending says.Clean rest good = grouped numbers pending Clean rest
+streamed-first numbers pending says.Upgrade rest good = grouped numbers pending Upgrade rest
+streamed-first numbers pending says.Verify rest good = grouped numbers pending Verify rest
+streamed-first numbers pending (Bad why) rest good = absurd (cc)
+
+first_bad-next : (n : ℕ) (said : Says) (rest : List Says) → bad_of said ≡ None → first_bad n (said ∷ rest) ≡ first_bad (n + 1) rest
+first_bad-next n Nothing rest good = refl
+first_bad-next n (Says.Command command) rest good = refl
+first_bad-next n Go rest good = refl
+first_bad-next n says.Flush rest good = refl
+first_bad-next n says.Clean rest good = refl
+first_bad-next n says.Upgrade rest good = refl
+first_bad-next n says.Verify rest good = refl
+first_bad-next n (Bad why) rest good = absurd (cc)
+
+-- ---- line after line
+
+-- What lines that are left say, of which the next has the number n, prints behind what stands there is, behind what stood there first, what all lines
+-- of the stream say.
+abbrev pub LeadsOn : Ways → Bool → Settings → Store → List ℕ → Option (List ℕ) → Option (List ℕ) → Settings → Store → List ℕ → List (Command Global) → ℕ → Option (List ℕ) → Option (List ℕ) → Type 0
+LeadsOn ways honest settings first file known old s st seen pending n left now =
+    (rest : List Says) → IfSome left (λ text. rest ≡ text_says text) → (new : Option (List ℕ)) (end : Result (Option (ℕ × Why)) Ending)
+    → RunsOn ways.clean_when_full honest s st seen (streamed ways.stat pending rest) now new (without_value end) → IfOk end (λ bad. bad ≡ first_bad n rest)
+    → StreamsOn ways honest settings first file known old new end
+
+-- before any line is read
+pub LeadsOn-first : (ways : Ways) (honest : Bool) (settings : Settings) (st : Store) (file : List ℕ) (known old : Option (List ℕ))
+    → LeadsOn ways honest settings st file known old settings st file [] 1 known old
+LeadsOn-first ways honest settings st file known old rest is new end runs bad = (rest, is, runs, bad)
+
+module _ (ways : Ways) (honest : Bool) (settings : Settings) (first : Store) (file : List ℕ) (known old : Option (List ℕ)) (s : Settings) (st : Store) (seen : List ℕ)
+    (pending : List (Command Global)) (n : ℕ) (left now : Option (List ℕ)) (leads : LeadsOn ways honest settings first file known old s st seen pending n left now) where
+  abbrev cleans : Bool
+  cleans = ways.clean_when_full
+
+  -- it ends early, before anything else is run
+  pub LeadsOn-cut : (early : Ending) → IsCut early → StreamsOn ways honest settings first file known old now (Err early)
+  LeadsOn-cut early cut =
+      let (rest, is) = some_said left in
+      leads rest is now (Err early) (RunsOn-cut cleans honest s st seen (streamed ways.stat pending rest) now early cut) tt
+
+  -- there is no line more: what is left is run
+  pub LeadsOn-rest : (more : Option (List ℕ)) (line : List ℕ) → IsNextLine left more line false → (new : Option (List ℕ)) (end : Result (Unit {0}) Ending) (after : Store) (bytes : List ℕ)
+      → RunsFirst cleans honest s st seen (with_numbers ways.stat (last_order pending)) now new end after bytes → (told : Result (Option (ℕ × Why)) Ending) → without_value told ≡ end
+      → IfOk told (λ bad. bad ≡ None) → StreamsOn ways honest settings first file known old new told
+  LeadsOn-rest more line none new (Ok done) after bytes runs told is bad =
+      let all = runs [] new (Ok tt) (RunsOn-none cleans honest s after bytes new) in
+      leads [] (said_none left more line none) new told
+      (subst (λ (r : Result (Unit {0}) Ending). RunsOn cleans honest s st seen (with_numbers ways.stat (last_order pending)) now new r) (sym is)
+      (subst (λ (os : List Order). RunsOn cleans honest s st seen os now new (Ok tt)) (append-nil (with_numbers ways.stat (last_order pending))) all)) bad
+  LeadsOn-rest more line none new (Err early) after bytes runs told is bad =
+      leads [] (said_none left more line none) new told
+      (subst (λ (r : Result (Unit {0}) Ending). RunsOn cleans honest s st seen (with_numbers ways.stat (last_order pending)) now new r) (sym is)
+      (subst (λ (os : List Order). RunsOn cleans honest s st seen os now new (Err early)) (append-nil (with_numbers ways.stat (last_order pending))) (runs []))) bad
+
+  module _ (more : Option (List ℕ)) (line : List ℕ) (next : IsNextLine left more line true) (said : Says) (said_is : said ≡ line_says (without_terminator line)) where
+    -- the line is bad
+    pub LeadsOn-bad : (why : Why) → bad_of said ≡ Some why → StreamsOn ways honest settings first file known old now (Ok (Some (n, why)))
+    LeadsOn-bad why is_bad =
+        let bad = bad_by said why is_bad in
+        let (rest, is) = some_said more in
+        leads (Bad why ∷ rest) (said_first left more line (Bad why) rest next (sym bad ∙ said_is) is) now (Ok (Some (n, why))) (RunsOn-none cleans honest s st seen now) refl
+
+    module _ (good : bad_of said ≡ None) (new : Option (List ℕ)) (after : Store) (bytes : List ℕ) where
+      -- what it ends is not all done
+      pub LeadsOn-stops : (early : Ending) → RunsFirst cleans honest s st seen (ended_by pending said) now new (Err early) after bytes
+          → StreamsOn ways honest settings first file known old new (Err early)
+      LeadsOn-stops early runs =
+          let (rest, is) = some_said more in
+          leads (said ∷ rest) (said_first left more line said rest next said_is is) new (Err early)
+          (subst (λ (os : List Order). RunsOn cleans honest s st seen os now new (Err early)) (sym (streamed-first ways.stat pending said rest good))
+          (runs (streamed ways.stat (unended pending (said ∷ [])) rest))) tt
+
+      -- what it ends is done
+      pub LeadsOn-next : (done : Unit {0}) → RunsFirst cleans honest s st seen (ended_by pending said) now new (Ok done) after bytes → (behind : List (Command Global)) → behind ≡ unended pending (said ∷ [])
+          → LeadsOn ways honest settings first file known old s after bytes behind (n + 1) more new
+      LeadsOn-next done runs behind behind_is rest is last end further bad =
+          let on = subst (λ (p : List (Command Global)). RunsOn cleans honest s after bytes (streamed ways.stat p rest) new last (without_value end)) behind_is further in
+          leads (said ∷ rest) (said_first left more line said rest next said_is is) last end
+          (subst (λ (os : List Order). RunsOn cleans honest s st seen os now last (without_value end)) (sym (streamed-first ways.stat pending said rest good))
+          (runs (streamed ways.stat (unended pending (said ∷ [])) rest) last (without_value end) on))
+          (counted end bad)
+        where
+          counted : (e : Result (Option (ℕ × Why)) Ending) → IfOk e (λ b. b ≡ first_bad (n + 1) rest) → IfOk e (λ b. b ≡ first_bad n (said ∷ rest))
+          counted (Ok b) is_bad = is_bad ∙ sym (first_bad-next n said rest good)
+          counted (Err early) is_bad = tt
+
+-- ---- the whole stream
+
+-- the bad line is told where all before it is done
+ended_right : (r : Option Fault) (bad : Option (ℕ × Why)) (end : Result (Option (ℕ × Why)) Ending) → without_value end ≡ stopped_by (option_map (λ fault. endings.Fault fault) r)
+    → IfOk end (λ b. b ≡ bad) → stream_ended end ≡ stopped_by (option_or (option_map (λ fault. endings.Fault fault) r) (option_map bad_ending bad))
+ended_right None bad (Ok b) same is = ap (λ (o : Option (ℕ × Why)). stopped_by (option_map bad_ending o)) is
+ended_right None bad (Err early) same is = absurd (cc)
+ended_right (Some fault) bad (Ok b) same is = absurd (cc)
+ended_right (Some fault) bad (Err early) same is = same
+
+Prints-streamed : (old new : Option (List ℕ)) (printed : List (List ℕ)) (r : Option Fault) (bad : Option (ℕ × Why)) (end : Result (Option (ℕ × Why)) Ending)
+    → Prints old new printed (stopped_by (option_map (λ fault. endings.Fault fault) r)) (without_value end) → IfOk end (λ b. b ≡ bad)
+    → Prints old new printed (stopped_by (option_or (option_map (λ fault. endings.Fault fault) r) (option_map bad_ending bad))) (stream_ended end)
+Prints-streamed old new printed r bad end (inl (e, a)) is = inl (ended_right r bad end e is, a)
+Prints-streamed old new printed r bad (Ok b) (inr (inl (e, p))) is = absurd (cc)
+Prints-streamed old new printed r bad (Ok b) (inr (inr (e, p))) is = absurd (cc)
+Prints-streamed old new printed r bad (Err early) (inr (inl (e, p))) is = inr (inl (e, p))
+Prints-streamed old new printed r bad (Err early) (inr (inr (e, p))) is = inr (inr (e, p))
+
+-- there is no store: nothing is printed
+Prints-no_store : (old : Option (List ℕ)) (shown : Reads) (orders : List Order) (bad : Option (ℕ × Why)) (start : Start) (early : Ending) → IsUnopened start early
+    → Prints old old (lines_after None start shown orders) (end_streamed bad start shown orders) (Err early)
+Prints-no_store old shown orders bad start early (inl (fault, is, e)) = rw (is, e) (inl (refl, Appends-nil old))
+Prints-no_store old shown orders bad start early (inr (inl e)) = inr (inl (ap (λ (x : Ending). Err x) e, ([], (lines_after None start shown orders, refl), Appends-nil old)))
+Prints-no_store old shown orders bad start early (inr (inr e)) = inr (inr (ap (λ (x : Ending). Err x) e, ([], (flat (lines_after None start shown orders), refl), Appends-nil old)))
+
+module _ (ways : Ways) (known old : Option (List ℕ)) (start : Start) {D : Type 0} (view : D → View) (opened : Result (State D) Ending) (opens : Opens view start opened) where
+  -- there is no store
+  pub StreamsFrom-unopened : (early : Ending) → opened ≡ Err early → StreamsFrom ways (IsHonestStore view opened) start known old old (Err early)
+  unfolding StreamsFrom
+  StreamsFrom-unopened early e =
+      let (said, is) = some_said known in
+      let orders : List Order = streamed ways.stat [] said in
+      let (shown, are) = leave_from ways.clean_when_full start orders in
+      (said, is, shown, λ h. are, Prints-no_store old shown (run_from ways.clean_when_full start shown orders) (first_bad 1 said) start early (subst (Opens view start) e opens))
+
+  -- there is one: the lines are run on it
+  pub StreamsFrom-opened : (x : State D) (mid new : Option (List ℕ)) (done : Result (Option (ℕ × Why)) Ending) (end : Result (Unit {0}) Ending) → opened ≡ Ok x
+      → StreamsOn ways (view x.disk).is_honest x.settings x.store (view x.disk).seen known old mid done → Keeps mid new → (end ≡ stream_ended done) ⊎ (end ≡ Err Device)
+      → StreamsFrom ways (IsHonestStore view opened) start known old new end
+  unfolding StreamsFrom Runs
+  StreamsFrom-opened x mid new done end e (said, is, (shown, are, runs), bad) kept ended =
+      let (file, start_is, seen_is) = subst (Opens view start) e opens in
+      let orders : List Order = run_of ways.clean_when_full x.settings x.store shown (streamed ways.stat [] said) in
+      let is_left : IsHonestStore view opened → AreLeft x.settings x.store file shown orders = λ honest.
+      let h : IsTrue (view x.disk).is_honest = subst (IsHonestStore view) e honest in
+      subst (λ (f : List ℕ). AreLeft x.settings x.store f shown orders) (seen_is h) (are h) in
+      rw start_is (
+        said,
+        is,
+        shown,
+        is_left,
+        Prints-flushed old mid new (lines_after None (Ok (x.settings, (x.store, file))) shown orders) (end_streamed (first_bad 1 said) (Ok (x.settings, (x.store, file))) shown orders)
+            (stream_ended done) end (Prints-streamed old mid _ (first_refusal x.settings x.store shown orders) (first_bad 1 said) done runs bad) kept ended,
+      )
+
+-- ---- what is right for a stream
+
+module _ (told : Told) (known old : Option (List ℕ)) where
+  -- it ends before any line is run, for want of memory or since a device failed
+  pub Streams-cut : (early : Ending) → IsCut early → Streams told known old old (Err early)
+  unfolding Streams
+  Streams-cut early cut =
+      let (said, is_known) = some_said known in
+      let (start, is) = start_of (is_crew told.crew) told.settings told.disk told.create in
+      let (shown, are) = leave_from told.ways.clean_when_full start (streamed told.ways.stat [] said) in
+      (said, is_known, start, is, shown, λ memory. are, Prints-cut old (stream_lines told start shown said) (stream_end told start shown said) early cut)
+
+  -- the crew is out of range
+  pub Streams-no_crew : is_crew told.crew ≡ false → Streams told known old old (Err (endings.Fault BadCrew))
+  unfolding Streams
+  Streams-no_crew out_of_range =
+      let (said, is_known) = some_said known in
+      let start : Start = Err BadCrew in
+      (said, is_known, start, start_without_crew told out_of_range, λ i. [], λ memory. tt, inl (refl, Appends-nil old))
+
+-- it is run from a right start
+pub Streams-run : (told : Told) (known old new : Option (List ℕ)) (end : Result (Unit {0}) Ending) (start : Start) → IsStart told start → (IsHonest : Type 0) → (told.disk ≡ None → IsHonest)
+    → StreamsFrom told.ways IsHonest start known old new end → Streams told known old new end
+unfolding Streams StreamsFrom
+Streams-run told known old new end start is IsHonest honest (said, is_known, shown, are, p) = (said, is_known, start, is, shown, λ memory. are (honest memory), p)
+
+-- nothing was appended first
+pub Streams-asked : (old mid new : Option (List ℕ)) → Appends old mid [] → (told : Told) (known : Option (List ℕ)) (end : Result (Unit {0}) Ending) → Streams told known mid new end
+    → Streams told known old new end
+unfolding Streams
+Streams-asked old mid new asked told known end (said, is_known, start, is, shown, is_shown, p) =
+    (said, is_known, start, is, shown, is_shown, Prints-asked old mid new asked (stream_lines told start shown said) (stream_end told start shown said) end p)

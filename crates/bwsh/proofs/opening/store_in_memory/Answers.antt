@@ -1,0 +1,8 @@
+use Rattle.std.proofs.Common.{rules}
+use Rattle.std.specs.Prelude.{replicate}
+use Rattle.flush_log.specs.Segments.{disk_size}
+use Rattle.bwsh.proofs.opening.store_in_memory.Goals as goal
+
+-- the new disk has zeros
+pub returns-clause-opens : goal.returns-clause-opens
+returns-clause-opens c = c.store_made.ensures.opens (replicate (disk_size c.args.settings) 0) (λ honest. search rules)

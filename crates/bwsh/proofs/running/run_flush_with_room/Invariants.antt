@@ -1,0 +1,17 @@
+use Rattle.std.proofs.Common.{◌≡◌, false}
+use Rattle.bwsh.proofs.RoomLemmas.{LeadsRoom}
+use Rattle.bwsh.proofs.running.run_flush_with_room.Given as goal
+
+-- what a flush prints of the store that is there, with as many cleans in front of it at most as are left, is behind what was printed what this one prints
+abbrev pub invariant-room : goal.invariant-room
+invariant-room g l = record {
+  settings : l.store.settings ≡ l.fn.store.settings;
+  honest : (g.D.Disk.view l.store.disk).is_honest ≡ (g.D.Disk.view l.fn.store.disk).is_honest;
+  fine : l.store.has_failed ≡ false;
+  same : l.fn.store.has_failed ≡ false;
+  leads : LeadsRoom (g.D.Disk.view l.fn.store.disk).is_honest l.fn.store.settings l.fn.store.store (g.D.Disk.view l.fn.store.disk).seen (g.O.Write.contents l.fn.out)
+      l.left l.store.store (g.D.Disk.view l.store.disk).seen (g.O.Write.contents l.out);
+}
+
+abbrev pub decreases-room : goal.decreases-room
+decreases-room g l = l.left

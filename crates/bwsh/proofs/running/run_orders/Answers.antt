@@ -1,0 +1,46 @@
+use Rattle.std.proofs.Common.{◌+◌, ◌∙◌, drop, arith, refl}
+use Rattle.std.proofs.lemmas.Result.{err_from_is_err_and}
+use Rattle.std.proofs.lemmas.List.{drop_all}
+use Rattle.bwsh.proofs.FirstLemmas.{Leads-stops, Leads-goes_on, Leads-done}
+use Rattle.bwsh.proofs.RunLemmas.{orders_left}
+use Rattle.bwsh.proofs.running.run_orders.Goals as goal
+
+pub loop-order-init : goal.loop-order-init
+loop-order-init g c = record { settings = refl; honest = refl; fine = c.requires.fine; leads = λ new end runs. runs }
+
+pub returns-in_err-run_order : goal.returns-in_err-run_order
+returns-in_err-run_order g c =
+    let store = c.args.store.now in
+    let disk = g.D.Disk.view store.disk in
+    let at = c.loop-order in
+    let now = g.D.Disk.view at.store.disk in
+    let orders = c.args.orders.now in
+    let p = err_from_is_err_and c.from_residual.result c.from_residual.ensures.1 in
+    rw (p.1, p.2) (Leads-stops c.args.cleans disk.is_honest store.settings store.store at.store.store disk.seen now.seen orders _ _ _ at.invariant.leads c.order-item.result (drop (at.order-index + 1) orders)
+    (orders_left orders at.order-index c.order-item.result c.loop-order-test.true c.order-item.is) now.is_honest at.invariant.honest at.store.settings at.invariant.settings _ _
+    c.run_order.new.store.store (g.D.Disk.view c.run_order.new.store.disk).seen c.in_err-run_order.ensures.runs _ refl)
+
+pub loop-order-preserved : goal.loop-order-preserved
+loop-order-preserved g c =
+    let store = c.args.store.now in
+    let disk = g.D.Disk.view store.disk in
+    let at = c.loop-order in
+    let now = g.D.Disk.view at.store.disk in
+    let orders = c.args.orders.now in
+    let ok = c.in_ok-run_order.ensures in
+    record {
+      settings = ok.settings ∙ at.invariant.settings;
+      honest = ok.honest ∙ at.invariant.honest;
+      fine = ok.failed ∙ at.invariant.fine;
+      leads = Leads-goes_on c.args.cleans disk.is_honest store.settings store.store at.store.store disk.seen now.seen orders _ _ _ at.invariant.leads c.order-item.result (drop (at.order-index + 1) orders)
+          (orders_left orders at.order-index c.order-item.result c.loop-order-test.true c.order-item.is) now.is_honest at.invariant.honest at.store.settings at.invariant.settings _ _ _ _ ok.runs _ refl;
+    }
+
+pub returns : goal.returns
+returns g c =
+    let store = c.args.store.now in
+    let disk = g.D.Disk.view store.disk in
+    let orders = c.args.orders.now in
+    let at = c.loop-order in
+    Leads-done c.args.cleans disk.is_honest store.settings store.store at.store.store disk.seen (g.D.Disk.view at.store.disk).seen orders (drop at.order-index orders) _ _ at.invariant.leads
+    (drop_all at.order-index orders (omega arith))

@@ -1,6 +1,0 @@
-use Rattle.bwsh.proofs.session.store_in_file.Goals as goal
-
-pub returns-in-Ok-clause-opens : goal.returns-in-Ok-clause-opens
-returns-in-Ok-clause-opens g c =
-    let (file, read, opens) = c.store_found.ensures.opens in
-    (file, opens)
