@@ -1,0 +1,253 @@
+#!/usr/bin/env python3
+"""Measures commands a second from Python: the client beside sqlite3, LMDB and dbm.gnu; README.md says how."""
+
+import argparse
+import contextlib
+import importlib
+import json
+import random
+import sqlite3
+import statistics
+import sys
+import tempfile
+import time
+from abc import ABC, abstractmethod
+from collections.abc import Callable, Iterator, Sequence
+from dataclasses import dataclass
+from pathlib import Path
+
+from crew import table
+
+HERE = Path(__file__).resolve().parent
+sys.path.insert(0, str(HERE.parent / "clients/python"))
+
+from taukremil import Get, Put, Reply, Store  # noqa: E402
+
+PROGRAM = HERE.parent / "crates/bwsh/out/bwsh"
+BATCHES = (1, 100, 10_000)
+PAIRS = 50_000
+CALLS = 2_000  # batches at the most, so that batches of one end in time
+SETTINGS = {"fan": 64, "chain": 16, "seg_size": 1_048_576, "segments": 256}
+MAP_SIZE = 1 << 30  # bytes that LMDB may map
+Pair = tuple[bytes, bytes]
+
+
+class Peer(ABC):
+    """A store in a new folder. With `each` every batch lasts when its call returns, else all do once `settle` has."""
+
+    @abstractmethod
+    def put(self, batch: list[Pair]) -> None:
+        ...
+
+    @abstractmethod
+    def get(self, batch: list[bytes]) -> Sequence[Reply]:
+        ...
+
+    @abstractmethod
+    def settle(self) -> None:
+        ...
+
+    @abstractmethod
+    def close(self) -> None:
+        ...
+
+
+class Client(Peer):
+    """`bwsh`, at the other end of two pipes."""
+
+    def __init__(self, program: Path, folder: Path, each: bool) -> None:
+        self.store, self.each = Store(folder / "store", create=True, program=program, **SETTINGS), each
+
+    def put(self, batch: list[Pair]) -> None:
+        self.store.batch([Put(key, value) for key, value in batch])
+        if self.each:
+            self.store.flush()
+
+    def get(self, batch: list[bytes]) -> Sequence[Reply]:
+        return self.store.batch([Get(key) for key in batch])
+
+    def settle(self) -> None:
+        self.store.flush()
+
+    def close(self) -> None:
+        self.store.close()
+
+
+class Sqlite(Peer):
+    """SQLite with a WAL, and a transaction a batch."""
+
+    def __init__(self, folder: Path, each: bool) -> None:
+        self.database = sqlite3.connect(folder / "pairs.db", isolation_level=None)
+        self.database.execute("PRAGMA journal_mode = WAL")
+        self.database.execute(f"PRAGMA synchronous = {'FULL' if each else 'NORMAL'}")  # NORMAL syncs checkpoints alone
+        self.database.execute("CREATE TABLE pairs (key BLOB PRIMARY KEY, value BLOB) WITHOUT ROWID")
+
+    def put(self, batch: list[Pair]) -> None:
+        self.database.execute("BEGIN")
+        self.database.executemany("INSERT OR REPLACE INTO pairs VALUES (?, ?)", batch)
+        self.database.execute("COMMIT")
+
+    def get(self, batch: list[bytes]) -> Sequence[Reply]:
+        ask = "SELECT value FROM pairs WHERE key = ?"
+        self.database.execute("BEGIN")
+        found = [self.database.execute(ask, (key,)).fetchone()[0] for key in batch]
+        self.database.execute("COMMIT")
+        return found
+
+    def settle(self) -> None:
+        self.database.execute("PRAGMA wal_checkpoint(TRUNCATE)")
+
+    def close(self) -> None:
+        self.database.close()
+
+
+class Lmdb(Peer):
+    """LMDB, by the package `lmdb`, and a transaction a batch."""
+
+    def __init__(self, folder: Path, each: bool) -> None:
+        self.environment = importlib.import_module("lmdb").open(str(folder), map_size=MAP_SIZE, sync=each)
+
+    def put(self, batch: list[Pair]) -> None:
+        with self.environment.begin(write=True) as transaction:
+            for key, value in batch:
+                transaction.put(key, value)
+
+    def get(self, batch: list[bytes]) -> Sequence[Reply]:
+        with self.environment.begin() as transaction:
+            return [transaction.get(key) for key in batch]
+
+    def settle(self) -> None:
+        self.environment.sync(True)
+
+    def close(self) -> None:
+        self.environment.close()
+
+
+class Dbm(Peer):
+    """GDBM, by Python's `dbm.gnu`. It has no batches: a crash may leave some of one."""
+
+    def __init__(self, folder: Path, each: bool) -> None:
+        self.file, self.each = importlib.import_module("dbm.gnu").open(str(folder / "pairs"), "nf"), each
+
+    def put(self, batch: list[Pair]) -> None:
+        for key, value in batch:
+            self.file[key] = value
+        if self.each:
+            self.file.sync()
+
+    def get(self, batch: list[bytes]) -> Sequence[Reply]:
+        return [self.file[key] for key in batch]
+
+    def settle(self) -> None:
+        self.file.sync()
+
+    def close(self) -> None:
+        self.file.close()
+
+
+Open = Callable[[Path, bool], Peer]
+
+
+def peers(program: Path) -> dict[str, Open]:
+    """Returns all that is measured, by name. What needs a package that isn't there is left out."""
+    found: dict[str, Open] = {
+        "bwsh, by its client": lambda folder, each: Client(program, folder, each),
+        "sqlite3, WAL": Sqlite,
+    }
+    for name, module, peer in (("LMDB", "lmdb", Lmdb), ("GDBM", "dbm.gnu", Dbm)):
+        try:
+            importlib.import_module(module)
+        except ImportError as error:
+            print(f"{name} is left out: {error}", file=sys.stderr)
+        else:
+            found[name] = peer
+    return found
+
+
+@dataclass(frozen=True)
+class Rates:
+    """Commands a second, by the clock: puts until all of them last, and gets of the same keys in another order."""
+
+    puts: float
+    gets: float
+
+
+def pieces(items: list, length: int) -> Iterator[list]:
+    for start in range(0, len(items), length):
+        yield items[start : start + length]
+
+
+def pairs(count: int) -> list[Pair]:
+    """Pairs of 16 and 100 bytes, in no order of the keys."""
+    source = random.Random(2)
+    return [(source.randbytes(8).hex().encode(), source.randbytes(50).hex().encode()) for _ in range(count)]
+
+
+def measure_once(opened: Open, all_pairs: list[Pair], batch: int, each: bool, folder: Path | None) -> Rates:
+    chosen = all_pairs[: batch * CALLS]
+    shuffled = random.Random(3).sample(chosen, len(chosen))
+    with tempfile.TemporaryDirectory(dir=folder) as made, contextlib.closing(opened(Path(made), each)) as peer:
+        start = time.monotonic()
+        for some in pieces(chosen, batch):
+            peer.put(some)
+        peer.settle()
+        done = time.monotonic()
+        got = [value for some in pieces(shuffled, batch) for value in peer.get([key for key, _ in some])]
+        end = time.monotonic()
+    if got != [value for _, value in shuffled]:
+        sys.exit(f"{opened}: other values come back")
+    return Rates(len(chosen) / (done - start), len(chosen) / (end - done))
+
+
+def measure(options: argparse.Namespace) -> dict[str, dict[str, list[float]]]:
+    """Returns each store's median rates by way and batch size. They take turns, so that all meet what else runs."""
+    all_pairs, found = pairs(options.pairs), peers(options.program)
+    taken: dict[tuple[str, bool, int], list[Rates]] = {}
+    for _ in range(options.repeats):
+        for batch in BATCHES:
+            for each in (True, False):
+                for name, opened in found.items():
+                    rates = measure_once(opened, all_pairs, batch, each, options.folder)
+                    taken.setdefault((name, each, batch), []).append(rates)
+
+    def median(name: str, each: bool, of: Callable[[Rates], float]) -> list[float]:
+        return [statistics.median(map(of, taken[name, each, batch])) for batch in BATCHES]
+
+    return {
+        name: {
+            "puts, a flush a batch": median(name, True, lambda rates: rates.puts),
+            "puts, a flush at the end": median(name, False, lambda rates: rates.puts),
+            "gets": median(name, False, lambda rates: rates.gets),
+        }
+        for name in found
+    }
+
+
+def show(figures: dict[str, dict[str, list[float]]]) -> None:
+    """Prints commands a second, in each cell for batches of 1, 100 and 10,000."""
+    ways = list(next(iter(figures.values())))
+    rows = [
+        [name, *(" · ".join(f"{rate:,.0f}" for rate in rates[way]) for way in ways)] for name, rates in figures.items()
+    ]
+    table(["commands a second", *ways], rows)
+
+
+def main() -> None:
+    parser = argparse.ArgumentParser(description=__doc__)
+    parser.add_argument("--program", type=Path, default=PROGRAM, help="the built program")
+    parser.add_argument("--pairs", type=int, default=PAIRS, help=f"with batches of one {CALLS} at the most")
+    parser.add_argument("--repeats", type=int, default=3, help="of which each figure is the median")
+    parser.add_argument("--folder", type=Path, help="where the stores stand, on the disk that is to be measured")
+    parser.add_argument("--figures", type=Path, help="where the figures are written too, as JSON")
+    options = parser.parse_args()
+    options.program = options.program.resolve()
+    if not options.program.exists():
+        sys.exit(f"{options.program} is missing: `rt run` in crates/bwsh builds it")
+    figures = measure(options)
+    if options.figures:
+        options.figures.write_text(json.dumps(figures, indent=1) + "\n")
+    show(figures)
+
+
+if __name__ == "__main__":
+    main()

@@ -1,0 +1,617 @@
+"""Tests of the client on the program: that of the variable BWSH, or else the one that the gate has built."""
+
+from __future__ import annotations
+
+import os
+import random
+import signal
+import subprocess
+import sys
+import tempfile
+import threading
+import time
+import unittest
+from bisect import bisect_left, insort
+from collections.abc import Callable
+from dataclasses import dataclass, field
+from pathlib import Path
+
+import taukremil
+from taukremil import Add, Command, Del, Get, Killed, Put, Refused, Reply, Report, Row, Scan, Store, StoreError, Wipe
+
+PROGRAM = Path(os.environ.get("BWSH", Path(__file__).resolve().parents[2] / "crates/bwsh/out/bwsh")).absolute()
+SMALL = {
+    "fan": 8,
+    "chain": 4,
+    "max_key": 16,
+    "max_value": 64,
+    "seg_size": 1024,
+}  # small pages, cut and merged all the time
+MEMORY = Path("/dev/shm")  # where a sync takes no time, so that a kill falls anywhere
+
+
+def new_folder() -> tempfile.TemporaryDirectory[str]:
+    return tempfile.TemporaryDirectory(dir=MEMORY if MEMORY.is_dir() else None)
+
+
+def kill(store: Store) -> None:
+    """Ends the program of a store as no program of its own does."""
+    assert store.pid is not None
+    os.kill(store.pid, signal.SIGKILL)
+
+
+@dataclass
+class Model:
+    """What a store has to answer: a dict, and its keys in order."""
+
+    values: dict[bytes, bytes] = field(default_factory=dict)
+    keys: list[bytes] = field(default_factory=list)
+
+    def copy(self) -> Model:
+        return Model(dict(self.values), list(self.keys))
+
+    def put(self, key: bytes, value: bytes) -> bool:
+        is_new = key not in self.values
+        if is_new:
+            insort(self.keys, key)
+        self.values[key] = value
+        return is_new
+
+    def delete(self, key: bytes) -> bool:
+        if self.values.pop(key, None) is None:
+            return False
+        del self.keys[bisect_left(self.keys, key)]
+        return True
+
+    def within(self, lo: bytes, hi: bytes | None) -> list[bytes]:
+        end = len(self.keys) if hi is None else bisect_left(self.keys, hi)
+        return self.keys[bisect_left(self.keys, lo) : end]
+
+    def wipe(self, lo: bytes, hi: bytes | None) -> int:
+        gone = self.within(lo, hi)
+        for key in gone:
+            self.delete(key)
+        return len(gone)
+
+    def rows(self, lo: bytes = b"", hi: bytes | None = None, limit: int = taukremil.MOST_ROWS) -> list[Row]:
+        return [(key, self.values[key]) for key in self.within(lo, hi)[:limit]]
+
+    def reply(self, command: Command[Reply]) -> Reply:
+        if isinstance(command, Put):
+            return self.put(command.key, command.value)
+        if isinstance(command, Add):
+            return command.key not in self.values and self.put(command.key, command.value)
+        if isinstance(command, Get):
+            return self.values.get(command.key)
+        if isinstance(command, Del):
+            return self.delete(command.key)
+        if isinstance(command, Scan):
+            return self.rows(command.lo, command.hi, command.limit)
+        assert isinstance(command, Wipe)
+        return self.wipe(command.lo, command.hi)
+
+
+class Chance:
+    """Commands by chance, on few keys, of which some have bytes that are written with escapes."""
+
+    def __init__(self, seed: int) -> None:
+        self.source = random.Random(seed)
+        self.keys = [b"k%d" % number for number in range(400)] + [b"", b"*", b"%", b"#", b"\n", b"\xff\x00 \r\n"]
+        self.keys += [self.source.randbytes(self.source.randint(1, 16)) for _ in range(200)]
+
+    def key(self) -> bytes:
+        return self.source.choice(self.keys)
+
+    def value(self) -> bytes:
+        length = self.source.randint(0, 64)
+        return self.source.randbytes(length) if self.source.random() < 0.2 else b"v" * length
+
+    def bounds(self) -> tuple[bytes, bytes | None]:
+        lo, hi = sorted((self.key(), self.key()))
+        return lo, None if self.source.random() < 0.05 else hi
+
+    def range(self) -> tuple[bytes, bytes]:
+        """Returns a range of few keys."""
+        at = self.source.randrange(400)
+        return b"k%d" % at, b"k%d~" % at
+
+    def command(self) -> Command[Reply]:
+        kinds: list[Callable[[], Command[Reply]]] = [
+            lambda: Put(self.key(), self.value()),
+            lambda: Add(self.key(), self.value()),
+            lambda: Get(self.key()),
+            lambda: Del(self.key()),
+            lambda: Scan(*self.bounds(), self.source.choice((0, 1, 5, 20))),
+            lambda: Wipe(*self.range()),
+        ]
+        return self.source.choices(kinds, (8, 4, 8, 4, 1, 1))[0]()
+
+    def batch(self) -> list[Command[Reply]]:
+        return [self.command() for _ in range(self.source.choice((1, 2, 10, 100, 1_000)))]
+
+
+class StoreTest(unittest.TestCase):
+    """Each test has a folder of its own, in which a store stands."""
+
+    def setUp(self) -> None:
+        folder = new_folder()
+        self.addCleanup(folder.cleanup)
+        self.folder = Path(folder.name)
+        self.path = self.folder / "store"
+
+    def store(self, create: bool = False, **settings: int) -> Store:
+        store = Store(self.path, create=create, program=PROGRAM, **settings)
+        self.addCleanup(store.close)
+        return store
+
+
+class Replies(StoreTest):
+    def test_each_command_has_its_reply(self) -> None:
+        store = self.store(create=True)
+        batch: list[Command[Reply]] = [
+            Get(b"a"),
+            Put(b"a", b"1"),
+            Put(b"a", b"2"),
+            Get(b"a"),
+            Add(b"a", b"3"),
+            Add(b"b", b"4"),
+            Scan(b"", None, 10),
+            Scan(b"", b"b", 10),
+            Scan(limit=0),
+            Del(b"a"),
+            Del(b"a"),
+            Wipe(b"a", b"c"),
+            Wipe(),
+        ]
+        rows = [(b"a", b"2"), (b"b", b"4")]
+        due: list[Reply] = [None, True, False, b"2", False, True, rows, rows[:1], [], True, False, 1, 0]
+        self.assertEqual(store.batch(batch), due)
+        self.assertEqual(store.batch([]), [])
+
+    def test_calls_of_one_command(self) -> None:
+        store = self.store(create=True)
+        self.assertIsNone(store.get(b"a"))
+        self.assertTrue(store.put(b"a", b"1"))
+        self.assertFalse(store.put(b"a", b"2"))
+        self.assertFalse(store.add(b"a", b"3"))
+        self.assertTrue(store.add(b"b", b"4"))
+        self.assertEqual(store.get(b"a"), b"2")
+        self.assertEqual(store.scan(), [(b"a", b"2"), (b"b", b"4")])
+        self.assertEqual(store.scan(b"b", None, 1), [(b"b", b"4")])
+        self.assertTrue(store.delete(b"a"))
+        self.assertFalse(store.delete(b"a"))
+        self.assertEqual(store.wipe(), 1)
+        self.assertEqual(store.unflushed, 7)  # those that write
+
+    def test_all_bytes_are_keys_and_values(self) -> None:
+        store = self.store(create=True)
+        words = [
+            b"",
+            *(bytes([byte]) for byte in range(256)),
+            bytes(range(64)),
+            b"put a 1\nflush",
+            b"\\x41\\n \\",
+            b"%41",
+            b"100%",
+            "ü".encode(),
+        ]
+        store.batch([Put(word, word) for word in words])
+        self.assertEqual(store.batch([Get(word) for word in words]), words)
+        self.assertEqual(store.scan(), [(word, word) for word in sorted(words)])
+
+    def test_a_star_is_a_bound_as_any_other_key(self) -> None:
+        store = self.store(create=True)
+        store.batch([Put(key, b"") for key in (b"#", b"*", b"+")])
+        self.assertEqual(store.scan(b"", b"*"), [(b"#", b"")])
+        self.assertEqual(store.wipe(b"*", None), 2)
+
+    def test_what_is_no_command_is_not_sent(self) -> None:
+        store = self.store(create=True)
+        store.put(b"a", b"1")
+        with self.assertRaises(ValueError):
+            store.scan(limit=-1)
+        with self.assertRaises(TypeError):
+            store.put("a", b"1")  # type: ignore[arg-type]
+        self.assertEqual(store.get(b"a"), b"1")
+
+    def test_a_batch_and_its_replies_may_be_longer_than_pipes_hold(self) -> None:
+        store = self.store(create=True, max_value=1024, seg_size=1_048_576)
+        keys = [b"%064d" % number for number in range(20_000)]
+        value = b"\xff" * 300  # written as 900 bytes
+        self.assertEqual(store.batch([Put(key, value) for key in keys]), [True] * len(keys))
+        self.assertEqual(store.batch([Get(key) for key in keys]), [value] * len(keys))
+        self.assertEqual(store.verify().pairs, len(keys))
+
+    def test_batches_that_are_sent_at_once(self) -> None:
+        store = self.store(create=True)
+        batches: list[list[Command[Reply]]] = [[Put(b"a", b"1")], [], [Get(b"a"), Scan()], [Put(b"a", b"2"), Get(b"a")]]
+        self.assertEqual(store.batches(batches), [[True], [], [b"1", [(b"a", b"1")]], [False, b"2"]])
+        self.assertEqual(store.unflushed, 2)
+        self.assertEqual(store.batches([[], []]), [[], []])
+        self.assertEqual(store.batches([]), [])
+
+    def test_replies_to_the_first_batches_fill_their_pipe_before_the_last_are_sent(self) -> None:
+        store = self.store(create=True)
+        store.put(b"a", b"v" * 200)
+        self.assertEqual(store.batches([[Get(b"a")] * 100] * 300), [[b"v" * 200] * 100] * 300)
+
+    def test_threads_may_share_a_store(self) -> None:
+        store = self.store(create=True)
+        wrong: list[int] = []
+
+        def work(number: int) -> None:
+            for value in range(100):
+                key, data = b"%d" % number, b"%d" % value
+                if store.batch([Put(key, data), Get(key)]) != [value == 0, data]:
+                    wrong.append(number)
+
+        threads = [threading.Thread(target=work, args=(number,)) for number in range(8)]
+        for thread in threads:
+            thread.start()
+        for thread in threads:
+            thread.join()
+        self.assertEqual(wrong, [])
+
+
+class Lasting(StoreTest):
+    def test_what_was_flushed_lasts_and_nothing_else(self) -> None:
+        with self.store(create=True) as store:
+            store.put(b"a", b"1")
+            self.assertEqual(store.unflushed, 1)
+            self.assertEqual(store.flush(), 2)
+            self.assertEqual(store.unflushed, 0)
+            store.put(b"b", b"2")
+        with self.store() as store:
+            self.assertEqual(store.scan(), [(b"a", b"1")])
+            store.put(b"b", b"2")
+            store.reopen()
+            self.assertEqual(store.scan(), [(b"a", b"1")])
+            self.assertEqual(store.verify(), Report(1, 1, 1))
+
+    def test_create_replaces_what_stands_there(self) -> None:
+        with self.store(create=True) as store:
+            store.put(b"a", b"1")
+            store.flush()
+        with self.store(create=True, fan=8, max_key=2) as store:
+            self.assertEqual(store.scan(), [])
+            kill(store)
+            with self.assertRaises(Killed):
+                store.flush()
+            self.assertEqual(store.scan(), [])  # it was made once, and is opened since
+
+    def test_a_log_that_is_full_is_cleaned(self) -> None:
+        store = self.store(create=True, **SMALL, segments=8)
+        for number in range(1_000):
+            store.put(b"k%d" % (number % 10), b"%d" % number)
+            store.flush()
+        self.assertGreater(store.stat().head, 8)
+        store.reopen()
+        self.assertEqual(store.scan(), [(b"k%d" % at, b"%d" % (990 + at)) for at in range(10)])
+
+    def test_a_clean_frees_a_segment_and_flushes_nothing(self) -> None:
+        store = self.store(create=True, **SMALL, segments=64)
+        for number in range(100):
+            store.put(b"k%d" % (number % 10), b"%d" % number)
+            store.flush()
+        store.put(b"new", b"")
+        self.assertEqual(store.clean(), 1)
+        self.assertEqual(store.stat().head, 1)
+        store.reopen()
+        self.assertIsNone(store.get(b"new"))
+
+    def test_an_upgrade_is_done_once(self) -> None:
+        store = self.store(create=True)
+        store.put(b"a", b"1")
+        self.assertEqual(store.upgrade(), 2)
+        with self.assertRaises(Refused) as caught:
+            store.upgrade()
+        self.assertEqual(caught.exception.number, 19)
+        self.assertEqual(store.get(b"a"), b"1")
+
+    def test_the_numbers_are_those_that_the_program_prints(self) -> None:
+        source, number, at = random.Random(1), 0, 1
+        with self.store(create=True, **SMALL, segments=8) as store:
+            while number < 500 or at:  # until a flush ends just where its segment does
+                number += 1
+                store.put(b"k%d" % (number % 40), b"v" * source.randrange(64))
+                store.flush()
+                at = store.stat().tail % SMALL["seg_size"]
+            stat, report = store.stat(), store.verify()
+        ran = subprocess.run([PROGRAM, "--stat", "--disk", self.path], stdin=subprocess.DEVNULL, capture_output=True)
+        due = (
+            f"stat sequence {stat.sequence} head {stat.head} tail {stat.tail} segments {stat.in_use} of {stat.segments}"
+        )
+        self.assertEqual(ran.stdout.decode(), f"{due} pages {report.pages} pairs {report.pairs}\n")
+
+
+class Faults(StoreTest):
+    def test_a_refused_batch_is_an_exception_with_its_number(self) -> None:
+        store = self.store(create=True, max_key=4)
+        store.put(b"a", b"1")
+        store.flush()
+        store.put(b"b", b"2")
+        with self.assertRaises(Refused) as caught:
+            store.batch([Put(b"c", b"3"), Put(b"much too long", b"4")])
+        self.assertEqual((caught.exception.number, caught.exception.fault), (2, "fault 2 KeyTooLong 1"))
+        self.assertIn("a key that is too long", caught.exception.why)
+        self.assertEqual(caught.exception.unflushed, 1)
+        self.assertIn("batches since the last flush that are gone: 1", str(caught.exception))
+        self.assertIsNone(store.pid)
+        self.assertEqual(store.scan(), [(b"a", b"1")])  # the next call goes on with the store of the last flush
+
+    def test_a_batch_that_is_too_long_is_refused(self) -> None:
+        store = self.store(create=True)
+        self.assertEqual(len(store.batch([Get(b"a")] * 65_535)), 65_535)
+        with self.assertRaises(Refused) as caught:
+            store.batch([Get(b"a")] * 65_536)
+        self.assertEqual(caught.exception.number, 4)
+        self.assertIn("65535", caught.exception.why)
+
+    def test_a_file_that_holds_no_store_is_refused(self) -> None:
+        with self.assertRaises(Refused) as caught:
+            self.store()
+        self.assertEqual(caught.exception.number, 9)
+        self.assertIn("No such file", caught.exception.why)
+        self.path.write_bytes(bytes(5_000_000))
+        with self.assertRaises(Refused) as caught:
+            self.store()
+        self.assertEqual(caught.exception.number, 12)
+
+    def test_a_file_that_another_store_holds_is_refused(self) -> None:
+        with self.store(create=True) as first:
+            with self.assertRaises(Refused) as caught:
+                self.store()
+            self.assertEqual(caught.exception.number, 9)
+            self.assertIn("another program", caught.exception.why)
+            self.assertIsNone(first.get(b"a"))
+        self.assertIsNone(self.store().get(b"a"))
+
+    def test_settings_that_are_out_of_range_are_refused(self) -> None:
+        with self.assertRaises(Refused) as caught:
+            self.store(create=True, fan=3)
+        self.assertEqual(caught.exception.fault, "fault 1 BadSettings fan")
+        with self.assertRaises(TypeError):
+            self.store(create=True, flan=8)
+        with self.assertRaisesRegex(StoreError, "status 2"):
+            self.store(create=True, fan=1 << 32)
+
+    def test_a_log_that_stays_full_is_refused(self) -> None:
+        store = self.store(create=True, **SMALL, segments=3)
+        store.put(b"a", b"1")
+        store.flush()
+        store.batch([Put(b"k%d" % number, b"v" * 60) for number in range(1_000)])
+        with self.assertRaises(Refused) as caught:
+            store.flush()
+        self.assertEqual(caught.exception.number, 10)
+        self.assertEqual(store.scan(), [(b"a", b"1")])
+
+    def test_a_closed_store_answers_nothing(self) -> None:
+        store = self.store(create=True)
+        store.close()
+        store.close()
+        self.assertIsNone(store.pid)
+        with self.assertRaisesRegex(StoreError, "closed"):
+            store.get(b"a")
+        store.reopen()
+        self.assertIsNone(store.get(b"a"))
+
+    def test_a_fork_leaves_the_store_to_its_process(self) -> None:
+        store = self.store(create=True)
+        store.put(b"a", b"1")
+        read, write = os.pipe()
+        child = os.fork()
+        if child == 0:
+            os.close(write)
+            is_refused = False
+            try:
+                store.get(b"a")
+            except StoreError as error:
+                is_refused = "closed" in str(error)
+            os.read(read, 1)  # until the other process has closed its store
+            os._exit(0 if is_refused and store.pid is None else 1)
+        self.assertEqual(store.get(b"a"), b"1")
+        self.assertEqual(store.flush(), 2)
+        began = time.monotonic()
+        store.close()  # which waits for the end of the program, and so for nobody else to hold its pipe
+        self.assertLess(time.monotonic() - began, taukremil.PATIENCE / 2)
+        os.close(write)
+        os.close(read)
+        self.assertEqual(os.waitstatus_to_exitcode(os.waitpid(child, 0)[1]), 0)
+
+    def test_a_program_that_isn_t_there_is_missed_at_once(self) -> None:
+        with self.assertRaises(FileNotFoundError):
+            Store(self.path, program=self.folder / "none")
+
+
+class Kills(StoreTest):
+    def test_a_killed_program_is_reported_and_started_again(self) -> None:
+        store = self.store(create=True)
+        store.put(b"a", b"1")
+        store.flush()
+        store.put(b"b", b"2")
+        kill(store)
+        with self.assertRaisesRegex(Killed, "SIGKILL; what was flushed is safe; .*: 1") as caught:
+            store.get(b"a")
+        self.assertEqual((caught.exception.signal, caught.exception.unflushed), (signal.SIGKILL, 1))
+        self.assertEqual(store.unflushed, 0)
+        self.assertEqual(store.scan(), [(b"a", b"1")])
+
+    def test_an_interrupt_of_the_terminal_is_for_the_caller_alone(self) -> None:
+        store = self.store(create=True)
+        assert store.pid is not None
+        self.assertNotEqual(os.getpgid(store.pid), os.getpgid(0))
+
+    def test_a_kill_between_two_calls_may_be_met_by_reopen(self) -> None:
+        store = self.store(create=True)
+        kill(store)
+        store.reopen()
+        self.assertIsNone(store.get(b"a"))
+
+    def test_a_kill_while_a_batch_is_sent(self) -> None:
+        store = self.store(create=True)
+        store.put(b"a", b"1")
+        store.flush()
+        assert store.pid is not None
+        os.kill(store.pid, signal.SIGSTOP)  # so that the pipe fills
+        timer = threading.Timer(0.1, kill, (store,))
+        timer.start()
+        with self.assertRaises(Killed):
+            store.batch([Put(b"%064d" % number, b"v" * 200) for number in range(10_000)])
+        timer.join()
+        self.assertEqual(store.scan(), [(b"a", b"1")])
+
+    def test_an_exception_in_the_midst_of_a_call_ends_the_program(self) -> None:
+        store = self.store(create=True)
+        store.put(b"a", b"1")
+        store.flush()
+        pid = store.pid
+
+        class Interrupt(Exception):
+            pass
+
+        def interrupt(*_: object) -> None:
+            raise Interrupt
+
+        before = signal.signal(signal.SIGALRM, interrupt)
+        self.addCleanup(signal.signal, signal.SIGALRM, before)
+        assert pid is not None
+        os.kill(pid, signal.SIGSTOP)  # so that it answers nothing
+        signal.setitimer(signal.ITIMER_REAL, 0.3)
+        with self.assertRaises(Interrupt):
+            store.put(b"b", b"2")
+        self.assertIsNone(store.pid)
+        self.assertEqual(store.scan(), [(b"a", b"1")])
+
+    def play(self, path: Path, seed: int, commands: int, kills: int) -> None:
+        """Runs commands by chance beside the model, until `kills` of them, at moments by chance, have met a call."""
+        chance, met = Chance(seed), 0
+        store = Store(path, create=True, program=PROGRAM, **SMALL, segments=128)
+        self.addCleanup(store.close)
+        now, flushed = Model(), Model()
+        killer = Killer(store, seed)
+        self.addCleanup(killer.stop)
+        done = 0
+        while done < commands or met < kills:
+            killer.is_due = met < kills
+            batch = chance.batch()
+            try:
+                replies = store.batch(batch)
+            except Killed:
+                met, now = met + 1, flushed.copy()
+                self.assertEqual(store_again(store), now.rows())
+                continue
+            self.assertEqual(replies, [now.reply(command) for command in batch])
+            done += len(batch)
+            if chance.source.random() < 0.3:
+                if chance.source.random() < 0.3:
+                    killer.hurry()
+                try:
+                    store.flush()
+                except Killed:  # either of both came back
+                    met, rows = met + 1, store_again(store)
+                    self.assertIn(rows, (now.rows(), flushed.rows()))
+                    flushed, now = (now.copy(), now) if rows == now.rows() else (flushed, flushed.copy())
+                    continue
+                flushed = now.copy()
+        killer.stop()
+        self.assertEqual(store_again(store), now.rows())
+        self.assertEqual(store.verify().pairs, len(now.keys))
+
+    def test_a_hundred_thousand_commands_beside_a_model_with_kills(self) -> None:
+        with tempfile.TemporaryDirectory() as disk:  # where syncs take time, in which a kill finds a flush that is done
+            for seed in range(1, 5):
+                folder = self.folder if seed % 2 else Path(disk)
+                self.play(folder / f"store {seed}", seed, commands=25_000, kills=10)
+
+
+def store_again(store: Store) -> list[Row]:
+    """Returns all pairs of a store, of which the program may be killed meanwhile, again and again."""
+    while True:
+        try:
+            return store.scan()
+        except Killed:
+            pass
+
+
+class Killer:
+    """A thread that kills the program of a store at moments by chance, where a kill is due."""
+
+    def __init__(self, store: Store, seed: int) -> None:
+        self.store, self.source = store, random.Random(seed)
+        self.is_due, self.is_over, self.is_hurried = False, False, threading.Event()
+        self.thread = threading.Thread(target=self.run)
+        self.thread.start()
+
+    def run(self) -> None:
+        while not self.is_over:
+            if self.is_hurried.wait(self.source.uniform(0.0, 0.06)):
+                self.is_hurried.clear()
+                time.sleep(self.source.uniform(0.0, 0.002))
+            pid = self.store.pid
+            if pid is not None and self.is_due:
+                kill_process(pid)
+
+    def hurry(self) -> None:
+        """Has it kill within the time that a flush takes, so that this meets some flushes before they are done, and some after."""
+        self.is_hurried.set()
+
+    def stop(self) -> None:
+        self.is_over = True
+        self.is_hurried.set()
+        self.thread.join()
+
+
+def kill_process(pid: int) -> None:
+    try:
+        os.kill(pid, signal.SIGKILL)
+    except ProcessLookupError:  # it was killed before, and is gone
+        pass
+
+
+ANSWERS_EACH_LINE = """\
+import sys
+for line in sys.stdin.buffer:
+    word = line.split()[0]
+    answer = {b"put": b"new " + b"x" * 1_000, b"get": b"value " + b"x" * 1_000, b"scan": b"rows 0"}.get(word)
+    if answer:
+        sys.stdout.buffer.write(answer + b"\\n")
+        sys.stdout.buffer.flush()
+"""
+
+
+class Pipes(unittest.TestCase):
+    """Programs that behave otherwise than the real one: does the client wait for ever, or take any answer?"""
+
+    def setUp(self) -> None:
+        folder = new_folder()
+        self.addCleanup(folder.cleanup)
+        self.folder = Path(folder.name)
+
+    def program(self, text: str) -> Path:
+        path = self.folder / "program"
+        path.write_text(f"#!{sys.executable} -I\n{text}")
+        path.chmod(0o700)
+        return path
+
+    def test_answers_that_fill_their_pipe_before_all_is_sent(self) -> None:
+        with Store(self.folder / "none", program=self.program(ANSWERS_EACH_LINE)) as store:
+            self.assertEqual(store.batch([Get(b"k" * 100)] * 20_000), [b"x" * 1_000] * 20_000)
+
+    def test_answers_that_are_none_end_the_program(self) -> None:
+        store = Store(self.folder / "none", program=self.program(ANSWERS_EACH_LINE))
+        with self.assertRaisesRegex(StoreError, "no answer to what it was asked"):
+            store.put(b"a", b"1")
+        self.assertIsNone(store.pid)
+        store.close()
+
+    def test_a_program_that_ends_without_a_word(self) -> None:
+        with self.assertRaisesRegex(StoreError, "status 0"):
+            Store(self.folder / "none", program=self.program("pass"))
+
+    def test_more_answers_than_were_asked_for(self) -> None:
+        with self.assertRaisesRegex(StoreError, "no answer to what it was asked"):
+            Store(self.folder / "none", program=self.program("print('rows 0\\nnew', flush=True); input(); input()"))
+
+
+if __name__ == "__main__":
+    unittest.main()

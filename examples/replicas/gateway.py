@@ -1,0 +1,130 @@
+"""Speaks with etcd over its JSON gateway, by what Python has of its own."""
+
+from __future__ import annotations
+
+import base64
+import http.client
+import itertools
+import json
+import time
+from collections.abc import Iterator
+from dataclasses import dataclass, field
+from typing import Any
+
+PATIENCE = 2.0  # seconds that a request may take, and that a watch may be silent, before another member is asked
+PAUSE = 0.05  # seconds before it is asked
+FAILURES = (OSError, http.client.HTTPException, json.JSONDecodeError)  # of a member that is dead, or dies
+Json = dict[str, Any]
+
+
+def encode(data: bytes) -> str:
+    return base64.b64encode(data).decode()
+
+
+def end_of(prefix: bytes) -> bytes:
+    """Returns the least key above all that begin with the prefix."""
+    return prefix[:-1] + bytes([prefix[-1] + 1])
+
+
+@dataclass(frozen=True)
+class Event:
+    """A key that was put, its value, and the revision that this has made."""
+
+    key: bytes
+    value: bytes
+    revision: int
+
+    @staticmethod
+    def of(pair: Json) -> Event:
+        key, value = (base64.b64decode(pair.get(name, "")) for name in ("key", "value"))
+        return Event(key, value, int(pair["mod_revision"]))
+
+
+@dataclass
+class Gateway:
+    """The members of a cluster, by their ports on the loopback address. One is asked until it fails, then the next."""
+
+    ports: list[int]
+    at: int = 0
+    connection: http.client.HTTPConnection | None = field(default=None, repr=False)
+
+    def _open(self) -> http.client.HTTPConnection:
+        if self.connection is None:
+            port = self.ports[self.at % len(self.ports)]
+            self.connection = http.client.HTTPConnection("127.0.0.1", port, timeout=PATIENCE)
+        return self.connection
+
+    def close(self) -> None:
+        if self.connection:
+            self.connection.close()
+        self.connection = None
+
+    def turn(self) -> None:
+        """Goes on to the next member."""
+        self.close()
+        self.at += 1
+        time.sleep(PAUSE)
+
+    def _post(self, path: str, body: Json) -> http.client.HTTPResponse:
+        connection = self._open()
+        connection.request("POST", path, json.dumps(body), {"Content-Type": "application/json"})
+        response = connection.getresponse()
+        if response.status != 200:
+            raise ConnectionError(f"{path}: {response.status} {response.read(200)!r}")
+        return response
+
+    def ask_once(self, path: str, body: Json) -> Json:
+        """Asks the present member. After one of the failures what was asked may be done or not."""
+        answer: Json = json.loads(self._post(path, body).read())
+        return answer
+
+    def ask(self, path: str, body: Json) -> Json:
+        """Asks one member after the other until one answers. So what is asked may be done more than once."""
+        while True:
+            try:
+                return self.ask_once(path, body)
+            except FAILURES:
+                self.turn()
+
+    def put_once(self, key: bytes, value: bytes) -> int:
+        """Puts a key that nobody else puts, and returns the revision. It is put once, however often that is asked."""
+        body = {
+            "compare": [{"key": encode(key), "target": "CREATE", "create_revision": "0", "result": "EQUAL"}],
+            "success": [{"request_put": {"key": encode(key), "value": encode(value)}}],
+            "failure": [{"request_range": {"key": encode(key)}}],
+        }
+        answer = self.ask("/v3/kv/txn", body)
+        if answer.get("succeeded"):
+            return int(answer["header"]["revision"])
+        (pair,) = answer["responses"][0]["response_range"]["kvs"]  # an attempt before was done, and its answer lost
+        return int(pair["create_revision"])
+
+    def all_of(self, prefix: bytes) -> list[Event]:
+        """Returns all keys that begin with the prefix, in the order of their revisions."""
+        bounds = {"key": encode(prefix), "range_end": encode(end_of(prefix))}
+        answer = self.ask("/v3/kv/range", {**bounds, "sort_order": "ASCEND", "sort_target": "MOD"})
+        return [Event.of(pair) for pair in answer.get("kvs", [])]
+
+    def watch(self, prefix: bytes, first: int) -> Iterator[list[list[Event]]]:
+        """Yields lists of revisions, each with its events, as the present member sends them, until that fails."""
+        bounds = {"key": encode(prefix), "range_end": encode(end_of(prefix))}
+        response = self._post("/v3/watch", {"create_request": {**bounds, "start_revision": str(first)}})
+        while line := response.readline():
+            answer = json.loads(line)
+            result = answer.get("result", {})
+            if "error" in answer or result.get("canceled"):
+                raise ConnectionError(f"the watch has ended: {answer}")
+            events = [Event.of(event["kv"]) for event in result.get("events", [])]
+            if events:
+                yield [list(same) for _, same in itertools.groupby(events, lambda event: event.revision)]
+
+    def follow(self, prefix: bytes, first: int) -> Iterator[list[list[Event]]]:
+        """Yields lists of revisions, each with its events and once, from one member or the other, for ever."""
+        while True:
+            try:
+                for revisions in self.watch(prefix, first):
+                    first = revisions[-1][0].revision + 1
+                    yield revisions
+            except FAILURES:
+                pass
+            self.turn()
