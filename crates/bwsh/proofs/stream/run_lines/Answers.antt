@@ -1,6 +1,7 @@
-use Rattle.std.proofs.Common.{◌∙◌, inl, inr, refl, ap, true, false, Ok, Err}
+use Rattle.std.proofs.Common.{◌∙◌, inl, inr, refl, sym, ap, None, Ok, Err}
 use Rattle.std.proofs.lemmas.Result.{err_from_is_err_and}
 use Rattle.bstr.specs.Text.{without_terminator}
+use Rattle.bwsh.specs.BatchFile.{ended_by, last_order, with_numbers}
 use Rattle.bwsh.specs.Line.{line_says}
 use Rattle.bwsh.specs.declared.session.Ending.TheVariants.{Device}
 use Rattle.bwsh.proofs.FirstLemmas.{RunsFirst-same}
@@ -40,8 +41,8 @@ returns-in_err-run_rest g c =
     let after = run.new.store in
     let p = err_from_is_err_and c.from_residual-in_err-run_rest.result c.from_residual-in_err-run_rest.ensures.1 in
     let none = rw c.if-not-more.true at c.in_ok-more.ensures.ok in
-    rw (p.1, p.2) (LeadsOn-rest c.args.ways disk.is_honest store.settings store.store disk.seen known old store.settings at.store.store seen at.pending.items at.line left now at.invariant.leads _ c.next_line.new.line.items none (g.O.Write.contents run.new.out) _ after.store (g.D.Disk.view after.disk).seen
-    (RunsFirst-same c.args.ways.clean_when_full _ disk.is_honest _ store.settings at.invariant.honest at.invariant.settings at.store.store seen _ _ _ _ after.store (g.D.Disk.view after.disk).seen c.in_err-run_rest.ensures.runs) _ refl tt)
+    rw (p.1, p.2) (LeadsOn-rest c.args.ways disk.is_honest store.settings store.store disk.seen known old store.settings at.store.store seen at.pending.items at.line left now at.invariant.leads _ c.next_line.new.line.items none (g.O.Write.contents run.new.out) (Err c.in_err-run_rest.field-0.0) after.store (g.D.Disk.view after.disk).seen
+    (RunsFirst-same c.args.ways.clean_when_full _ disk.is_honest _ store.settings at.invariant.honest at.invariant.settings at.store.store seen (with_numbers c.args.ways.stat (last_order at.pending.items)) now (g.O.Write.contents run.new.out) (Err c.in_err-run_rest.field-0.0) after.store (g.D.Disk.view after.disk).seen c.in_err-run_rest.ensures.runs) (Err c.in_err-run_rest.field-0.0) refl tt)
 
 pub returns-then-not-more : goal.returns-then-not-more
 returns-then-not-more g c =
@@ -57,7 +58,7 @@ returns-then-not-more g c =
     let after = run.new.store in
     let none = rw c.if-not-more.true at c.in_ok-more.ensures.ok in
     LeadsOn-rest c.args.ways disk.is_honest store.settings store.store disk.seen known old store.settings at.store.store seen at.pending.items at.line left now at.invariant.leads _ c.next_line.new.line.items none (g.O.Write.contents run.new.out) (Ok tt) after.store (g.D.Disk.view after.disk).seen
-    (RunsFirst-same c.args.ways.clean_when_full _ disk.is_honest _ store.settings at.invariant.honest at.invariant.settings at.store.store seen _ _ _ _ after.store (g.D.Disk.view after.disk).seen c.in_ok-run_rest.ensures.runs) _ refl refl
+    (RunsFirst-same c.args.ways.clean_when_full _ disk.is_honest _ store.settings at.invariant.honest at.invariant.settings at.store.store seen (with_numbers c.args.ways.stat (last_order at.pending.items)) now (g.O.Write.contents run.new.out) (Ok tt) after.store (g.D.Disk.view after.disk).seen c.in_ok-run_rest.ensures.runs) (Ok None) refl refl
 
 pub returns-in_err-says : goal.returns-in_err-says
 returns-in_err-says g c =
@@ -84,7 +85,7 @@ returns-in-Some g c =
     let now = g.O.Write.contents at.out in
     let said = c.in_ok-says.ensures ∙ ap line_says (c.without_end.ensures ∙ ap without_terminator c.deref.ensures.value) in
     let next = rw c.if-not-more.false at c.in_ok-more.ensures.ok in
-    LeadsOn-bad c.args.ways disk.is_honest store.settings store.store disk.seen known old store.settings at.store.store seen at.pending.items at.line left now at.invariant.leads _ c.next_line.new.line.items next c.in_ok-says.says said c.in-Some.why c.in-Some.ensures
+    LeadsOn-bad c.args.ways disk.is_honest store.settings store.store disk.seen known old store.settings at.store.store seen at.pending.items at.line left now at.invariant.leads _ c.next_line.new.line.items next c.in_ok-says.says said c.in-Some.why (sym c.in-Some.ensures)
 
 pub returns-in_err-run_said : goal.returns-in_err-run_said
 returns-in_err-run_said g c =
@@ -101,8 +102,8 @@ returns-in_err-run_said g c =
     let run = c.run_said in
     let after = run.new.store in
     let p = err_from_is_err_and c.from_residual-in_err-run_said.result c.from_residual-in_err-run_said.ensures.1 in
-    rw (p.1, p.2) (LeadsOn-stops c.args.ways disk.is_honest store.settings store.store disk.seen known old store.settings at.store.store seen at.pending.items at.line left now at.invariant.leads _ c.next_line.new.line.items next c.in_ok-says.says said c.in-None.ensures _ after.store (g.D.Disk.view after.disk).seen _
-    (RunsFirst-same c.args.ways.clean_when_full _ disk.is_honest _ store.settings at.invariant.honest at.invariant.settings at.store.store seen _ _ _ _ after.store (g.D.Disk.view after.disk).seen c.in_err-run_said.ensures.runs))
+    rw (p.1, p.2) (LeadsOn-stops c.args.ways disk.is_honest store.settings store.store disk.seen known old store.settings at.store.store seen at.pending.items at.line left now at.invariant.leads _ c.next_line.new.line.items next c.in_ok-says.says said (sym c.in_default.ensures) (g.O.Write.contents run.new.out) after.store (g.D.Disk.view after.disk).seen c.in_err-run_said.field-0.0
+    (RunsFirst-same c.args.ways.clean_when_full _ disk.is_honest _ store.settings at.invariant.honest at.invariant.settings at.store.store seen (ended_by at.pending.items c.in_ok-says.says) now (g.O.Write.contents run.new.out) (Err c.in_err-run_said.field-0.0) after.store (g.D.Disk.view after.disk).seen c.in_err-run_said.ensures.runs))
 
 pub loop-line-preserved : goal.loop-line-preserved
 loop-line-preserved g c =
@@ -123,8 +124,8 @@ loop-line-preserved g c =
       settings = ok.settings ∙ at.invariant.settings;
       honest = ok.honest ∙ at.invariant.honest;
       fine = ok.failed ∙ at.invariant.fine;
-      leads = LeadsOn-next c.args.ways disk.is_honest store.settings store.store disk.seen known old store.settings at.store.store seen at.pending.items at.line left now at.invariant.leads _ c.next_line.new.line.items next c.in_ok-says.says said c.in-None.ensures _ after.store (g.D.Disk.view after.disk).seen tt
-          (RunsFirst-same c.args.ways.clean_when_full _ disk.is_honest _ store.settings at.invariant.honest at.invariant.settings at.store.store seen _ _ _ _ after.store (g.D.Disk.view after.disk).seen ok.runs) _ ok.pending;
+      leads = LeadsOn-next c.args.ways disk.is_honest store.settings store.store disk.seen known old store.settings at.store.store seen at.pending.items at.line left now at.invariant.leads _ c.next_line.new.line.items next c.in_ok-says.says said (sym c.in_default.ensures) (g.O.Write.contents run.new.out) after.store (g.D.Disk.view after.disk).seen tt
+          (RunsFirst-same c.args.ways.clean_when_full _ disk.is_honest _ store.settings at.invariant.honest at.invariant.settings at.store.store seen (ended_by at.pending.items c.in_ok-says.says) now (g.O.Write.contents run.new.out) (Ok tt) after.store (g.D.Disk.view after.disk).seen ok.runs) _ ok.pending;
     }
 
 pub returns : goal.returns
