@@ -1,11 +1,12 @@
 -- Lemmas on streams: lines that are read one after the other, and what they end.
 use Rattle.std.proofs.Common.{◌≡◌, ◌≢◌, ◌≤◌, ◌<◌, ◌+◌, ◌==◌, ◌⊎◌, inl, inr, ℕ, zero, suc, length, take, drop, Bool, true, false, cond, List, [], ◌∷◌, ◌++◌, map, Option, Some, None, IfSome, Result, Ok, Err, IfOk, refl, sym, ap, ◌∙◌, subst, append_assoc, append-nil, arith}
-use Rattle.std.specs.Prelude.{IsTrue, nat_lt}
+use Rattle.std.specs.Prelude.{◌&&◌, IsTrue, OnOk, nat_lt, if◌then◌else◌}
 use Rattle.std.specs.Option.{option_map, option_or}
 use Rattle.std.specs.Io.BufRead.{DropsThrough, drop_through, take_through}
-use Rattle.std.specs.Io.KnownBytes.{Appends, IsAtEnd, Keeps}
+use Rattle.std.specs.Io.KnownBytes.{Appends, IsAtEnd, Keeps, prepend_known}
 use Rattle.std.specs.declared.alloc.Global.{Global}
 use Rattle.std.proofs.KnownBytes.{Appends-nil}
+use Rattle.std.proofs.lemmas.Bool.{eqb-false, eqb-true, ltb-false, ltb-true}
 use Rattle.bstr.specs.Text.{line_len, lines_from, lines_of, without_terminator}
 use Rattle.keys.specs.Lists.{flat}
 use Rattle.keys.specs.declared.command.Command.{Command}
@@ -29,9 +30,9 @@ use Rattle.bwsh.specs.declared.session.Ending.TheVariants as endings
 use Rattle.bwsh.specs.BatchFile.{IsNextLine, ended_by, first_bad, last_order, lines, streamed, text_says, unended, with_numbers}
 use Rattle.bwsh.specs.Line.{bad_of, line_says}
 use Rattle.bwsh.specs.Options.{Told}
-use Rattle.bwsh.specs.Session.{AreLeft, IsHonestStore, IsStart, IsUnopened, Opens, Prints, Reads, Runs, RunsFirst, RunsOn, Start, Streams, StreamsFrom, StreamsOn, bad_ending, end_streamed, first_refusal, lines_after, orders_end, run_from, run_of, stopped_by, stream_end, stream_ended, stream_lines, without_value}
+use Rattle.bwsh.specs.Session.{AreLeft, IsHonestStore, IsStart, IsUnopened, Opens, Prints, Reads, Runs, RunsFirst, RunsOn, RunsOrder, Start, Streams, StreamsFrom, StreamsOn, bad_ending, end_streamed, first_refusal, lines_after, orders_end, run_from, run_of, stopped_by, stream_end, stream_ended, stream_lines, without_value}
 use Rattle.bwsh.proofs.EndLemmas.{Prints-cut, leave_from, start_of, start_without_crew}
-use Rattle.bwsh.proofs.FirstLemmas.{RunsOn-cut, RunsOn-none}
+use Rattle.bwsh.proofs.FirstLemmas.{MakesNone, RunsFirst-cut, RunsFirst-early, RunsFirst-flushed, RunsFirst-joined, RunsFirst-none, RunsFirst-one, RunsFirst-same, RunsOn-cut, RunsOn-none}
 use Rattle.bwsh.proofs.Prints.{Prints-asked, Prints-flushed}
 use Rattle.bwsh.proofs.RunLemmas.{IsCut}
 
@@ -104,8 +105,8 @@ pub IsNextLine-read : (known left : Option (List ℕ)) (line : List ℕ) (n : �
     → (n ≡ 0 → IsAtEnd known) → length line ≡ n → (b : Bool) → nat_lt 0 n ≡ b → IsNextLine known left line b
 IsNextLine-read None left line n is rest at_end counted b some = tt
 IsNextLine-read (Some xs) left line n is rest at_end counted true some =
-    (λ none. let no_line : line ≡ [] = is ∙ ap (take_through 10) none in let zero_read : 0 ≡ n = sym (ap length no_line) ∙ counted in absurd (omega (arith, some, zero_read)), is, rest)
-IsNextLine-read (Some xs) left line n is rest at_end counted false none = at_end (omega (arith, none))
+    (λ none. let no_line : line ≡ [] = is ∙ ap (take_through 10) none in let zero_read : 0 ≡ n = sym (ap length no_line) ∙ counted in absurd (omega (arith, ltb-true 0 n some, zero_read)), is, rest)
+IsNextLine-read (Some xs) left line n is rest at_end counted false none = at_end (omega (arith, ltb-false 0 n none))
 
 -- behind what there was, which is nothing
 pub IsNextLine-got : (known left : Option (List ℕ)) (before line : List ℕ) (n : ℕ) → before ≡ [] → IfSome known (λ xs. line ≡ before ++ take_through 10 xs) → DropsThrough known left 10
@@ -171,6 +172,67 @@ first_bad-next n says.Upgrade rest good = refl
 first_bad-next n says.Verify rest good = refl
 first_bad-next n (Bad why) rest good = absurd (cc)
 
+-- ---- pending commands
+
+-- a batch is run without cleans in front of it
+makes_none : (cleans : Bool) (commands : List (Command Global)) → MakesNone cleans (Batch commands)
+makes_none true commands = refl
+makes_none false commands = refl
+
+-- it is run, and its answers are handed on to the device
+pub RunsFirst-batch : (cleans honest : Bool) (settings : Settings) (st : Store) (left : List ℕ) (commands : List (Command Global)) (old mid new : Option (List ℕ))
+    (done end : Result (Unit {0}) Ending) (now : Store) (bytes : List ℕ) → RunsOrder honest settings st left (Batch commands) old mid done now bytes → Keeps mid new
+    → (end ≡ done) ⊎ (end ≡ Err Device) → RunsFirst cleans honest settings st left (Batch commands ∷ []) old new end now bytes
+RunsFirst-batch cleans honest settings st left commands old mid new done end now bytes one kept ended =
+    RunsFirst-flushed cleans honest settings mid new kept st left (Batch commands ∷ []) old done end now bytes
+    (RunsFirst-one cleans honest settings st left (Batch commands) old mid done now bytes (makes_none cleans commands) one) ended
+
+-- what holds where all is done holds too where what was written is handed on
+pub OnOk-flushed : (done end : Result (Unit {0}) Ending) (P : Type 0) → (end ≡ done) ⊎ (end ≡ Err Device) → OnOk done P → OnOk end P
+OnOk-flushed done end P (inl e) p = subst (λ (r : Result (Unit {0}) Ending). OnOk r P) (sym e) p
+OnOk-flushed done end P (inr e) p = subst (λ (r : Result (Unit {0}) Ending). OnOk r P) (sym e) tt
+
+-- the order for pending commands, if there are any, and if there are none
+last_order-some : (pending : List (Command Global)) (n : ℕ) → n ≡ length pending → (n == 0) ≡ false → last_order pending ≡ Batch pending ∷ []
+last_order-some [] n is some = absurd (eqb-false n 0 some is)
+last_order-some (command ∷ commands) n is some = refl
+
+last_order-none : (pending : List (Command Global)) (n : ℕ) → n ≡ length pending → (n == 0) ≡ true → last_order pending ≡ []
+last_order-none [] n is none = refl
+last_order-none (command ∷ commands) n is none = let zero_is : n ≡ 0 = eqb-true n 0 none in absurd (omega (arith, is, zero_is))
+
+-- no commands are pending
+pub none_pending : (pending : List (Command Global)) (n : ℕ) → n ≡ length pending → (n == 0) ≡ true → pending ≡ []
+none_pending [] n is none = refl
+none_pending (command ∷ commands) n is none = let zero_is : n ≡ 0 = eqb-true n 0 none in absurd (omega (arith, is, zero_is))
+
+module _ (cleans honest : Bool) (settings : Settings) (st : Store) (left : List ℕ) (pending : List (Command Global)) (old : Option (List ℕ)) where
+  pub RunsFirst-no_pending : (n : ℕ) → n ≡ length pending → (n == 0) ≡ true → (done : Unit {0}) → RunsFirst cleans honest settings st left (last_order pending) old old (Ok done) st left
+  RunsFirst-no_pending n is none done =
+      subst (λ (os : List Order). RunsFirst cleans honest settings st left os old old (Ok done) st left) (sym (last_order-none pending n is none))
+      (RunsFirst-none cleans honest settings st left old done)
+
+  pub RunsFirst-pending : (n : ℕ) → n ≡ length pending → (n == 0) ≡ false → (new : Option (List ℕ)) (end : Result (Unit {0}) Ending) (now : Store) (bytes : List ℕ)
+      → RunsFirst cleans honest settings st left (Batch pending ∷ []) old new end now bytes → RunsFirst cleans honest settings st left (last_order pending) old new end now bytes
+  RunsFirst-pending n is some new end now bytes p =
+      subst (λ (os : List Order). RunsFirst cleans honest settings st left os old new end now bytes) (sym (last_order-some pending n is some)) p
+
+  module _ (order : Order) (mid : Option (List ℕ)) (between : Store) (after : List ℕ) where
+    -- the pending commands are not all done
+    pub RunsFirst-stopped : (early : Ending) → RunsFirst cleans honest settings st left (last_order pending) old mid (Err early) between after
+        → RunsFirst cleans honest settings st left (last_order pending ++ order ∷ []) old mid (Err early) between after
+    RunsFirst-stopped early p = RunsFirst-early cleans honest settings st left (last_order pending) (order ∷ []) old mid between after early p between after
+
+    -- they are, and then an order is run, and its answers are handed on to the device
+    pub RunsFirst-ended : (done : Unit {0}) → RunsFirst cleans honest settings st left (last_order pending) old mid (Ok done) between after
+        → (b : Bool) → b ≡ honest → (s : Settings) → s ≡ settings → (written new : Option (List ℕ)) (all end : Result (Unit {0}) Ending) (now : Store) (bytes : List ℕ)
+        → RunsFirst cleans b s between after (order ∷ []) mid written all now bytes → Keeps written new → (end ≡ all) ⊎ (end ≡ Err Device)
+        → RunsFirst cleans honest settings st left (last_order pending ++ order ∷ []) old new end now bytes
+    RunsFirst-ended done p b b_is s s_is written new all end now bytes q kept ended =
+        RunsFirst-joined cleans honest settings st left (last_order pending) (order ∷ []) old mid between after done p new end now bytes
+        (RunsFirst-flushed cleans honest settings written new kept between after (order ∷ []) mid all end now bytes
+        (RunsFirst-same cleans b honest s settings b_is s_is between after (order ∷ []) mid written all now bytes q) ended)
+
 -- ---- line after line
 
 -- What lines that are left say, of which the next has the number n, prints behind what stands there is, behind what stood there first, what all lines
@@ -182,9 +244,10 @@ LeadsOn ways honest settings first file known old s st seen pending n left now =
     → StreamsOn ways honest settings first file known old new end
 
 -- before any line is read
-pub LeadsOn-first : (ways : Ways) (honest : Bool) (settings : Settings) (st : Store) (file : List ℕ) (known old : Option (List ℕ))
-    → LeadsOn ways honest settings st file known old settings st file [] 1 known old
-LeadsOn-first ways honest settings st file known old rest is new end runs bad = (rest, is, runs, bad)
+pub LeadsOn-first : (ways : Ways) (honest : Bool) (settings : Settings) (st : Store) (file : List ℕ) (known old : Option (List ℕ)) (pending : List (Command Global)) → pending ≡ []
+    → LeadsOn ways honest settings st file known old settings st file pending 1 known old
+LeadsOn-first ways honest settings st file known old pending none rest is new end runs bad =
+    (rest, is, subst (λ (p : List (Command Global)). RunsOn ways.clean_when_full honest settings st file (streamed ways.stat p rest) old new (without_value end)) none runs, bad)
 
 module _ (ways : Ways) (honest : Bool) (settings : Settings) (first : Store) (file : List ℕ) (known old : Option (List ℕ)) (s : Settings) (st : Store) (seen : List ℕ)
     (pending : List (Command Global)) (n : ℕ) (left now : Option (List ℕ)) (leads : LeadsOn ways honest settings first file known old s st seen pending n left now) where
@@ -245,6 +308,11 @@ module _ (ways : Ways) (honest : Bool) (settings : Settings) (first : Store) (fi
 
 -- ---- the whole stream
 
+-- an end, or a device's failure, where that end is known as another
+pub ended_as : (r q end : Result (Unit {0}) Ending) → r ≡ q → (end ≡ r) ⊎ (end ≡ Err Device) → (end ≡ q) ⊎ (end ≡ Err Device)
+ended_as r q end same (inl e) = inl (e ∙ same)
+ended_as r q end same (inr e) = inr e
+
 -- the bad line is told where all before it is done
 ended_right : (r : Option Fault) (bad : Option (ℕ × Why)) (end : Result (Option (ℕ × Why)) Ending) → without_value end ≡ stopped_by (option_map (λ fault. endings.Fault fault) r)
     → IfOk end (λ b. b ≡ bad) → stream_ended end ≡ stopped_by (option_or (option_map (λ fault. endings.Fault fault) r) (option_map bad_ending bad))
@@ -301,6 +369,14 @@ module _ (ways : Ways) (known old : Option (List ℕ)) (start : Start) {D : Type
 
 -- ---- what is right for a stream
 
+-- a buffer that is empty has nothing in front of the known bytes
+prepend-none : (known : Option (List ℕ)) → prepend_known [] known ≡ known
+prepend-none None = refl
+prepend-none (Some bytes) = refl
+
+buffered : (capacity : ℕ) (held : List ℕ) (known : Option (List ℕ)) → capacity ≡ 8192 → held ≡ [] → (if capacity == 0 then None else prepend_known held known) ≡ known
+buffered capacity held known some none = rw (some, none) (prepend-none known)
+
 module _ (told : Told) (known old : Option (List ℕ)) where
   -- it ends before any line is run, for want of memory or since a device failed
   pub Streams-cut : (early : Ending) → IsCut early → Streams told known old old (Err early)
@@ -331,3 +407,9 @@ pub Streams-asked : (old mid new : Option (List ℕ)) → Appends old mid [] →
 unfolding Streams
 Streams-asked old mid new asked told known end (said, is_known, start, is, shown, is_shown, p) =
     (said, is_known, start, is, shown, is_shown, Prints-asked old mid new asked (stream_lines told start shown said) (stream_end told start shown said) end p)
+
+-- the lines are read by way of a buffer, which holds nothing first
+pub Streams-buffered : (capacity : ℕ) (held : List ℕ) (inner known : Option (List ℕ)) → capacity ≡ 8192 → held ≡ [] → inner ≡ known → (told : Told) (old new : Option (List ℕ))
+    (end : Result (Unit {0}) Ending) → Streams told (if capacity == 0 then None else prepend_known held inner) old new end → Streams told known old new end
+Streams-buffered capacity held inner known some none same told old new end p =
+    subst (λ (bytes : Option (List ℕ)). Streams told bytes old new end) (buffered capacity held inner some none ∙ same) p

@@ -22,6 +22,11 @@ why_text WordCount = codes "wrong number of words"
 why_text BadToken = codes "bad token"
 why_text BadNumber = codes "bad number"
 
+-- what is wrong with a line that says this, if it is bad
+abbrev pub bad_of : Says → Option Why
+bad_of (Bad why) = Some why
+bad_of _ = None
+
 -- the key that these words are
 abbrev pub only_key : List Bytes → Result (Bytes) Why
 only_key (key ∷ []) = ok_or (token_bytes key) BadToken

@@ -82,6 +82,30 @@ fn run_pending<R: AllocGlobal + Threads + Sync, D: Disk, O: Write>(
     flush(done, out)
 }
 
+// Runs the pending commands as one batch, if there are any, and hands its answers on. None are pending any more.
+fn run_any_pending<R: AllocGlobal + Threads + Sync, D: Disk, O: Write>(
+    rt: &R,
+    crew: Crew,
+    store: &mut Store<D>,
+    pending: &mut Vec<Command<Global>>,
+    lines: &mut Vec<u8>,
+    out: &mut O,
+) -> Result<(), Ending>
+    requires crew { IsTrue (is_crew crew) }
+    requires fine { store.old.has_failed ≡ false }
+    ensures runs { (cleans : Bool) → RunsFirst cleans (D.view store.old.disk).is_honest store.old.settings store.old.store (D.view store.old.disk).seen
+        (last_order pending.old.items) (O.contents out.old) (O.contents out.new) result store.new.store (D.view store.new.disk).seen }
+    ensures pending { OnOk result (pending.new.items ≡ []) }
+    ensures settings { store.new.settings ≡ store.old.settings }
+    ensures honest { (D.view store.new.disk).is_honest ≡ (D.view store.old.disk).is_honest }
+    ensures failed { OnOk result (store.new.has_failed ≡ store.old.has_failed) }
+{
+    if pending.is_empty() {
+        return Ok(());
+    }
+    run_pending(rt, crew, store, pending, lines, out)
+}
+
 // Runs the pending commands as one batch, if there are any, and then this order, and hands the answers on. None are pending any more.
 fn run_ended<R: AllocGlobal + Threads + Sync, D: Disk, O: Write>(
     rt: &R,
@@ -102,9 +126,7 @@ fn run_ended<R: AllocGlobal + Threads + Sync, D: Disk, O: Write>(
     ensures honest { (D.view store.new.disk).is_honest ≡ (D.view store.old.disk).is_honest }
     ensures failed { OnOk result (store.new.has_failed ≡ store.old.has_failed) }
 {
-    if !pending.is_empty() {
-        run_pending(rt, crew, store, pending, lines, out)?;
-    }
+    run_any_pending(rt, crew, store, pending, lines, out)?;
     let done = run_order(rt, crew, cleans, store, order, lines, out);
     flush(done, out)
 }
@@ -130,7 +152,8 @@ fn run_said<R: AllocGlobal + Threads + Sync, D: Disk, O: Write>(
     ensures failed { OnOk result (store.new.has_failed ≡ store.old.has_failed) }
 {
     match says {
-        Says::Nothing | Says::Bad(_) => Ok(()),
+        Says::Nothing => Ok(()),
+        Says::Bad(_) => Ok(()),
         Says::Command(command) => Ok(pending.push(command)?),
         Says::Go => run_pending(rt, crew, store, pending, lines, out),
         Says::Flush => run_ended(rt, crew, cleans, store, pending, &Order::Flush, lines, out),
@@ -180,10 +203,7 @@ fn run_rest<R: AllocGlobal + Threads + Sync, D: Disk, O: Write>(
             out,
         );
     }
-    if pending.is_empty() {
-        return Ok(());
-    }
-    run_pending(rt, crew, store, pending, lines, out)
+    run_any_pending(rt, crew, store, pending, lines, out)
 }
 
 // Runs what the lines of the input end, as they come, and what is left at its end. The first bad line ends it, and is returned.
@@ -208,7 +228,8 @@ fn run_lines<R: AllocGlobal + Threads + Sync, D: Disk, I: BufRead, O: Write>(
     let mut pending = Vec::new(alloc);
     let cleans = ways.clean_when_full;
     for line in 1..u64::MAX {
-        if !next_line(input, &mut text, notes)? {
+        let more = next_line(input, &mut text, notes)?;
+        if !more {
             run_rest(rt, crew, ways, store, &mut pending, &mut lines, out)?;
             return Ok(None);
         }
@@ -255,6 +276,36 @@ fn run_opened<R: AllocGlobal + Threads + Sync, D: Disk + Reasoned + Drop, I: Buf
     flush(ended(done), out)
 }
 
+// Runs the lines of the input as they come, on the store that is asked for.
+fn run_told<R: AllocGlobal + Threads + Sync + Files, I: BufRead, O: Write>(
+    rt: &R,
+    told: &Options,
+    input: &mut I,
+    out: &mut O,
+    notes: &mut Notes,
+) -> Result<(), Ending>
+where
+    R::File: LockFile,
+    requires { IsTrue (is_crew told.now.crew) }
+    ensures { Streams (told_of told.now) (I.remaining input.old) (O.contents out.old) (O.contents out.new) result }
+{
+    let (crew, ways) = (told.crew, told.ways);
+    match &told.disk {
+        None => {
+            let opened = store_in_memory(rt.alloc(), told.settings, notes);
+            run_opened(rt, crew, ways, opened, input, out, notes)
+        }
+        Some(path) if told.create => {
+            let opened = new_store_in_file(rt, path, told.settings, notes);
+            run_opened(rt, crew, ways, opened, input, out, notes)
+        }
+        Some(path) => {
+            let opened = store_in_file(rt, crew, path, true, notes);
+            run_opened(rt, crew, ways, opened, input, out, notes)
+        }
+    }
+}
+
 /// Runs the lines of the input as they come, on the store that is asked for; `session::run` says more.
 pub(crate) fn run_stream<R: AllocGlobal + Threads + Sync + Files, I: Read, O: Write>(
     rt: &R,
@@ -268,21 +319,9 @@ where
     ensures { Streams (told_of told.now) (I.remaining input.old) (O.contents out.old) (O.contents out.new) result }
 {
     ask(out)?;
-    let (crew, ways) = (told.crew, told.ways);
-    crew.check()?;
-    let mut input = BufReader::new(rt.alloc(), input).map_err(read_fault)?;
-    match &told.disk {
-        None => {
-            let opened = store_in_memory(rt.alloc(), told.settings, notes);
-            run_opened(rt, crew, ways, opened, &mut input, out, notes)
-        }
-        Some(path) if told.create => {
-            let opened = new_store_in_file(rt, path, told.settings, notes);
-            run_opened(rt, crew, ways, opened, &mut input, out, notes)
-        }
-        Some(path) => {
-            let opened = store_in_file(rt, crew, path, true, notes);
-            run_opened(rt, crew, ways, opened, &mut input, out, notes)
-        }
+    told.crew.check()?;
+    match BufReader::new(rt.alloc(), input) {
+        Ok(mut reader) => run_told(rt, told, &mut reader, out, notes),
+        Err(error) => Err(read_fault(error)),
     }
 }
