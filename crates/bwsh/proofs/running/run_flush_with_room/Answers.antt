@@ -35,7 +35,7 @@ returns-in-Err-clause-runs g c =
     let after = c.run_step.new.store in
     Room-refused disk.is_honest store.settings store.store disk.seen (g.O.Write.contents c.args.out.now) at.left at.store.store now.seen (g.O.Write.contents at.out) at.invariant.leads
     now.is_honest at.invariant.honest at.store.settings at.invariant.settings (g.O.Write.contents c.run_step-done.new.out) c.run_step-done.result tried.store shows.seen
-    (flushed.runs Flush refl) c.if-left-eq0.false full kept.0 kept.1.1 shows.is_honest flushed.honest tried.settings flushed.settings
+    (flushed.runs Flush refl) c.if-left-eq0.false full kept.0 kept.2 shows.is_honest flushed.honest tried.settings flushed.settings
     (g.O.Write.contents c.run_step.new.out) _ after.store (g.D.Disk.view after.disk).seen (c.in-Err.ensures.runs Clean refl) c.in-Err.refused c.want_of_room.result refl c.want_of_room.ensures
 
 pub room-preserved-in_default-3 : goal.room-preserved-in_default-3
@@ -54,10 +54,10 @@ room-preserved-in_default-3 g c =
     record {
       settings = cleaned.settings ∙ (flushed.settings ∙ at.invariant.settings);
       honest = cleaned.honest ∙ (flushed.honest ∙ at.invariant.honest);
-      fine = cleaned.failed ∙ (kept.1.0 ∙ at.invariant.fine);
+      fine = cleaned.failed ∙ (kept.1 ∙ at.invariant.fine);
       same = at.invariant.same;
       leads = Room-cleaned disk.is_honest store.settings store.store disk.seen (g.O.Write.contents c.args.out.now) at.left at.store.store now.seen (g.O.Write.contents at.out) at.invariant.leads
           now.is_honest at.invariant.honest at.store.settings at.invariant.settings (g.O.Write.contents c.run_step-done.new.out) c.run_step-done.result tried.store shows.seen
-          (flushed.runs Flush refl) c.if-left-eq0.false full kept.0 kept.1.1 shows.is_honest flushed.honest tried.settings flushed.settings
+          (flushed.runs Flush refl) c.if-left-eq0.false full kept.0 kept.2 shows.is_honest flushed.honest tried.settings flushed.settings
           (g.O.Write.contents c.run_step.new.out) _ after.store (g.D.Disk.view after.disk).seen (cleaned.runs Clean refl) c.in_default.field-0 refl;
     }
