@@ -117,7 +117,7 @@ pub start_without_crew : (told : Told) → is_crew told.crew ≡ false → IsSta
 start_without_crew told out_of_range =
     let start : Start = Err BadCrew in at_false (is_crew told.crew) (IsStartBy told.settings told.disk told.create start) (start ≡ Err BadCrew) out_of_range refl
 
--- what a check of the crew tells of it
+-- what a check of the crew gives of it
 pub in_range : (b : Bool) → MatchBool b (true ≡ true) (false ≡ true) → IsTrue b
 in_range true p = refl
 in_range false p = cc
@@ -587,7 +587,7 @@ EndsBy-told words known old new unread untouched end told tells shows runs = by 
   by true is = let (not_read, printed) = shows is in inr (inl (not_read, inr (told, tells, is), (version_text, printed)))
   by false is = inl (told, tells, is, runs is)
 
--- more is told only where it is asked for
+-- more is reported only where it is asked for
 pub more_if_asked : (words : List (List ℕ)) (told : Told) (more : List ℕ) → AsksFor words told → (told.ways.explain ≡ false → more ≡ []) → AsksToExplain words ⊎ (more ≡ [])
 more_if_asked words told more tells plain = by told.ways.explain refl where
   by : (b : Bool) → told.ways.explain ≡ b → AsksToExplain words ⊎ (more ≡ [])

@@ -157,7 +157,7 @@ module _ (cleans honest : Bool) (settings : Settings) where
         → RunsOn cleans honest settings st left ((first ++ second) ++ rest) old last end
     regrouped rest last end p = subst (λ (os : List Order). RunsOn cleans honest settings st left os old last end) (sym (append_assoc first second rest)) p
 
-    -- these orders, and those behind them
+    -- these orders, and those after them
     pub RunsFirst-joined : (done : Unit {0}) → RunsFirst cleans honest settings st left first old mid (Ok done) between after
         → (new : Option (List ℕ)) (end : Result (Unit {0}) Ending) (now : Store) (bytes : List ℕ) → RunsFirst cleans honest settings between after second mid new end now bytes
         → RunsFirst cleans honest settings st left (first ++ second) old new end now bytes
@@ -205,7 +205,7 @@ RunsOn-none false honest settings st left old = (λ i. left, λ h. tt, inl (refl
 
 -- ---- orders one after the other
 
--- what the orders that are left print behind what stands there is, behind what stood there first, what all of them print
+-- what the orders that are left print after what stands there is, after what stood there first, what all of them print
 abbrev pub Leads : Bool → Bool → Settings → Store → List ℕ → List Order → Option (List ℕ) → Store → List ℕ → List Order → Option (List ℕ) → Type 0
 Leads cleans honest settings first file orders old st seen left now =
     (new : Option (List ℕ)) (end : Result (Unit {0}) Ending) → RunsOn cleans honest settings st seen left now new end → RunsOn cleans honest settings first file orders old new end

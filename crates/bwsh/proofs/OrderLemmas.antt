@@ -67,12 +67,12 @@ batches-orders_of pending (Bad why ∷ rest) only = batches-orders_of pending re
 
 -- ---- streams
 
--- the numbers come behind all
+-- the numbers come after all
 numbers-behind : (numbers : Bool) (front rest : List Order) → front ++ with_numbers numbers rest ≡ with_numbers numbers (front ++ rest)
 numbers-behind true front rest = sym (append_assoc front rest (Numbers ∷ []))
 numbers-behind false front rest = refl
 
--- what a line that ends a batch orders, in front of what is ordered behind it
+-- what a line that ends a batch orders, before what is ordered after it
 ended-first : (numbers : Bool) (pending : List (Command Global)) (order : Order) (later all : List Order) → later ≡ with_numbers numbers all
     → last_order pending ++ order ∷ later ≡ with_numbers numbers (last_order pending ++ order ∷ all)
 ended-first numbers pending order later all e =

@@ -22,7 +22,7 @@ use Rattle.bwsh.proofs.BytesLemmas.{behind-same}
 use Rattle.bwsh.proofs.FirstLemmas.{Leavable, RunsBy, RunsBy-asked, RunsBy-cut, RunsBy-goes_on, RunsBy-stops, RunsOrder-same, leave, leave_flush}
 use Rattle.bwsh.proofs.RunLemmas.{IsCut, first_shown}
 
--- what is so of what is next is so behind the cleans of a flush
+-- what is so of what is next is so after the cleans of a flush
 module _ {X : Type 0} (of : List Order → X) (skips : (orders : List Order) → of (Clean ∷ orders) ≡ of orders) (settings : Settings) where
   room_by : (next : Store → Reads → List Order) (all : X) → ((st : Store) (shown : Reads) → of (Flush ∷ next st shown) ≡ all)
       → (most : ℕ) (st : Store) (shown : Reads) → of (flush_with_room most settings st shown next) ≡ all
@@ -68,11 +68,11 @@ others-with_cleans settings st shown (Numbers ∷ rest) none =
 
 -- ---- a flush that makes itself room
 
--- what comes behind it
+-- what comes after it
 abbrev pub behind_flush : Settings → List Order → Store → Reads → List Order
 behind_flush settings rest now after = with_cleans settings now after rest
 
--- a flush with so many cleans in front of it at most, of which nothing is done yet, prints behind what stands there is, behind what stood there
+-- a flush with this number of cleans before it at most, of which nothing is done yet, prints after what stands there is, after what stood there
 -- first, what a flush does that makes itself room
 abbrev pub LeadsRoom : Bool → Settings → Store → List ℕ → Option (List ℕ) → ℕ → Store → List ℕ → Option (List ℕ) → Type 0
 LeadsRoom honest settings first file old most st seen now =

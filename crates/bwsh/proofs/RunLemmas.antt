@@ -106,7 +106,7 @@ module _ (settings : Settings) (st : Store) (file : List ℕ) (order : Order) (o
     pub Runs-stops : (early : Ending) → AloneIs (Err early) → Runs settings st (first_shown file shown) (order ∷ rest) old new (Err early)
     Runs-stops early p = stops_by early (refusal_of settings st file order) refl p
 
-    -- all of it is done: what the rest prints is behind it
+    -- all of it is done: what the rest prints comes after it
     pub Runs-goes_on : (now : Store) (last : Option (List ℕ)) (done : Unit {0}) (end : Result (Unit {0}) Ending) → refusal_of settings st file order ≡ None → now ≡ left.0
         → contents now.tree ≡ map_behind (contents st.tree) order → AloneIs (Ok done) → Runs settings now shown rest new last end
         → Runs settings st (first_shown file shown) (order ∷ rest) old last end

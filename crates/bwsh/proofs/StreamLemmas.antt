@@ -100,7 +100,7 @@ text_says-none = refl
 
 -- ---- a line that is read
 
--- the bytes up to a line feed were read behind nothing, and the others are left
+-- the bytes up to a line feed were read after nothing, and the others are left
 pub IsNextLine-read : (known left : Option (List ℕ)) (line : List ℕ) (n : ℕ) → IfSome known (λ xs. line ≡ take_through 10 xs) → DropsThrough known left 10
     → (n ≡ 0 → IsAtEnd known) → length line ≡ n → (b : Bool) → nat_lt 0 n ≡ b → IsNextLine known left line b
 IsNextLine-read None left line n is rest at_end counted b some = tt
@@ -108,7 +108,7 @@ IsNextLine-read (Some xs) left line n is rest at_end counted true some =
     (λ none. let no_line : line ≡ [] = is ∙ ap (take_through 10) none in let zero_read : 0 ≡ n = sym (ap length no_line) ∙ counted in absurd (omega (arith, ltb-true 0 n some, zero_read)), is, rest)
 IsNextLine-read (Some xs) left line n is rest at_end counted false none = at_end (omega (arith, ltb-false 0 n none))
 
--- behind what there was, which is nothing
+-- after what there was, which is nothing
 pub IsNextLine-got : (known left : Option (List ℕ)) (before line : List ℕ) (n : ℕ) → before ≡ [] → IfSome known (λ xs. line ≡ before ++ take_through 10 xs) → DropsThrough known left 10
     → (n ≡ 0 → IsAtEnd known) → length line ≡ length before + n → IsNextLine known left line (nat_lt 0 n)
 IsNextLine-got known left before line n none is rest at_end counted =
@@ -235,7 +235,7 @@ module _ (cleans honest : Bool) (settings : Settings) (st : Store) (left : List 
 
 -- ---- line after line
 
--- What lines that are left say, of which the next has the number n, prints behind what stands there is, behind what stood there first, what all lines
+-- What lines that are left say, of which the next has the number n, prints after what stands there is, after what stood there first, what all lines
 -- of the stream say.
 abbrev pub LeadsOn : Ways → Bool → Settings → Store → List ℕ → Option (List ℕ) → Option (List ℕ) → Settings → Store → List ℕ → List (Command Global) → ℕ → Option (List ℕ) → Option (List ℕ) → Type 0
 LeadsOn ways honest settings first file known old s st seen pending n left now =
@@ -313,7 +313,7 @@ pub ended_as : (r q end : Result (Unit {0}) Ending) → r ≡ q → (end ≡ r) 
 ended_as r q end same (inl e) = inl (e ∙ same)
 ended_as r q end same (inr e) = inr e
 
--- the bad line is told where all before it is done
+-- the bad line is reported where all before it is done
 ended_right : (r : Option Fault) (bad : Option (ℕ × Why)) (end : Result (Option (ℕ × Why)) Ending) → without_value end ≡ stopped_by (option_map (λ fault. endings.Fault fault) r)
     → IfOk end (λ b. b ≡ bad) → stream_ended end ≡ stopped_by (option_or (option_map (λ fault. endings.Fault fault) r) (option_map bad_ending bad))
 ended_right None bad (Ok b) same is = ap (λ (o : Option (ℕ × Why)). stopped_by (option_map bad_ending o)) is

@@ -70,14 +70,14 @@ pub of_either : {X Y : Type 0} (r : Result X Y) (P : X → Type 0) (Q : Y → Ty
 of_either (Ok x) P Q A f g p q = f x p
 of_either (Err y) P Q A f g p q = g y q
 
--- ---- what more is told
+-- ---- what more is reported
 
 -- a beginning of a text is one of what is longer
 pub begun_longer : (o : Option (List ℕ)) (old new : Option (List ℕ)) (more : List ℕ) → IfSome o (IsBegun old new) → IfSome o (λ text. IsBegun old new (text ++ more))
 begun_longer None old new more b = tt
 begun_longer (Some text) old new more (front, begins, a) = (front, front-longer text more front begins, a)
 
--- behind all of the text some of more was written, or all of it
+-- after all of the text some of more was written, or all of it
 pub begun_with : {X : Type 0} (o : Option (List ℕ)) (old mid new : Option (List ℕ)) (more : List ℕ) (r : Result X Ending) → IfSome o (Appends old mid) → OnOk r (Appends mid new more)
     → OnErr r ((front : List ℕ) × BeginsWith more front × Appends mid new front) → IfSome o (λ text. IsBegun old new (text ++ more))
 begun_with None old mid new more r a ok err = tt

@@ -89,7 +89,7 @@ unended pending (says.Upgrade ∷ rest) = unended [] rest
 unended pending (says.Verify ∷ rest) = unended [] rest
 unended pending (_ ∷ rest) = unended pending rest
 
--- the fault tells of the first bad line, or that memory was refused
+-- the fault is that of the first bad line, or that memory was refused
 abbrev pub IsRightFault : List Says → TextFault → Type 0
 IsRightFault says (faults.Bad n why) = first_bad 1 says ≡ Some (n, why)
 IsRightFault says faults.Memory = Unit {0}

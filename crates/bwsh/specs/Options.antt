@@ -43,7 +43,7 @@ flag_names = codes "create" ∷ codes "version" ∷ codes "explain" ∷ codes "s
 abbrev pub takes_nothing : Text → Bool
 takes_nothing name = list_any (λ known. bytes_eq known name) flag_names
 
--- the text is a whole number from 0 to 4294967295, in digits behind a sign or none
+-- the text is a whole number from 0 to 4294967295, in digits after a sign or none
 abbrev pub is_number : Text → Bool
 is_number text = is_signed_in (pos 0) (pos 4294967295) text
 

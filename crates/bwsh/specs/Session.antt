@@ -359,11 +359,11 @@ BeginsWith {X} xs front = (rest : List X) × (xs ≡ front ++ rest)
 abbrev pub IsBegun : Option Bytes → Option Bytes → Bytes → Type 0
 IsBegun old new text = (front : Bytes) × BeginsWith text front × Appends old new front
 
--- known bytes grow by a beginning of what is told of this end, where a clause can say what that is, and of this after it
+-- known bytes grow by a beginning of what is reported of this end, where a clause can say what that is, and of this after it
 abbrev pub IsToldWith : Bytes → Result (Unit {0}) Ending → Option Bytes → Option Bytes → Type 0
 IsToldWith more end old new = IfSome (told_text end) (λ text. IsBegun old new (text ++ more))
 
--- so it is, and more than that is told only for words that ask for an explanation
+-- so it is, and more than that is reported only for words that ask for an explanation
 abbrev pub IsTold : List Bytes → Result (Unit {0}) Ending → Option Bytes → Option Bytes → Type 0
 IsTold words end old new = (more : Bytes) × (AsksToExplain words ⊎ (more ≡ [])) × IsToldWith more end old new
 

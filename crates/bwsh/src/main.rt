@@ -1,23 +1,23 @@
 //! `bwsh`: reads a batch file from standard input, runs it on a store, and prints what it answers.
 #![tactic(auto)]
 
-pub mod batch;
-pub mod batch_file;
+mod batch;
+mod batch_file;
 mod explain;
-pub mod laws;
-pub mod line;
-pub mod notes;
-pub mod number;
+mod laws;
+mod line;
+mod notes;
+mod number;
 mod opening;
-pub mod options;
+mod options;
 mod output;
-pub mod program;
+mod program;
 mod running;
-pub mod session;
-pub mod show;
+mod session;
+mod show;
 mod stream;
-pub mod token;
-pub mod words;
+mod token;
+mod words;
 
 use crate::program::run_program;
 use std::process::ExitCode;

@@ -52,7 +52,7 @@ const STREAM: &str =
     "Reads line by line, and answers each batch before it reads on; a bad line ends \
     the session there";
 
-// What the help says behind the options.
+// The help after the options.
 const AFTER_HELP: &str = "\
 All of standard input is read before anything is run: where one of its lines is bad, nothing is run.
 With --stream it is read line by line: a line go, flush, clean, upgrade or verify is done, and its
@@ -229,7 +229,7 @@ fn ways(matches: &ArgMatches<'_>) -> Ways
     }
 }
 
-/// Reads the words behind the program's name: `[--fan N] [--chain N] [--max-key N] [--max-value N] [--seg-size N]
+/// Reads the words after the program's name: `[--fan N] [--chain N] [--max-key N] [--max-value N] [--seg-size N]
 /// [--segments N] [--workers N] [--grain N] [--disk PATH] [--create] [--version] [--explain] [--stat] [--clean-when-full]
 /// [--stream]`, in any order,
 /// `--fan=N` too, and `--help` or `-h`. A number that is not given has its default. Whether the numbers are in range is for `Settings::check` and `Crew::check` to say.

@@ -1,4 +1,4 @@
-//! A session: the batch file is read, and run by a crew on the store that the command line tells: a new one in memory, or one in a file.
+//! A session: the batch file is read, and run by a crew on the store that the command line names: a new one in memory, or one in a file.
 ghost use Rattle.std.specs.Prelude.{false, true, replicate, ◌≡◌, ◌≢◌, ◌↔◌, ◌⊎◌, [], ◌∷◌, ◌++◌, map, None, IfSome, Result, Ok, Err, IsOk, IfOk, OnOk, OnErr, MatchResult};
 ghost use Rattle.std.specs.List.{list_any};
 ghost use Rattle.std.specs.String.{string_bytes};
@@ -40,7 +40,7 @@ const LINE: usize = 64;
 // What is printed for the version.
 const VERSION: &[u8] = b"bwsh 0.1.0\n";
 
-// What is told of words that cannot be read.
+// What is reported of words that cannot be read.
 const UNREAD: &[u8] = b"error: a word of the command line is no text\n";
 
 /// Why a session ends before all is done. It prints as what goes to standard error, with its line feeds.
@@ -199,7 +199,7 @@ where
     }
 }
 
-/// Reads the batch file that `input` holds, and has it run by the crew on the store that is told: a new one in memory, or in a
+/// Reads the batch file that `input` holds, and has it run by the crew on the store that is named: a new one in memory, or in a
 /// file that is made anew; or the one that the file holds. The answers go to `out`, in lines, and are the same for every
 /// crew. Where all is done, or a line is bad or there is no store (nothing is run then), or the store refuses an order, all
 /// answers stand there. Where memory is refused, some first lines of them do; where a device fails, some first bytes. A bad
@@ -341,7 +341,7 @@ fn tell_all<E: Write>(ending: &Ending, more: &[u8], err: &mut E) -> Result<(), E
     write_bytes(more, err)
 }
 
-// Tells why the session ends early, if it does, and then more of it, and returns the exit status. Where that cannot be told, nothing
+// Reports why the session ends early, if it does, and then more of it, and returns the exit status. Where that cannot be written, nothing
 // is left to tell it to.
 fn end<E: Write>(done: Result<(), Ending>, more: &[u8], err: &mut E) -> u8
     ensures status { result ≡ status_of_end done }
@@ -416,7 +416,7 @@ where
         × ((front : Bytes) × BeginsWith (printed_by start shown (orders_run told start shown text)) front × Appends (O.contents out.old) (O.contents out.new) front))) }
 
     // How it ends, and what is read and printed, is right for the words and the text but for memory and devices.
-    // What goes to `err` is told of this end, or a beginning of it; and more only where the words ask to explain it.
+    // What goes to `err` reports this end, or a beginning of it; and more only where the words ask to explain it.
     ensures ends { EndsTold (map string_bytes words.now)
         (I.remaining input.old) (O.contents out.old) (O.contents out.new)
         (E.contents err.old) (E.contents err.new)

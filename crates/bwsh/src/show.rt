@@ -28,7 +28,7 @@ pub struct StoreNumbers {
     pub pairs: u128,
 }
 
-// Appends what the first line of a reply with so many rows says.
+// Appends the first line of a reply with this number of rows.
 fn push_count(count: usize, out: &mut Vec<u8>) -> Result<(), AllocError>
     ensures ok { OnOk result (out.new.items ≡ out.old.items ++ codes "rows " ++ decimal count) }
     ensures err { OnErr result (out.new.items ≡ out.old.items) }

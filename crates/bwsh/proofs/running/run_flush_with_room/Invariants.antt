@@ -2,7 +2,7 @@ use Rattle.std.proofs.Common.{◌≡◌, false}
 use Rattle.bwsh.proofs.RoomLemmas.{LeadsRoom}
 use Rattle.bwsh.proofs.running.run_flush_with_room.Given as goal
 
--- what a flush prints of the store that is there, with as many cleans in front of it at most as are left, is behind what was printed what this one prints
+-- what a flush prints of the store that is there, with as many cleans in front of it at most as are left, is, after what was printed, what this one prints
 abbrev pub invariant-room : goal.invariant-room
 invariant-room g l = record {
   settings : l.store.settings ≡ l.fn.store.settings;

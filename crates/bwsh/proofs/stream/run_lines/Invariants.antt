@@ -2,7 +2,7 @@ use Rattle.std.proofs.Common.{◌≡◌, false}
 use Rattle.bwsh.proofs.StreamLemmas.{LeadsOn}
 use Rattle.bwsh.proofs.stream.run_lines.Given as goal
 
--- what the lines that are left say prints behind what was printed what all lines of the stream print
+-- what the lines that are left print after what was printed is what all lines of the stream print
 abbrev pub invariant-loop-line : goal.invariant-loop-line
 invariant-loop-line g l = record {
   settings : l.store.settings ≡ l.fn.store.settings;
