@@ -40,7 +40,8 @@ impl Batch {
         pending: &mut Vec<Command<Global>>,
         line: &[u8],
     ) -> Result<Self, AllocError>
-        requires { length pending.old.items ≡ 1 → pending.old.items ≡ command_in (line_says line.now) }
+        requires { length pending.old.items ≡ 1 →
+            pending.old.items ≡ command_in (line_says line.now) }
         ensures commands { IfOk result (λ batch. batch ≡ pending.old.items) }
         ensures pending { OnOk result (pending.new.items ≡ []) }
     {

@@ -77,7 +77,8 @@ fn push_pending(
     orders: &mut Vec<Order>,
 ) -> Result<(), AllocError>
     requires { length pending.old.items ≡ 1 → pending.old.items ≡ command_in (line_says line.now) }
-    ensures orders { OnOk result (orders.new.items ≡ orders.old.items ++ last_order pending.old.items) }
+    ensures orders { OnOk result
+        (orders.new.items ≡ orders.old.items ++ last_order pending.old.items) }
     ensures pending { OnOk result (pending.new.items ≡ []) }
 {
     if !pending.is_empty() {
@@ -96,7 +97,8 @@ fn push_behind(
     orders: &mut Vec<Order>,
 ) -> Result<(), AllocError>
     requires { length pending.old.items ≡ 1 → pending.old.items ≡ command_in (line_says line.now) }
-    ensures orders { OnOk result (orders.new.items ≡ orders.old.items ++ last_order pending.old.items ++ order ∷ []) }
+    ensures orders { OnOk result
+        (orders.new.items ≡ orders.old.items ++ last_order pending.old.items ++ order ∷ []) }
     ensures pending { OnOk result (pending.new.items ≡ []) }
 {
     push_pending(alloc, pending, line, orders)?;

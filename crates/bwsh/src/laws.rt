@@ -27,8 +27,10 @@ ghost use Rattle.bwsh.specs.Words.{words_of};
 /// A byte string as it is printed is one word, of characters from 0x21 to 0x7E, and reads back as that byte string.
 pub fn what_is_printed_is_read_back()
     ensures bytes { (bs : Bytes) → All (λ b. b < 256) bs → token_bytes (shown_token bs) ≡ Some bs }
-    ensures printable { (bs : Bytes) → All (λ b. b < 256) bs → All (λ c. (0x21 ≤ c) × (c ≤ 0x7E)) (shown_token bs) }
-    ensures one_word { (bs : Bytes) → All (λ b. b < 256) bs → words_of (shown_token bs) ≡ shown_token bs ∷ [] }
+    ensures printable { (bs : Bytes) → All (λ b. b < 256) bs →
+        All (λ c. (0x21 ≤ c) × (c ≤ 0x7E)) (shown_token bs) }
+    ensures one_word { (bs : Bytes) → All (λ b. b < 256) bs →
+        words_of (shown_token bs) ≡ shown_token bs ∷ [] }
 {}
 
 /// The commands of the orders, joined end to end, are the commands that the lines say: each once, in their order.
@@ -47,56 +49,80 @@ pub fn batches_are_read_back()
 /// the line of the sequence number that it leaves, as an upgrade does, a clean that of the head segment, and all three leave the map as
 /// it is. A verify prints the line of the report on the tree, the order for the numbers their line, and both leave all as it is.
 pub fn each_order_prints_its_answer()
-    ensures none { (settings : Settings) → (st : Store) → (shown : Reads) → (m : Pairs Bytes) → printed settings st shown m [] ≡ [] }
-    ensures batch { (settings : Settings) → (st : Store) → (shown : Reads) → (m : Pairs Bytes) → (commands : List (Command Global)) → (rest : List Order) →
-        printed settings st shown m (Batch commands ∷ rest) ≡ flat_map shown_reply (replies_to m commands)
-        ++ printed settings (behind settings st (shown 0) (Batch commands)).0 (later shown) (map_after_all m commands) rest }
-    ensures flush { (settings : Settings) → (st : Store) → (shown : Reads) → (m : Pairs Bytes) → (rest : List Order) →
-        printed settings st shown m (Flush ∷ rest) ≡ shown_flushed (behind settings st (shown 0) Flush).0.sequence
+    ensures none { (settings : Settings) → (st : Store) → (shown : Reads) → (m : Pairs Bytes) →
+        printed settings st shown m [] ≡ [] }
+    ensures batch { (settings : Settings) → (st : Store) → (shown : Reads) → (m : Pairs Bytes) →
+        (commands : List (Command Global)) → (rest : List Order) →
+        printed settings st shown m (Batch commands ∷ rest)
+        ≡ flat_map shown_reply (replies_to m commands)
+        ++ printed settings (behind settings st (shown 0) (Batch commands)).0 (later shown)
+        (map_after_all m commands) rest }
+    ensures flush { (settings : Settings) → (st : Store) → (shown : Reads) → (m : Pairs Bytes) →
+        (rest : List Order) →
+        printed settings st shown m (Flush ∷ rest)
+        ≡ shown_flushed (behind settings st (shown 0) Flush).0.sequence
         ++ printed settings (behind settings st (shown 0) Flush).0 (later shown) m rest }
-    ensures clean { (settings : Settings) → (st : Store) → (shown : Reads) → (m : Pairs Bytes) → (rest : List Order) →
-        printed settings st shown m (Clean ∷ rest) ≡ shown_cleaned (behind settings st (shown 0) Clean).0.head
+    ensures clean { (settings : Settings) → (st : Store) → (shown : Reads) → (m : Pairs Bytes) →
+        (rest : List Order) →
+        printed settings st shown m (Clean ∷ rest)
+        ≡ shown_cleaned (behind settings st (shown 0) Clean).0.head
         ++ printed settings (behind settings st (shown 0) Clean).0 (later shown) m rest }
-    ensures upgrade { (settings : Settings) → (st : Store) → (shown : Reads) → (m : Pairs Bytes) → (rest : List Order) →
-        printed settings st shown m (Upgrade ∷ rest) ≡ shown_upgraded (behind settings st (shown 0) Upgrade).0.sequence
+    ensures upgrade { (settings : Settings) → (st : Store) → (shown : Reads) → (m : Pairs Bytes) →
+        (rest : List Order) →
+        printed settings st shown m (Upgrade ∷ rest)
+        ≡ shown_upgraded (behind settings st (shown 0) Upgrade).0.sequence
         ++ printed settings (behind settings st (shown 0) Upgrade).0 (later shown) m rest }
-    ensures verify { (settings : Settings) → (st : Store) → (shown : Reads) → (m : Pairs Bytes) → (rest : List Order) →
-        printed settings st shown m (Verify ∷ rest) ≡ shown_report (report st.tree) ++ printed settings st (later shown) m rest }
-    ensures numbers { (settings : Settings) → (st : Store) → (shown : Reads) → (m : Pairs Bytes) → (rest : List Order) →
-        printed settings st shown m (Numbers ∷ rest) ≡ shown_numbers (numbers_of settings st) ++ printed settings st (later shown) m rest }
+    ensures verify { (settings : Settings) → (st : Store) → (shown : Reads) → (m : Pairs Bytes) →
+        (rest : List Order) →
+        printed settings st shown m (Verify ∷ rest)
+        ≡ shown_report (report st.tree) ++ printed settings st (later shown) m rest }
+    ensures numbers { (settings : Settings) → (st : Store) → (shown : Reads) → (m : Pairs Bytes) →
+        (rest : List Order) →
+        printed settings st shown m (Numbers ∷ rest)
+        ≡ shown_numbers (numbers_of settings st) ++ printed settings st (later shown) m rest }
 {}
 
 /// Where all are batches, what is printed in all are an ordered map's replies to the commands that are ordered, one after the other: it
 /// makes no difference how they are cut into batches, nor what the settings are, what is stored and what the disk shows. So it is where
 /// no line says `flush`, `clean`, `upgrade` or `verify`.
 pub fn the_commands_are_answered_in_order()
-    ensures orders { (settings : Settings) → (st : Store) → (shown : Reads) → (m : Pairs Bytes) → (orders : List Order) → All IsBatch orders →
-        printed settings st shown m orders ≡ flat_map shown_reply (replies_to m (flat_map commands_of orders)) }
-    ensures lines { (settings : Settings) → (st : Store) → (shown : Reads) → (said : List Says) → All IsForBatches said →
-        printed settings st shown [] (orders_of [] said) ≡ flat_map shown_reply (replies_to [] (commands_said said)) }
+    ensures orders { (settings : Settings) → (st : Store) → (shown : Reads) → (m : Pairs Bytes) →
+        (orders : List Order) → All IsBatch orders →
+        printed settings st shown m orders
+        ≡ flat_map shown_reply (replies_to m (flat_map commands_of orders)) }
+    ensures lines { (settings : Settings) → (st : Store) → (shown : Reads) → (said : List Says) →
+        All IsForBatches said →
+        printed settings st shown [] (orders_of [] said)
+        ≡ flat_map shown_reply (replies_to [] (commands_said said)) }
 {}
 
 /// Where no order is a clean, what orders answer, which of them are accepted and how they end doesn't depend on the bytes of the disk:
 /// it makes no difference what it shows, but where a store is read of it.
 pub fn the_bytes_of_the_disk_do_not_matter()
-    ensures lines { (settings : Settings) → (st : Store) → (shown other : Reads) → (m : Pairs Bytes) → (orders : List Order) → All IsNoClean orders →
+    ensures lines { (settings : Settings) → (st : Store) → (shown other : Reads) →
+        (m : Pairs Bytes) → (orders : List Order) → All IsNoClean orders →
         answer_lines settings st shown m orders ≡ answer_lines settings st other m orders }
-    ensures accepted { (settings : Settings) → (st : Store) → (shown other : Reads) → (orders : List Order) → All IsNoClean orders →
+    ensures accepted { (settings : Settings) → (st : Store) → (shown other : Reads) →
+        (orders : List Order) → All IsNoClean orders →
         accepted settings st shown orders ≡ accepted settings st other orders }
-    ensures end { (settings : Settings) → (st : Store) → (shown other : Reads) → (orders : List Order) → All IsNoClean orders →
+    ensures end { (settings : Settings) → (st : Store) → (shown other : Reads) →
+        (orders : List Order) → All IsNoClean orders →
         orders_end settings st shown orders ≡ orders_end settings st other orders }
 {}
 
 /// Where the disk shows what was left, all of that is decided by the store and by the bytes of the disk before the first order, with
 /// cleans too. There is such a disk.
 pub fn what_was_left_decides_the_answers()
-    ensures lines { (settings : Settings) → (st : Store) → (file : Bytes) → (shown other : Reads) → (m : Pairs Bytes) → (orders : List Order) →
+    ensures lines { (settings : Settings) → (st : Store) → (file : Bytes) → (shown other : Reads) →
+        (m : Pairs Bytes) → (orders : List Order) →
         AreLeft settings st file shown orders → AreLeft settings st file other orders →
         answer_lines settings st shown m orders ≡ answer_lines settings st other m orders }
-    ensures accepted { (settings : Settings) → (st : Store) → (file : Bytes) → (shown other : Reads) → (orders : List Order) →
+    ensures accepted { (settings : Settings) → (st : Store) → (file : Bytes) →
+        (shown other : Reads) → (orders : List Order) →
         AreLeft settings st file shown orders → AreLeft settings st file other orders →
         accepted settings st shown orders ≡ accepted settings st other orders }
-    ensures end { (settings : Settings) → (st : Store) → (file : Bytes) → (shown other : Reads) → (orders : List Order) →
+    ensures end { (settings : Settings) → (st : Store) → (file : Bytes) → (shown other : Reads) →
+        (orders : List Order) →
         AreLeft settings st file shown orders → AreLeft settings st file other orders →
         orders_end settings st shown orders ≡ orders_end settings st other orders }
     ensures some { (settings : Settings) → (st : Store) → (file : Bytes) → (orders : List Order) →
@@ -106,27 +132,35 @@ pub fn what_was_left_decides_the_answers()
 /// The cleans that make room for flushes change nothing else of the orders: the commands are the same, and without the cleans the orders
 /// are, where none of these is a clean.
 pub fn cleans_alone_are_put_among_orders()
-    ensures commands { (settings : Settings) → (st : Store) → (shown : Reads) → (orders : List Order) →
+    ensures commands { (settings : Settings) → (st : Store) → (shown : Reads) →
+        (orders : List Order) →
         flat_map commands_of (with_cleans settings st shown orders) ≡ flat_map commands_of orders }
-    ensures others { (settings : Settings) → (st : Store) → (shown : Reads) → (orders : List Order) → All IsNoClean orders →
+    ensures others { (settings : Settings) → (st : Store) → (shown : Reads) →
+        (orders : List Order) → All IsNoClean orders →
         filter cleans_nothing (with_cleans settings st shown orders) ≡ orders }
 {}
 
 /// A stream orders what a session does that reads all first: all of it where no line is bad, and it ends as that does; else what the lines before
 /// the first bad one order, without the commands that these don't end.
 pub fn a_stream_orders_what_stands_before_a_bad_line()
-    ensures good { (numbers : Bool) → (said : List Says) → first_bad 1 said ≡ None → streamed numbers [] said ≡ with_numbers numbers (orders_of [] said) }
-    ensures end { (start : Start) → (shown : Reads) → (orders : List Order) → end_streamed None start shown orders ≡ end_after None start shown orders }
-    ensures bad { (numbers : Bool) → (front : List Says) → first_bad 1 front ≡ None → (why : Why) → (rest : List Says) →
-        orders_of [] front ≡ streamed numbers [] (front ++ Bad why ∷ rest) ++ last_order (unended [] front) }
-    ensures found { (front : List Says) → first_bad 1 front ≡ None → (why : Why) → (rest : List Says) →
-        first_bad 1 (front ++ Bad why ∷ rest) ≡ Some (length front + 1, why) }
+    ensures good { (numbers : Bool) → (said : List Says) → first_bad 1 said ≡ None →
+        streamed numbers [] said ≡ with_numbers numbers (orders_of [] said) }
+    ensures end { (start : Start) → (shown : Reads) → (orders : List Order) →
+        end_streamed None start shown orders ≡ end_after None start shown orders }
+    ensures bad { (numbers : Bool) → (front : List Says) → first_bad 1 front ≡ None →
+        (why : Why) → (rest : List Says) →
+        orders_of [] front
+        ≡ streamed numbers [] (front ++ Bad why ∷ rest) ++ last_order (unended [] front) }
+    ensures found { (front : List Says) → first_bad 1 front ≡ None → (why : Why) →
+        (rest : List Says) → first_bad 1 (front ++ Bad why ∷ rest) ≡ Some (length front + 1, why) }
 {}
 
 /// It makes no difference to what a session may print and how it may end who its crew is, but for whether that is in range. With one
 /// that isn't there is no store, whatever else the words give.
 pub fn the_crew_does_not_matter()
-    ensures same { (told : Told) → (crew : Crew) → is_crew crew ≡ is_crew told.crew → (known old new : Option Bytes) → (end : Result (Unit {0}) Ending) →
+    ensures same { (told : Told) → (crew : Crew) → is_crew crew ≡ is_crew told.crew →
+        (known old new : Option Bytes) → (end : Result (Unit {0}) Ending) →
         Answers told known old new end → Answers (record told { crew = crew }) known old new end }
-    ensures refused { (told : Told) → is_crew told.crew ≡ false → (start : Start) → IsStart told start → start ≡ Err BadCrew }
+    ensures refused { (told : Told) → is_crew told.crew ≡ false → (start : Start) →
+        IsStart told start → start ≡ Err BadCrew }
 {}

@@ -18,7 +18,8 @@ use std::thread::Threads;
 
 // Why a session ends whose store answered this.
 pub(crate) fn store_fault(fault: Fault) -> Ending
-    ensures { ((fault ≡ Fault.Device) × (result ≡ Ending.Device)) ⊎ ((fault ≢ Fault.Device) × (result ≡ Ending.Fault fault)) }
+    ensures { ((fault ≡ Fault.Device) × (result ≡ Ending.Device))
+        ⊎ ((fault ≢ Fault.Device) × (result ≡ Ending.Fault fault)) }
 {
     match fault {
         Fault::Device => Ending::Device,
@@ -37,7 +38,8 @@ fn store_made<D: Disk + Reasoned + Drop>(
     requires room { disk_size settings ≤ (D.view disk).size }
     ensures opens { (file : Bytes) → (IsTrue (D.view disk).is_honest → (D.view disk).seen ≡ file) →
         Opens D.view (new_start settings file) result }
-    ensures honest { IfOk result (λ store. (D.view store.disk).is_honest ≡ (D.view disk).is_honest) }
+    ensures honest { IfOk result
+        (λ store. (D.view store.disk).is_honest ≡ (D.view disk).is_honest) }
     ensures fine { IfOk result (λ store. store.has_failed ≡ false) }
 {
     match Store::create(alloc, disk, settings) {
@@ -55,7 +57,8 @@ pub(crate) fn store_in_memory(
     settings: Settings,
     notes: &mut Notes,
 ) -> Result<Store<MemDisk<Global>>, Ending>
-    ensures opens { Opens ⟦<MemDisk<Global> as Disk>⟧.view (new_start settings (replicate (disk_size settings) 0)) result }
+    ensures opens { Opens ⟦<MemDisk<Global> as Disk>⟧.view
+        (new_start settings (replicate (disk_size settings) 0)) result }
     ensures honest { IsHonestStore ⟦<MemDisk<Global> as Disk>⟧.view result }
     ensures fine { IfOk result (λ store. store.has_failed ≡ false) }
 {
@@ -85,7 +88,8 @@ pub(crate) fn new_store_in_file<R: AllocGlobal + Files>(
 ) -> Result<Store<FileDisk<R::File>>, Ending>
 where
     R::File: LockFile,
-    ensures opens { (file : Bytes) → Opens ⟦<FileDisk<R::File> as Disk>⟧.view (new_start settings file) result }
+    ensures opens { (file : Bytes) →
+        Opens ⟦<FileDisk<R::File> as Disk>⟧.view (new_start settings file) result }
     ensures fine { IfOk result (λ store. store.has_failed ≡ false) }
 {
     settings.check()?;
@@ -107,7 +111,8 @@ fn store_found<R: AllocGlobal + Threads + Sync, D: Disk + Reasoned + Drop>(
     notes: &mut Notes,
 ) -> Result<Store<D>, Ending>
     requires crew { IsTrue (is_crew crew) }
-    ensures opens { (file : Bytes) × (IsTrue (D.view disk).is_honest → file ≡ (D.view disk).seen) × Opens D.view (found_start file) result }
+    ensures opens { (file : Bytes) × (IsTrue (D.view disk).is_honest → file ≡ (D.view disk).seen)
+        × Opens D.view (found_start file) result }
     ensures fine { IfOk result (λ store. store.has_failed ≡ false) }
 {
     match Store::open(rt, rt.alloc(), disk, crew) {
@@ -130,7 +135,8 @@ pub(crate) fn store_in_file<R: AllocGlobal + Threads + Sync + Files>(
 where
     R::File: LockFile,
     requires crew { IsTrue (is_crew crew) }
-    ensures opens { (file : Bytes) × Opens ⟦<FileDisk<R::File> as Disk>⟧.view (found_start file) result }
+    ensures opens { (file : Bytes) ×
+        Opens ⟦<FileDisk<R::File> as Disk>⟧.view (found_start file) result }
     ensures fine { IfOk result (λ store. store.has_failed ≡ false) }
 {
     match old_disk(rt, path, writes) {

@@ -167,7 +167,8 @@ fn parse<'a>(alloc: Global, words: &'a [String]) -> Result<ArgMatches<'a>, Error
 
 // The number that was found under the name: each option that takes one has a default, so there is always one.
 fn number_at(matches: &ArgMatches<'_>, name: &str) -> u32
-    ensures { (text : Text) → is_number text ≡ true → one_of name.now (rows_of (found_of matches.now)) ≡ Some (without_minus text)
+    ensures { (text : Text) → is_number text ≡ true
+        → one_of name.now (rows_of (found_of matches.now)) ≡ Some (without_minus text)
         → result ≡ number_of text }
 {
     matches.get_one::<u32>(name).unwrap_or_default()
@@ -175,7 +176,8 @@ fn number_at(matches: &ArgMatches<'_>, name: &str) -> u32
 
 // The settings that were found.
 fn settings(matches: &ArgMatches<'_>) -> Settings
-    ensures { (given : Given) → AreGivable given → rows_of (found_of matches.now) ≡ finished_rows given → result ≡ settings_of given }
+    ensures { (given : Given) → AreGivable given
+        → rows_of (found_of matches.now) ≡ finished_rows given → result ≡ settings_of given }
 {
     Settings {
         fan: number_at(matches, "fan"),
@@ -189,7 +191,8 @@ fn settings(matches: &ArgMatches<'_>) -> Settings
 
 // The crew that was found.
 fn crew(matches: &ArgMatches<'_>) -> Crew
-    ensures { (given : Given) → AreGivable given → rows_of (found_of matches.now) ≡ finished_rows given → result ≡ crew_of given }
+    ensures { (given : Given) → AreGivable given
+        → rows_of (found_of matches.now) ≡ finished_rows given → result ≡ crew_of given }
 {
     Crew {
         workers: number_at(matches, "workers"),
@@ -210,15 +213,16 @@ fn disk(alloc: Global, matches: &ArgMatches<'_>) -> Result<Option<String>, Alloc
 
 // Whether the option of this name, which takes nothing, was given.
 fn flag_at(matches: &ArgMatches<'_>, name: &str) -> bool
-    ensures { takes_nothing name.now ≡ true → (given : Given) → AreGivable given → rows_of (found_of matches.now) ≡ finished_rows given
-        → result ≡ is_given name.now given }
+    ensures { takes_nothing name.now ≡ true → (given : Given) → AreGivable given
+        → rows_of (found_of matches.now) ≡ finished_rows given → result ≡ is_given name.now given }
 {
     matches.get_flag(name)
 }
 
 // The ways of the session that were found.
 fn ways(matches: &ArgMatches<'_>) -> Ways
-    ensures { (given : Given) → AreGivable given → rows_of (found_of matches.now) ≡ finished_rows given → result ≡ ways_of given }
+    ensures { (given : Given) → AreGivable given
+        → rows_of (found_of matches.now) ≡ finished_rows given → result ≡ ways_of given }
 {
     Ways {
         version: flag_at(matches, "version"),

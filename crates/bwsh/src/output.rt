@@ -18,8 +18,10 @@ use std::io::{ErrorKind, Write};
 
 // Appends the lines of the replies. After an `Err` the first of them stand there.
 fn show_replies(replies: &[Reply<Global>], lines: &mut Vec<u8>) -> Result<(), AllocError>
-    ensures ok { OnOk result (lines.new.items ≡ lines.old.items ++ flat_map shown_reply replies.now) }
-    ensures err { OnErr result ((shown : ℕ) × (lines.new.items ≡ lines.old.items ++ flat_map shown_reply (take shown replies.now))) }
+    ensures ok { OnOk result
+        (lines.new.items ≡ lines.old.items ++ flat_map shown_reply replies.now) }
+    ensures err { OnErr result ((shown : ℕ) ×
+        (lines.new.items ≡ lines.old.items ++ flat_map shown_reply (take shown replies.now))) }
 {
     for reply in replies {
         show_reply(reply, lines)?;
@@ -29,7 +31,8 @@ fn show_replies(replies: &[Reply<Global>], lines: &mut Vec<u8>) -> Result<(), Al
 
 // Writes some of the bytes, and returns how many: none where the call was interrupted.
 fn write_some<O: Write>(bytes: &[u8], out: &mut O) -> Result<usize, Ending>
-    ensures ok { IfOk result (λ taken. (taken ≤ length bytes.now) × Appends (O.contents out.old) (O.contents out.new) (take taken bytes.now)) }
+    ensures ok { IfOk result (λ taken. (taken ≤ length bytes.now)
+        × Appends (O.contents out.old) (O.contents out.new) (take taken bytes.now)) }
     ensures err { OnErr result (Keeps (O.contents out.old) (O.contents out.new)) }
     ensures device { IsOkUnless result Ending.Device }
 {
@@ -44,7 +47,8 @@ fn write_some<O: Write>(bytes: &[u8], out: &mut O) -> Result<usize, Ending>
 // Writes the bytes. Where the output fails, the first of them stand there; `write_all` would not say so.
 pub(crate) fn write_bytes<O: Write>(bytes: &[u8], out: &mut O) -> Result<(), Ending>
     ensures ok { OnOk result (Appends (O.contents out.old) (O.contents out.new) bytes.now) }
-    ensures err { OnErr result ((front : Bytes) × BeginsWith bytes.now front × Appends (O.contents out.old) (O.contents out.new) front) }
+    ensures err { OnErr result ((front : Bytes) × BeginsWith bytes.now front
+        × Appends (O.contents out.old) (O.contents out.new) front) }
     ensures device { IsOkUnless result Ending.Device }
 {
     let mut rest = bytes;
@@ -65,7 +69,8 @@ fn write_replies<O: Write>(
     lines: &mut Vec<u8>,
     out: &mut O,
 ) -> Result<(), Ending>
-    ensures { Prints (O.contents out.old) (O.contents out.new) (map shown_reply replies.now) (Ok tt) result }
+    ensures { Prints (O.contents out.old) (O.contents out.new)
+        (map shown_reply replies.now) (Ok tt) result }
 {
     lines.clear();
     let shown = show_replies(replies, lines);
@@ -75,7 +80,8 @@ fn write_replies<O: Write>(
 
 // Writes the line of a flush that left this sequence number, in the memory of `lines`.
 fn write_flushed<O: Write>(sequence: u64, lines: &mut Vec<u8>, out: &mut O) -> Result<(), Ending>
-    ensures { Prints (O.contents out.old) (O.contents out.new) (shown_flushed sequence ∷ []) (Ok tt) result }
+    ensures { Prints (O.contents out.old) (O.contents out.new)
+        (shown_flushed sequence ∷ []) (Ok tt) result }
 {
     lines.clear();
     show_flushed(sequence, lines)?;
@@ -84,7 +90,8 @@ fn write_flushed<O: Write>(sequence: u64, lines: &mut Vec<u8>, out: &mut O) -> R
 
 // Writes the line of a clean that left the log beginning in this segment, in the memory of `lines`.
 fn write_cleaned<O: Write>(head: u64, lines: &mut Vec<u8>, out: &mut O) -> Result<(), Ending>
-    ensures { Prints (O.contents out.old) (O.contents out.new) (shown_cleaned head ∷ []) (Ok tt) result }
+    ensures { Prints (O.contents out.old) (O.contents out.new)
+        (shown_cleaned head ∷ []) (Ok tt) result }
 {
     lines.clear();
     show_cleaned(head, lines)?;
@@ -93,7 +100,8 @@ fn write_cleaned<O: Write>(head: u64, lines: &mut Vec<u8>, out: &mut O) -> Resul
 
 // Writes the line of an upgrade that left this sequence number, in the memory of `lines`.
 fn write_upgraded<O: Write>(sequence: u64, lines: &mut Vec<u8>, out: &mut O) -> Result<(), Ending>
-    ensures { Prints (O.contents out.old) (O.contents out.new) (shown_upgraded sequence ∷ []) (Ok tt) result }
+    ensures { Prints (O.contents out.old) (O.contents out.new)
+        (shown_upgraded sequence ∷ []) (Ok tt) result }
 {
     lines.clear();
     show_upgraded(sequence, lines)?;
@@ -106,7 +114,8 @@ pub(crate) fn write_report<O: Write>(
     lines: &mut Vec<u8>,
     out: &mut O,
 ) -> Result<(), Ending>
-    ensures { Prints (O.contents out.old) (O.contents out.new) (shown_report report.now ∷ []) (Ok tt) result }
+    ensures { Prints (O.contents out.old) (O.contents out.new)
+        (shown_report report.now ∷ []) (Ok tt) result }
 {
     lines.clear();
     show_report(report, lines)?;
@@ -119,7 +128,8 @@ pub(crate) fn write_numbers<O: Write>(
     lines: &mut Vec<u8>,
     out: &mut O,
 ) -> Result<(), Ending>
-    ensures { Prints (O.contents out.old) (O.contents out.new) (shown_numbers numbers.now ∷ []) (Ok tt) result }
+    ensures { Prints (O.contents out.old) (O.contents out.new)
+        (shown_numbers numbers.now ∷ []) (Ok tt) result }
 {
     lines.clear();
     show_numbers(numbers, lines)?;
@@ -128,7 +138,8 @@ pub(crate) fn write_numbers<O: Write>(
 
 // Writes the lines of an answer.
 fn write_answer<O: Write>(answer: &Answer, lines: &mut Vec<u8>, out: &mut O) -> Result<(), Ending>
-    ensures { Prints (O.contents out.old) (O.contents out.new) (shown_answer (answer_of answer.now)) (Ok tt) result }
+    ensures { Prints (O.contents out.old) (O.contents out.new)
+        (shown_answer (answer_of answer.now)) (Ok tt) result }
 {
     match answer {
         Answer::Replies(replies) => write_replies(replies, lines, out),
@@ -144,7 +155,8 @@ pub(crate) fn write_answers<O: Write>(
     lines: &mut Vec<u8>,
     out: &mut O,
 ) -> Result<(), Ending>
-    ensures { Prints (O.contents out.old) (O.contents out.new) (flat_map shown_answer (map answer_of answers.now)) (Ok tt) result }
+    ensures { Prints (O.contents out.old) (O.contents out.new)
+        (flat_map shown_answer (map answer_of answers.now)) (Ok tt) result }
 {
     for answer in answers {
         write_answer(answer, lines, out)?;

@@ -47,13 +47,16 @@ pub(crate) fn run_step<R: Threads + Sync, D: Disk, O: Write>(
     requires crew { IsTrue (is_crew crew) }
     requires fine { store.old.has_failed ≡ false }
     ensures runs { (order : Order) → step_in order ≡ Some (step_of step.entry) →
-        RunsOrder (D.view store.old.disk).is_honest store.old.settings store.old.store (D.view store.old.disk).seen order
-        (O.contents out.old) (O.contents out.new) result store.new.store (D.view store.new.disk).seen }
+        RunsOrder (D.view store.old.disk).is_honest store.old.settings store.old.store
+        (D.view store.old.disk).seen order (O.contents out.old) (O.contents out.new)
+        result store.new.store (D.view store.new.disk).seen }
     ensures settings { store.new.settings ≡ store.old.settings }
     ensures honest { (D.view store.new.disk).is_honest ≡ (D.view store.old.disk).is_honest }
     ensures failed { OnOk result (store.new.has_failed ≡ store.old.has_failed) }
-    ensures full { result ≡ Err (Ending.Fault Fault.Full) → (store.new.store ≡ store.old.store) × (store.new.has_failed ≡ store.old.has_failed)
-        × (IsTrue (D.view store.old.disk).is_honest → (D.view store.new.disk).seen ≡ (D.view store.old.disk).seen) }
+    ensures full { result ≡ Err (Ending.Fault Fault.Full) →
+        (store.new.store ≡ store.old.store) × (store.new.has_failed ≡ store.old.has_failed)
+        × (IsTrue (D.view store.old.disk).is_honest →
+        (D.view store.new.disk).seen ≡ (D.view store.old.disk).seen) }
 {
     // Only for the proof.
     the_plan_holds_the_map_after_the_commands::<Global>();
@@ -96,8 +99,10 @@ fn run_flush_with_room<R: AllocGlobal + Threads + Sync, D: Disk, O: Write>(
 ) -> Result<(), Ending>
     requires crew { IsTrue (is_crew crew) }
     requires fine { store.old.has_failed ≡ false }
-    ensures runs { RunsFirst true (D.view store.old.disk).is_honest store.old.settings store.old.store (D.view store.old.disk).seen (Order.Flush ∷ [])
-        (O.contents out.old) (O.contents out.new) result store.new.store (D.view store.new.disk).seen }
+    ensures runs { RunsFirst true (D.view store.old.disk).is_honest
+        store.old.settings store.old.store (D.view store.old.disk).seen (Order.Flush ∷ [])
+        (O.contents out.old) (O.contents out.new) result store.new.store
+        (D.view store.new.disk).seen }
     ensures settings { store.new.settings ≡ store.old.settings }
     ensures honest { (D.view store.new.disk).is_honest ≡ (D.view store.old.disk).is_honest }
     ensures failed { OnOk result (store.new.has_failed ≡ store.old.has_failed) }
@@ -126,8 +131,9 @@ fn run_plain<R: AllocGlobal + Threads + Sync, D: Disk, O: Write>(
 ) -> Result<(), Ending>
     requires crew { IsTrue (is_crew crew) }
     requires fine { store.old.has_failed ≡ false }
-    ensures runs { RunsOrder (D.view store.old.disk).is_honest store.old.settings store.old.store (D.view store.old.disk).seen order.now
-        (O.contents out.old) (O.contents out.new) result store.new.store (D.view store.new.disk).seen }
+    ensures runs { RunsOrder (D.view store.old.disk).is_honest store.old.settings store.old.store
+        (D.view store.old.disk).seen order.now (O.contents out.old) (O.contents out.new)
+        result store.new.store (D.view store.new.disk).seen }
     ensures settings { store.new.settings ≡ store.old.settings }
     ensures honest { (D.view store.new.disk).is_honest ≡ (D.view store.old.disk).is_honest }
     ensures failed { OnOk result (store.new.has_failed ≡ store.old.has_failed) }
@@ -170,8 +176,10 @@ pub(crate) fn run_order<R: AllocGlobal + Threads + Sync, D: Disk, O: Write>(
 ) -> Result<(), Ending>
     requires crew { IsTrue (is_crew crew) }
     requires fine { store.old.has_failed ≡ false }
-    ensures runs { RunsFirst cleans (D.view store.old.disk).is_honest store.old.settings store.old.store (D.view store.old.disk).seen (order.now ∷ [])
-        (O.contents out.old) (O.contents out.new) result store.new.store (D.view store.new.disk).seen }
+    ensures runs { RunsFirst cleans (D.view store.old.disk).is_honest
+        store.old.settings store.old.store (D.view store.old.disk).seen (order.now ∷ [])
+        (O.contents out.old) (O.contents out.new) result store.new.store
+        (D.view store.new.disk).seen }
     ensures settings { store.new.settings ≡ store.old.settings }
     ensures honest { (D.view store.new.disk).is_honest ≡ (D.view store.old.disk).is_honest }
     ensures failed { OnOk result (store.new.has_failed ≡ store.old.has_failed) }
@@ -194,8 +202,8 @@ fn run_orders<R: AllocGlobal + Threads + Sync, D: Disk, O: Write>(
 ) -> Result<(), Ending>
     requires crew { IsTrue (is_crew crew) }
     requires fine { store.old.has_failed ≡ false }
-    ensures { RunsOn cleans (D.view store.old.disk).is_honest store.old.settings store.old.store (D.view store.old.disk).seen orders.now
-        (O.contents out.old) (O.contents out.new) result }
+    ensures { RunsOn cleans (D.view store.old.disk).is_honest store.old.settings store.old.store
+        (D.view store.old.disk).seen orders.now (O.contents out.old) (O.contents out.new) result }
 {
     let mut lines = Vec::new(rt.alloc());
     for order in orders {
@@ -218,7 +226,8 @@ pub(crate) fn run_opened<R: AllocGlobal + Threads + Sync, D: Disk + Reasoned + D
     requires crew { IsTrue (is_crew crew) }
     requires fine { IfOk opened (λ store. store.has_failed ≡ false) }
     ensures { (start : Start) → Opens D.view start opened →
-        RunsFrom cleans (IsHonestStore D.view opened) start orders.now (O.contents out.old) (O.contents out.new) result }
+        RunsFrom cleans (IsHonestStore D.view opened) start orders.now
+        (O.contents out.old) (O.contents out.new) result }
 {
     let mut store = opened?;
     notes.opened();

@@ -128,7 +128,8 @@ impl From<TextFault> for Ending {
 
 // The fault of a read that failed: what was read may have found no memory.
 pub(crate) fn read_fault(error: io::Error) -> Ending
-    ensures memory { (result ≡ Ending.Fault Fault.NoMemory) ↔ (error_kind error ≡ ErrorKind.OutOfMemory) }
+    ensures memory { (result ≡ Ending.Fault Fault.NoMemory)
+        ↔ (error_kind error ≡ ErrorKind.OutOfMemory) }
     ensures either { (result ≡ Ending.Fault Fault.NoMemory) ⊎ (result ≡ Ending.Device) }
 {
     match error.kind() {
@@ -145,7 +146,10 @@ fn read_orders<I: Read>(
     notes: &mut Notes,
 ) -> Result<Vec<Order>, Ending>
     ensures { (text : Bytes) × IfSome (I.remaining input.old) (λ known. text ≡ known)
-        × MatchResult result (λ orders. (first_bad 1 (text_says text) ≡ None) × (orders.items ≡ with_numbers numbers (orders_of [] (text_says text)))) (IsReadEnding (first_bad 1 (text_says text))) }
+        × MatchResult result
+        (λ orders. (first_bad 1 (text_says text) ≡ None)
+        × (orders.items ≡ with_numbers numbers (orders_of [] (text_says text))))
+        (IsReadEnding (first_bad 1 (text_says text))) }
 {
     let mut text = Vec::new(alloc);
     if let Err(error) = input.read_to_end(&mut text) {
@@ -177,7 +181,8 @@ fn run_file<R: AllocGlobal + Threads + Sync + Files, I: Read, O: Write>(
 ) -> Result<(), Ending>
 where
     R::File: LockFile,
-    ensures { Answers (told_of told.now) (I.remaining input.old) (O.contents out.old) (O.contents out.new) result }
+    ensures { Answers (told_of told.now) (I.remaining input.old)
+        (O.contents out.old) (O.contents out.new) result }
 {
     let orders = read_orders(rt.alloc(), input, told.ways.stat, notes)?;
     ask(out)?;
@@ -229,7 +234,8 @@ pub fn run<R: AllocGlobal + Threads + Sync + Files, I: Read, O: Write>(
 ) -> Result<(), Ending>
 where
     R::File: LockFile,
-    ensures { IsAnswered (told_of told.now) (I.remaining input.old) (O.contents out.old) (O.contents out.new) result }
+    ensures { IsAnswered (told_of told.now) (I.remaining input.old)
+        (O.contents out.old) (O.contents out.new) result }
 {
     if told.ways.stream {
         return run_stream(rt, told, input, out, notes);
@@ -256,9 +262,12 @@ fn show_version<O: Write>(out: &mut O) -> Result<(), Ending>
 
 // Answers words that tell no settings: with help where they ask for it. Nothing else is printed here.
 fn answer_words<O: Write>(alloc: Global, error: clap::Error, out: &mut O) -> Result<(), Ending>
-    ensures help { kind_of error ≡ DisplayHelp → PrintsOneText (O.contents out.old) (O.contents out.new) result }
-    ensures memory { kind_of error ≡ OutOfMemory → (result ≡ Err (Ending.Fault Fault.NoMemory)) × (out.new ≡ out.old) }
-    ensures refused { kind_of error ≢ DisplayHelp → kind_of error ≢ OutOfMemory → IsForWords result × (out.new ≡ out.old) }
+    ensures help { kind_of error ≡ DisplayHelp →
+        PrintsOneText (O.contents out.old) (O.contents out.new) result }
+    ensures memory { kind_of error ≡ OutOfMemory →
+        (result ≡ Err (Ending.Fault Fault.NoMemory)) × (out.new ≡ out.old) }
+    ensures refused { kind_of error ≢ DisplayHelp → kind_of error ≢ OutOfMemory →
+        IsForWords result × (out.new ≡ out.old) }
 {
     match error.kind() {
         clap::error::ErrorKind::DisplayHelp => show_help(alloc, &error, out),
@@ -282,7 +291,8 @@ where
     ensures version { told.now.ways.version ≡ true → (input.new ≡ input.old)
         × Prints (O.contents out.old) (O.contents out.new) (version_text ∷ []) (Ok tt) result }
     ensures answers { told.now.ways.version ≡ false →
-        IsAnswered (told_of told.now) (I.remaining input.old) (O.contents out.old) (O.contents out.new) result }
+        IsAnswered (told_of told.now) (I.remaining input.old)
+        (O.contents out.old) (O.contents out.new) result }
     ensures more { told.now.ways.explain ≡ false → more.new.items ≡ [] }
 {
     if told.ways.version {
@@ -307,7 +317,8 @@ fn obey<R: AllocGlobal + Threads + Sync + Files, I: Read, O: Write>(
 where
     R::File: LockFile,
     requires { more.old.items ≡ [] }
-    ensures ends { EndsBy (map string_bytes words.now) (I.remaining input.old) (O.contents out.old) (O.contents out.new) (input.new ≡ input.old) (out.new ≡ out.old) result }
+    ensures ends { EndsBy (map string_bytes words.now) (I.remaining input.old) (O.contents out.old)
+        (O.contents out.new) (input.new ≡ input.old) (out.new ≡ out.old) result }
     ensures more { AsksToExplain (map string_bytes words.now) ⊎ (more.new.items ≡ []) }
 {
     match options(rt.alloc(), words) {
@@ -335,7 +346,8 @@ fn tell<E: Write>(ending: &Ending, err: &mut E) -> Result<(), Ending>
 
 // Tells why the session ends early, and then more of it.
 fn tell_all<E: Write>(ending: &Ending, more: &[u8], err: &mut E) -> Result<(), Ending>
-    ensures { IfSome (ending_text ending.now) (λ text. IsBegun (E.contents err.old) (E.contents err.new) (text ++ more.now)) }
+    ensures { IfSome (ending_text ending.now)
+        (λ text. IsBegun (E.contents err.old) (E.contents err.new) (text ++ more.now)) }
 {
     tell(ending, err)?;
     write_bytes(more, err)
@@ -397,23 +409,34 @@ where
 
     // Words that are refused make it 2, and nothing else does. Only for lack of memory they make it 4.
     ensures refused { (result ≡ 2) ↔ (AreRefused (map string_bytes words.now) × (result ≢ 4)) }
-    ensures untouched { AreRefused (map string_bytes words.now) → (input.new ≡ input.old) × (out.new ≡ out.old) }
+    ensures untouched { AreRefused (map string_bytes words.now) →
+        (input.new ≡ input.old) × (out.new ≡ out.old) }
 
     // What stands on the output with each status: always a beginning of what the orders of the input answer on the store that the
     // words tell, unless that is help or the version. In memory and in a file that is made anew it is a new one of the settings that they tell;
     // else it is the one that the bytes of the file stand for, whichever these are. With a crew out of range there is none, and
     // else the crew doesn't matter. A clean is done of what the disk shows: in memory that is what was left, and a file may show
     // anything.
-    ensures done { result ≡ 0 → AsksForText (map string_bytes words.now) ⊎ ((told : Told) × AsksFor (map string_bytes words.now) told
+    ensures done { result ≡ 0 →
+        AsksForText (map string_bytes words.now)
+        ⊎ ((told : Told) × AsksFor (map string_bytes words.now) told
         × IfSome (I.remaining input.old) (λ text. (first_bad 1 (text_says text) ≡ None)
-        × ((start : Start) × IsStart told start × IsOk start × (shown : Reads) × IsShown told start shown (orders_run told start shown text)
-        × Appends (O.contents out.old) (O.contents out.new) (printed_by start shown (orders_run told start shown text))))) }
-    ensures bad { result ≡ 3 → (AsksToStream (map string_bytes words.now) ⊎ Appends (O.contents out.old) (O.contents out.new) [])
-        × IfSome (I.remaining input.old) (λ text. first_bad 1 (text_says text) ≢ None) }
-    ensures beginning { AsksForText (map string_bytes words.now) ⊎ Appends (O.contents out.old) (O.contents out.new) []
-        ⊎ ((told : Told) × AsksFor (map string_bytes words.now) told × IfSome (I.remaining input.old) (λ text. (start : Start) × IsStart told start
+        × ((start : Start) × IsStart told start × IsOk start
         × (shown : Reads) × IsShown told start shown (orders_run told start shown text)
-        × ((front : Bytes) × BeginsWith (printed_by start shown (orders_run told start shown text)) front × Appends (O.contents out.old) (O.contents out.new) front))) }
+        × Appends (O.contents out.old) (O.contents out.new)
+        (printed_by start shown (orders_run told start shown text))))) }
+    ensures bad { result ≡ 3 →
+        (AsksToStream (map string_bytes words.now)
+        ⊎ Appends (O.contents out.old) (O.contents out.new) [])
+        × IfSome (I.remaining input.old) (λ text. first_bad 1 (text_says text) ≢ None) }
+    ensures beginning { AsksForText (map string_bytes words.now)
+        ⊎ Appends (O.contents out.old) (O.contents out.new) []
+        ⊎ ((told : Told) × AsksFor (map string_bytes words.now) told
+        × IfSome (I.remaining input.old) (λ text. (start : Start) × IsStart told start
+        × (shown : Reads) × IsShown told start shown (orders_run told start shown text)
+        × ((front : Bytes) ×
+        BeginsWith (printed_by start shown (orders_run told start shown text)) front
+        × Appends (O.contents out.old) (O.contents out.new) front))) }
 
     // How it ends, and what is read and printed, is right for the words and the text but for memory and devices.
     // What goes to `err` reports this end, or a beginning of it; and more only where the words ask to explain it.

@@ -45,8 +45,10 @@ fn next_line<I: BufRead>(
     line: &mut Vec<u8>,
     notes: &mut Notes,
 ) -> Result<bool, Ending>
-    ensures ok { IfOk result (IsNextLine (I.remaining input.old) (I.remaining input.new) line.new.items) }
-    ensures err { IfErr result (λ early. (early ≡ Ending.Fault Fault.NoMemory) ⊎ (early ≡ Ending.Device)) }
+    ensures ok { IfOk result
+        (IsNextLine (I.remaining input.old) (I.remaining input.new) line.new.items) }
+    ensures err { IfErr result
+        (λ early. (early ≡ Ending.Fault Fault.NoMemory) ⊎ (early ≡ Ending.Device)) }
 {
     line.clear();
     match input.read_until(b'\n', line) {
@@ -69,8 +71,10 @@ fn run_pending<R: AllocGlobal + Threads + Sync, D: Disk, O: Write>(
 ) -> Result<(), Ending>
     requires crew { IsTrue (is_crew crew) }
     requires fine { store.old.has_failed ≡ false }
-    ensures runs { (cleans : Bool) → RunsFirst cleans (D.view store.old.disk).is_honest store.old.settings store.old.store (D.view store.old.disk).seen
-        (Batch pending.old.items ∷ []) (O.contents out.old) (O.contents out.new) result store.new.store (D.view store.new.disk).seen }
+    ensures runs { (cleans : Bool) →
+        RunsFirst cleans (D.view store.old.disk).is_honest store.old.settings store.old.store
+        (D.view store.old.disk).seen (Batch pending.old.items ∷ []) (O.contents out.old)
+        (O.contents out.new) result store.new.store (D.view store.new.disk).seen }
     ensures pending { OnOk result (pending.new.items ≡ []) }
     ensures settings { store.new.settings ≡ store.old.settings }
     ensures honest { (D.view store.new.disk).is_honest ≡ (D.view store.old.disk).is_honest }
@@ -93,8 +97,10 @@ fn run_any_pending<R: AllocGlobal + Threads + Sync, D: Disk, O: Write>(
 ) -> Result<(), Ending>
     requires crew { IsTrue (is_crew crew) }
     requires fine { store.old.has_failed ≡ false }
-    ensures runs { (cleans : Bool) → RunsFirst cleans (D.view store.old.disk).is_honest store.old.settings store.old.store (D.view store.old.disk).seen
-        (last_order pending.old.items) (O.contents out.old) (O.contents out.new) result store.new.store (D.view store.new.disk).seen }
+    ensures runs { (cleans : Bool) →
+        RunsFirst cleans (D.view store.old.disk).is_honest store.old.settings store.old.store
+        (D.view store.old.disk).seen (last_order pending.old.items) (O.contents out.old)
+        (O.contents out.new) result store.new.store (D.view store.new.disk).seen }
     ensures pending { OnOk result (pending.new.items ≡ []) }
     ensures settings { store.new.settings ≡ store.old.settings }
     ensures honest { (D.view store.new.disk).is_honest ≡ (D.view store.old.disk).is_honest }
@@ -119,8 +125,10 @@ fn run_ended<R: AllocGlobal + Threads + Sync, D: Disk, O: Write>(
 ) -> Result<(), Ending>
     requires crew { IsTrue (is_crew crew) }
     requires fine { store.old.has_failed ≡ false }
-    ensures runs { RunsFirst cleans (D.view store.old.disk).is_honest store.old.settings store.old.store (D.view store.old.disk).seen
-        (last_order pending.old.items ++ order.now ∷ []) (O.contents out.old) (O.contents out.new) result store.new.store (D.view store.new.disk).seen }
+    ensures runs { RunsFirst cleans (D.view store.old.disk).is_honest
+        store.old.settings store.old.store (D.view store.old.disk).seen
+        (last_order pending.old.items ++ order.now ∷ []) (O.contents out.old) (O.contents out.new)
+        result store.new.store (D.view store.new.disk).seen }
     ensures pending { OnOk result (pending.new.items ≡ []) }
     ensures settings { store.new.settings ≡ store.old.settings }
     ensures honest { (D.view store.new.disk).is_honest ≡ (D.view store.old.disk).is_honest }
@@ -144,8 +152,10 @@ fn run_said<R: AllocGlobal + Threads + Sync, D: Disk, O: Write>(
 ) -> Result<(), Ending>
     requires crew { IsTrue (is_crew crew) }
     requires fine { store.old.has_failed ≡ false }
-    ensures runs { RunsFirst cleans (D.view store.old.disk).is_honest store.old.settings store.old.store (D.view store.old.disk).seen
-        (ended_by pending.old.items says) (O.contents out.old) (O.contents out.new) result store.new.store (D.view store.new.disk).seen }
+    ensures runs { RunsFirst cleans (D.view store.old.disk).is_honest
+        store.old.settings store.old.store (D.view store.old.disk).seen
+        (ended_by pending.old.items says) (O.contents out.old) (O.contents out.new)
+        result store.new.store (D.view store.new.disk).seen }
     ensures pending { OnOk result (pending.new.items ≡ unended pending.old.items (says ∷ [])) }
     ensures settings { store.new.settings ≡ store.old.settings }
     ensures honest { (D.view store.new.disk).is_honest ≡ (D.view store.old.disk).is_honest }
@@ -185,8 +195,10 @@ fn run_rest<R: AllocGlobal + Threads + Sync, D: Disk, O: Write>(
 ) -> Result<(), Ending>
     requires crew { IsTrue (is_crew crew) }
     requires fine { store.old.has_failed ≡ false }
-    ensures runs { RunsFirst ways.clean_when_full (D.view store.old.disk).is_honest store.old.settings store.old.store (D.view store.old.disk).seen
-        (with_numbers ways.stat (last_order pending.old.items)) (O.contents out.old) (O.contents out.new) result store.new.store (D.view store.new.disk).seen }
+    ensures runs { RunsFirst ways.clean_when_full (D.view store.old.disk).is_honest
+        store.old.settings store.old.store (D.view store.old.disk).seen
+        (with_numbers ways.stat (last_order pending.old.items)) (O.contents out.old)
+        (O.contents out.new) result store.new.store (D.view store.new.disk).seen }
     ensures settings { store.new.settings ≡ store.old.settings }
     ensures honest { (D.view store.new.disk).is_honest ≡ (D.view store.old.disk).is_honest }
 {
@@ -218,7 +230,8 @@ fn run_lines<R: AllocGlobal + Threads + Sync, D: Disk, I: BufRead, O: Write>(
 ) -> Result<Option<BadLine>, Ending>
     requires crew { IsTrue (is_crew crew) }
     requires fine { store.old.has_failed ≡ false }
-    ensures { StreamsOn ways (D.view store.old.disk).is_honest store.old.settings store.old.store (D.view store.old.disk).seen
+    ensures { StreamsOn ways (D.view store.old.disk).is_honest store.old.settings store.old.store
+        (D.view store.old.disk).seen
         (I.remaining input.old) (O.contents out.old) (O.contents out.new) result }
 {
     let alloc = rt.alloc();
@@ -267,7 +280,8 @@ fn run_opened<R: AllocGlobal + Threads + Sync, D: Disk + Reasoned + Drop, I: Buf
     requires crew { IsTrue (is_crew crew) }
     requires fine { IfOk opened (λ store. store.has_failed ≡ false) }
     ensures { (start : Start) → Opens D.view start opened →
-        StreamsFrom ways (IsHonestStore D.view opened) start (I.remaining input.old) (O.contents out.old) (O.contents out.new) result }
+        StreamsFrom ways (IsHonestStore D.view opened) start (I.remaining input.old)
+        (O.contents out.old) (O.contents out.new) result }
 {
     let mut store = opened?;
     notes.opened();
@@ -287,7 +301,8 @@ fn run_told<R: AllocGlobal + Threads + Sync + Files, I: BufRead, O: Write>(
 where
     R::File: LockFile,
     requires { IsTrue (is_crew told.now.crew) }
-    ensures { Streams (told_of told.now) (I.remaining input.old) (O.contents out.old) (O.contents out.new) result }
+    ensures { Streams (told_of told.now) (I.remaining input.old)
+        (O.contents out.old) (O.contents out.new) result }
 {
     let (crew, ways) = (told.crew, told.ways);
     match &told.disk {
@@ -316,7 +331,8 @@ pub(crate) fn run_stream<R: AllocGlobal + Threads + Sync + Files, I: Read, O: Wr
 ) -> Result<(), Ending>
 where
     R::File: LockFile,
-    ensures { Streams (told_of told.now) (I.remaining input.old) (O.contents out.old) (O.contents out.new) result }
+    ensures { Streams (told_of told.now) (I.remaining input.old)
+        (O.contents out.old) (O.contents out.new) result }
 {
     ask(out)?;
     told.crew.check()?;

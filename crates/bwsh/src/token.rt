@@ -44,7 +44,8 @@ fn are_plain(bytes: &[u8]) -> bool
 // The byte that the front of the text stands for, and the text after it.
 fn first_byte(text: &[u8]) -> Option<(u8, &[u8])>
     requires { 0 < length text.now }
-    ensures value { MatchOption result (unescaped text.now ≡ None) (λ first. unescaped text.now ≡ byte_in_front (Some first.0) (unescaped first.1.now)) }
+    ensures value { MatchOption result (unescaped text.now ≡ None)
+        (λ first. unescaped text.now ≡ byte_in_front (Some first.0) (unescaped first.1.now)) }
     ensures shorter { IfSome result (λ first. length first.1.now < length text.now) }
 {
     match text {
@@ -56,7 +57,8 @@ fn first_byte(text: &[u8]) -> Option<(u8, &[u8])>
 
 // Appends the bytes that the text stands for, and returns whether it stands for any.
 fn push_unescaped(text: &[u8], bytes: &mut Vec<u8>) -> Result<bool, AllocError>
-    ensures { IfOk result (λ well. (if well then Some bytes.new.items else None) ≡ with_front bytes.old.items (unescaped text.now)) }
+    ensures { IfOk result (λ well. (if well then Some bytes.new.items else None)
+        ≡ with_front bytes.old.items (unescaped text.now)) }
 {
     bytes.reserve(text.len())?;
     let mut rest = text;
@@ -73,7 +75,8 @@ fn push_unescaped(text: &[u8], bytes: &mut Vec<u8>) -> Result<bool, AllocError>
 /// Writes over `bytes` the bytes that the token stands for, and returns whether it stands for any. Where it does
 /// not, and after an `Err`, `bytes` has some of them.
 pub fn unescape(token: &[u8], bytes: &mut Vec<u8>) -> Result<bool, AllocError>
-    ensures { IfOk result (λ well. (if well then Some bytes.new.items else None) ≡ token_bytes token.now) }
+    ensures { IfOk result
+        (λ well. (if well then Some bytes.new.items else None) ≡ token_bytes token.now) }
 {
     bytes.clear();
     if token == b"%".as_slice() {

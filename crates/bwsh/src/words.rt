@@ -26,7 +26,8 @@ fn end_of_word(text: &[u8]) -> Option<usize>
 
 /// The first word of the line, and the rest of the line after it.
 pub fn first_word(line: &[u8]) -> Option<(&[u8], &[u8])>
-    ensures { MatchOption result (words_of line.now ≡ []) (λ first. words_of line.now ≡ first.0.now ∷ words_of first.1.now) }
+    ensures { MatchOption result (words_of line.now ≡ [])
+        (λ first. words_of line.now ≡ first.0.now ∷ words_of first.1.now) }
 {
     let start = start_of_word(line)?;
     let line = &line[start..];
@@ -55,7 +56,8 @@ pub fn two_words(line: &[u8]) -> Option<(&[u8], &[u8])>
 
 /// The three words of the line, where it has three and no more.
 pub fn three_words(line: &[u8]) -> Option<(&[u8], &[u8], &[u8])>
-    ensures { option_map (λ (a, b, c). (a.now, b.now, c.now)) result ≡ the_three (words_of line.now) }
+    ensures { option_map (λ (a, b, c). (a.now, b.now, c.now)) result
+        ≡ the_three (words_of line.now) }
 {
     let (first, rest) = first_word(line)?;
     let (second, third) = two_words(rest)?;

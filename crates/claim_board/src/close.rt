@@ -29,7 +29,8 @@ impl<P: Drop> Board<P> {
 
     // Lets one seat stand for another pass too.
     fn gather(&self, all: &mut Seat<Slot<P>, Hand<P>>, pass: Pass<P>)
-        requires all { (all.old.table_id ≡ self.now.table.shared.table_id) × (0 < all.old.me.0.passes) }
+        requires all { (all.old.table_id ≡ self.now.table.shared.table_id)
+            × (0 < all.old.me.0.passes) }
         requires pass { IsPassOf self.now pass }
         ensures same { all.new.table_id ≡ all.old.table_id }
         ensures passes { all.new.me.0.passes ≡ all.old.me.0.passes + 1 }
@@ -44,7 +45,8 @@ impl<P: Drop> Board<P> {
 
     // Ends the board with a seat that stands for all passes.
     fn give_back(self, all: Seat<Slot<P>, Hand<P>>) -> Vec<P>
-        requires all { (all.table_id ≡ self.table.shared.table_id) × (all.me.0.passes ≡ count_of_passes self) }
+        requires all { (all.table_id ≡ self.table.shared.table_id)
+            × (all.me.0.passes ≡ count_of_passes self) }
         ensures { Leaves (pieces_of self) all.me.0 result.items }
     {
         let Board { table } = self;
@@ -66,7 +68,8 @@ impl<P: Drop> Board<P> {
 // Appends the piece of a slot, if nobody drew it.
 fn put_back<P: Drop>(left: &mut Vec<P>, slot: Slot<P>, is_left: bool)
     requires { vec_len left.old < vec_capacity left.old }
-    ensures left { (piece : P) → IsTrue is_left → slot ≡ Piece piece → left.new.items ≡ left.old.items ++ piece ∷ [] }
+    ensures left { (piece : P) → IsTrue is_left → slot ≡ Piece piece →
+        left.new.items ≡ left.old.items ++ piece ∷ [] }
     ensures drawn { IsFalse is_left → left.new.items ≡ left.old.items }
     ensures as_many { vec_len left.new ≤ vec_len left.old + 1 }
     ensures room { vec_capacity left.new ≡ vec_capacity left.old }

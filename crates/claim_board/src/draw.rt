@@ -39,9 +39,12 @@ impl<P: Drop> Board<P> {
         ensures same_board { IsPassOf self.now pass.new }
 
         ensures within { IfSome result (λ found. found.0 < length (pieces_of self.now)) }
-        ensures piece { IfSome result (λ found. slice_get (pieces_of self.now) found.0 ≡ Some found.1) }
-        ensures drawn { IfSome result (λ found. drawn_by pass.new ≡ drawn_by pass.old ++ found.0 ∷ []) }
-        ensures rising { IfSome result (λ found. All (λ earlier. earlier < found.0) (drawn_by pass.old)) }
+        ensures piece { IfSome result
+            (λ found. slice_get (pieces_of self.now) found.0 ≡ Some found.1) }
+        ensures drawn { IfSome result
+            (λ found. drawn_by pass.new ≡ drawn_by pass.old ++ found.0 ∷ []) }
+        ensures rising { IfSome result
+            (λ found. All (λ earlier. earlier < found.0) (drawn_by pass.old)) }
         ensures as_many { IfSome result (λ found. length (drawn_by pass.old) ≤ found.0) }
 
         ensures none { IfNone result (drawn_by pass.new ≡ drawn_by pass.old) }

@@ -50,10 +50,12 @@ impl<P: Drop> Board<P> {
 
 // Lays the pieces in slots, in the same order. The list keeps its room.
 fn lay<P>(pieces: &mut Vec<P>, slots: &mut Vec<Slot<P>>)
-    requires { (slots.old.items ≡ []) × (vec_len slots.old + vec_len pieces.old < vec_capacity slots.old) }
+    requires { (slots.old.items ≡ [])
+        × (vec_len slots.old + vec_len pieces.old < vec_capacity slots.old) }
     ensures slots { slots.new.items ≡ map Piece pieces.old.items }
     ensures room { vec_len slots.new < vec_capacity slots.new }
-    ensures pieces { (pieces.new.items ≡ []) × (vec_len pieces.new ≡ 0) × (vec_capacity pieces.new ≡ vec_capacity pieces.old) }
+    ensures pieces { (pieces.new.items ≡ []) × (vec_len pieces.new ≡ 0)
+        × (vec_capacity pieces.new ≡ vec_capacity pieces.old) }
 {
     pieces.reverse();
     while let Some(piece) = pieces.pop() {
@@ -90,8 +92,10 @@ fn deal<P: Drop>(
     dealt: &mut Vec<Pass<P>>,
 )
     requires passes { 0 < passes }
-    requires seat { (seat.table_id ≡ board.now.table.shared.table_id) × (seat.me ≡ (hand (pieces_of board.now) passes [] 0, [])) }
-    requires dealt { (dealt.old.items ≡ []) × (vec_len dealt.old + passes ≤ vec_capacity dealt.old) }
+    requires seat { (seat.table_id ≡ board.now.table.shared.table_id)
+        × (seat.me ≡ (hand (pieces_of board.now) passes [] 0, [])) }
+    requires dealt { (dealt.old.items ≡ [])
+        × (vec_len dealt.old + passes ≤ vec_capacity dealt.old) }
     ensures as_many { length dealt.new.items ≡ passes }
     ensures new { All (IsNewPassOf board.now) dealt.new.items }
 {

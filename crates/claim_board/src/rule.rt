@@ -42,7 +42,8 @@ pub(crate) struct About<P> {
 pub(crate) struct EachOnce;
 
 impl<P> TableRule<Slot<P>, Hand<P>, About<P>> for EachOnce {
-    ghost holds = { λ about s. Keeps about.pieces.value.items (Kept about.list.value) about.passes s };
+    ghost holds = { λ about s. Keeps about.pieces.value.items
+        (Kept about.list.value) about.passes s };
 
     ghost first = { λ about. hand about.pieces.value.items about.passes [] 0 };
 }
@@ -76,7 +77,8 @@ impl<P> Split<Hand<P>> for HandOver {
 pub(crate) struct StandForBoth;
 
 impl<P> Join<Hand<P>> for StandForBoth {
-    ghost both = { λ v w. hand v.pieces (v.passes + w.passes) (v.drawn ++ w.drawn) (v.misses + w.misses) };
+    ghost both = { λ v w. hand v.pieces (v.passes + w.passes)
+        (v.drawn ++ w.drawn) (v.misses + w.misses) };
 
     ghost spent = { hand [] 0 [] 0 };
 }

@@ -46,7 +46,8 @@ fn images_in(
     format: &Format,
     by_pid: BTreeMap<u64, Kept, Global>,
 ) -> Result<Vec<Image>, AllocError>
-    ensures frames { IfOk result (λ images. frames_of_images images.items ≡ frames_kept format.now by_pid.entries) }
+    ensures frames { IfOk result
+        (λ images. frames_of_images images.items ≡ frames_kept format.now by_pid.entries) }
     ensures some { IfOk result (λ images. AllByRecursion (λ image. image ≢ []) images.items) }
     ensures ordered { IsStrictlySortedBy nat_cmp (keys_of by_pid.entries) }
 {
@@ -72,11 +73,16 @@ fn images_in(
 /// `Fault::NoMemory`.
 pub fn choose(format: &Format, pages: Gathering, head: u64) -> Result<Vec<Image>, Fault>
     requires { first_bad_field format.now.settings ≡ None }
-    ensures chosen { (found : List Found) → AreGathered format.now Head pages found → BeginsAt head found → MatchResult result
-        (λ images. (broken_in (frames_in found) ≡ None) × AreOfText images.items (clean_text head found))
-        (λ fault. (fault ≡ NoMemory) ⊎ ((f : Finding) × (broken_in (frames_in found) ≡ Some f) × (fault ≡ BadStructure f))) }
-    ensures some { (found : List Found) → AreGathered format.now Head pages found → BeginsAt head found → IfOk result (λ images.
-        (images.items ≡ []) ⊎ (1 ≤ length (clean_text head found))) }
+    ensures chosen { (found : List Found) → AreGathered format.now Head pages found →
+        BeginsAt head found →
+        MatchResult result
+        (λ images. (broken_in (frames_in found) ≡ None)
+        × AreOfText images.items (clean_text head found))
+        (λ fault. (fault ≡ NoMemory)
+        ⊎ ((f : Finding) × (broken_in (frames_in found) ≡ Some f) × (fault ≡ BadStructure f))) }
+    ensures some { (found : List Found) → AreGathered format.now Head pages found →
+        BeginsAt head found →
+        IfOk result (λ images. (images.items ≡ []) ⊎ (1 ≤ length (clean_text head found))) }
 {
     if let Some(finding) = pages.unfit() {
         return Err(Fault::BadStructure(finding));

@@ -27,12 +27,14 @@ use std::thread::Threads;
 fn read_slot_on_disk<D: Disk>(disk: &mut D, sequence: u64) -> Result<Slot, Fault>
     requires { segments_begin ≤ (D.view disk.old).size }
     ensures read { (file : Bytes) → IsReadOf (D.view disk.old) file →
-        (now : Bytes) × IsReadOf (D.view disk.new) now × IfOk result (λ t. t ≡ slot_on_disk sequence now) }
+        (now : Bytes) × IsReadOf (D.view disk.new) now
+        × IfOk result (λ t. t ≡ slot_on_disk sequence now) }
     ensures err { IfErr result (IsLate (D.failed disk.old) (D.failed disk.new)) }
     ensures kept { Kept (D.view disk.old) (D.view disk.new) }
     ensures same { IsTrue (D.view disk.old).is_honest → Same (D.view disk.old) (D.view disk.new) }
     ensures counted { OnOk result (D.failed disk.new ≡ D.failed disk.old) }
-    ensures uncounted { IfErr result (λ fault. fault ≢ Fault.Device → D.failed disk.new ≡ D.failed disk.old) }
+    ensures uncounted { IfErr result
+        (λ fault. fault ≢ Fault.Device → D.failed disk.new ≡ D.failed disk.old) }
 {
     let mut bytes = [0; SLOT_SIZE];
     read(disk, slot_place(sequence), &mut bytes)?;
@@ -53,13 +55,17 @@ fn read_text<D: Disk>(
     requires ends { AreEnds format.now.settings ends.now }
     requires more { ends.now.head ≢ last_segment format.now.settings ends.now.tail }
     ensures read { (file : Bytes) → IsReadOf (D.view disk.old) file →
-        (now : Bytes) × IsReadOf (D.view disk.new) now × (take segments_begin now ≡ take segments_begin file) × MatchResult result
+        (now : Bytes) × IsReadOf (D.view disk.new) now
+        × (take segments_begin now ≡ take segments_begin file)
+        × MatchResult result
         (λ images. IsText format.now ends.now now images.items)
-        (λ fault. IsRefused format.now ends.now now fault ⊎ IsLate (D.failed disk.old) (D.failed disk.new) fault) }
+        (λ fault. IsRefused format.now ends.now now fault
+        ⊎ IsLate (D.failed disk.old) (D.failed disk.new) fault) }
     ensures kept { Kept (D.view disk.old) (D.view disk.new) }
     ensures same { IsTrue (D.view disk.old).is_honest → Same (D.view disk.old) (D.view disk.new) }
     ensures counted { OnOk result (D.failed disk.new ≡ D.failed disk.old) }
-    ensures uncounted { IfErr result (λ fault. fault ≢ Fault.Device → D.failed disk.new ≡ D.failed disk.old) }
+    ensures uncounted { IfErr result
+        (λ fault. fault ≢ Fault.Device → D.failed disk.new ≡ D.failed disk.old) }
 {
     let pages = read_log(rt, crew, alloc, disk, format, ends, Wanted::Head)?;
     choose(format, pages, ends.head)
@@ -96,13 +102,15 @@ fn plan<D: Disk>(
     requires within { disk_size format.now.settings ≤ (D.view disk.old).size }
     requires ends { AreEnds format.now.settings ends.now }
     requires more { ends.now.head ≢ last_segment format.now.settings ends.now.tail }
-    ensures read { (file : Bytes) × IsReadOf (D.view disk.old) file × MatchResult result
-        (IsClean format.now ends.now file)
-        (λ fault. IsRefused format.now ends.now file fault ⊎ IsLate (D.failed disk.old) (D.failed disk.new) fault) }
+    ensures read { (file : Bytes) × IsReadOf (D.view disk.old) file
+        × MatchResult result (IsClean format.now ends.now file)
+        (λ fault. IsRefused format.now ends.now file fault
+        ⊎ IsLate (D.failed disk.old) (D.failed disk.new) fault) }
     ensures kept { Kept (D.view disk.old) (D.view disk.new) }
     ensures same { IsTrue (D.view disk.old).is_honest → Same (D.view disk.old) (D.view disk.new) }
     ensures counted { OnOk result (D.failed disk.new ≡ D.failed disk.old) }
-    ensures uncounted { IfErr result (λ fault. fault ≢ Fault.Device → D.failed disk.new ≡ D.failed disk.old) }
+    ensures uncounted { IfErr result
+        (λ fault. fault ≢ Fault.Device → D.failed disk.new ≡ D.failed disk.old) }
 {
     let on_disk = read_slot_on_disk(disk, ends.sequence)?;
     let images = read_text(rt, crew, alloc, disk, format, ends)?;
@@ -138,25 +146,33 @@ pub fn clean<D: Disk>(
     requires ends { AreEnds format.now.settings ends.now }
     // Of bytes that were read, which on an honest disk are what a read gives.
     ensures read { (file : Bytes) × IsReadOf (D.view disk.old) file ×
-        ((st : Store) → ends_of st ≡ ends.now → st.version ≡ format.now.version → MatchResult result
-        (λ now. (bytes : Bytes) × (after_clean format.now.settings st file ≡ Ok (store_after st.tree now, bytes)))
+        ((st : Store) → ends_of st ≡ ends.now → st.version ≡ format.now.version →
+        MatchResult result
+        (λ now. (bytes : Bytes) ×
+        (after_clean format.now.settings st file ≡ Ok (store_after st.tree now, bytes)))
         (IsCleanFault format.now.settings st file (D.failed disk.old) (D.failed disk.new))) }
-    ensures written { IsTrue (D.view disk.old).is_honest → (st : Store) → ends_of st ≡ ends.now → st.version ≡ format.now.version →
-        IfOk result (λ now.
-        after_clean format.now.settings st (D.view disk.old).seen ≡ Ok (store_after st.tree now, (D.view disk.new).seen)) }
-    ensures settled { IsTrue (D.view disk.old).is_honest → OnOk result (IsSettled (D.view disk.new)) }
+    ensures written { IsTrue (D.view disk.old).is_honest → (st : Store) → ends_of st ≡ ends.now →
+        st.version ≡ format.now.version →
+        IfOk result (λ now. after_clean format.now.settings st (D.view disk.old).seen
+        ≡ Ok (store_after st.tree now, (D.view disk.new).seen)) }
+    ensures settled { IsTrue (D.view disk.old).is_honest →
+        OnOk result (IsSettled (D.view disk.new)) }
     // On a settled disk that stands for a store with which this one is in step, a crash leaves that store, or all that the clean leaves.
-    ensures crash { IsSettled (D.view disk.old) → (st : Store) → ends_of st ≡ ends.now → st.version ≡ format.now.version →
-        IsInStep format.now.settings st (D.view disk.old).seen →
-        LeavesOnly (D.view disk.old) (D.view disk.new) (λ c. (store_of_disk c ≡ store_of_disk (D.view disk.old).seen)
-        ⊎ ((now : Store) × (after_clean format.now.settings st (D.view disk.old).seen ≡ Ok (now, c)))) }
+    ensures crash { IsSettled (D.view disk.old) → (st : Store) → ends_of st ≡ ends.now →
+        st.version ≡ format.now.version → IsInStep format.now.settings st (D.view disk.old).seen →
+        LeavesOnly (D.view disk.old) (D.view disk.new)
+        (λ c. (store_of_disk c ≡ store_of_disk (D.view disk.old).seen)
+        ⊎ ((now : Store) ×
+        (after_clean format.now.settings st (D.view disk.old).seen ≡ Ok (now, c)))) }
     // After an Err nothing was written, but where a call of the disk failed in writing what would have been done.
-    ensures unwritten { IsTrue (D.view disk.old).is_honest → (st : Store) → ends_of st ≡ ends.now → st.version ≡ format.now.version →
+    ensures unwritten { IsTrue (D.view disk.old).is_honest → (st : Store) → ends_of st ≡ ends.now →
+        st.version ≡ format.now.version →
         IfErr result (λ fault. Same (D.view disk.old) (D.view disk.new)
         ⊎ ((fault ≡ Fault.Device) × WouldClean format.now.settings st (D.view disk.old).seen)) }
     ensures kept { Kept (D.view disk.old) (D.view disk.new) }
     ensures counted { OnOk result (D.failed disk.new ≡ D.failed disk.old) }
-    ensures uncounted { IfErr result (λ fault. fault ≢ Fault.Device → D.failed disk.new ≡ D.failed disk.old) }
+    ensures uncounted { IfErr result
+        (λ fault. fault ≢ Fault.Device → D.failed disk.new ≡ D.failed disk.old) }
 {
     if ends.head == last_segment(&format.settings, ends.tail) {
         return Err(Fault::NothingToClean);

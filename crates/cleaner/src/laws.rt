@@ -17,22 +17,28 @@ ghost use Rattle.cleaner.specs.CleanText.{clean_text};
 /// version. Whatever the disk does, the store stays one as every store is.
 pub fn a_clean_keeps_the_store()
     ensures disk { (s : Settings) (st on_disk now : Store) (file bytes : Bytes) →
-        store_of_disk file ≡ Ok (s, on_disk) → AreInStep st on_disk → after_clean s st file ≡ Ok (now, bytes) →
+        store_of_disk file ≡ Ok (s, on_disk) → AreInStep st on_disk →
+        after_clean s st file ≡ Ok (now, bytes) →
         (store_of_disk bytes ≡ Ok (s, with_tree now on_disk.tree)) × IsInStep s now bytes }
-    ensures memory { (s : Settings) (st now : Store) (file bytes : Bytes) → after_clean s st file ≡ Ok (now, bytes) →
-        (now.tree ≡ st.tree) × (now.head ≡ suc st.head) × (now.sequence ≡ suc st.sequence) × (now.version ≡ st.version) }
-    ensures step { (s : Settings) (st now : Store) (file bytes : Bytes) → IsStoreOf s st file → after_clean s st file ≡ Ok (now, bytes) →
-        IsStoreOf s now bytes }
-    ensures kept { (s : Settings) (st now : Store) (file bytes : Bytes) → IsStore s st → after_clean s st file ≡ Ok (now, bytes) →
-        IsStore s now }
+    ensures memory { (s : Settings) (st now : Store) (file bytes : Bytes) →
+        after_clean s st file ≡ Ok (now, bytes) →
+        (now.tree ≡ st.tree) × (now.head ≡ suc st.head) × (now.sequence ≡ suc st.sequence)
+        × (now.version ≡ st.version) }
+    ensures step { (s : Settings) (st now : Store) (file bytes : Bytes) → IsStoreOf s st file →
+        after_clean s st file ≡ Ok (now, bytes) → IsStoreOf s now bytes }
+    ensures kept { (s : Settings) (st now : Store) (file bytes : Bytes) → IsStore s st →
+        after_clean s st file ≡ Ok (now, bytes) → IsStore s now }
 {}
 
 /// A crash at any moment of a clean leaves a disk that stands for the store that it stood for, or all that the clean leaves. Until
 /// its commit is done it stands for the first.
 pub fn a_crash_in_a_clean_leaves_the_store_before_or_after()
-    ensures hidden { (s : Settings) (st now : Store) (found : List Found) (file bytes c : Bytes) → IsInStep s st file →
+    ensures hidden { (s : Settings) (st now : Store) (found : List Found) (file bytes c : Bytes) →
+        IsInStep s st file →
         after_clean s st file ≡ Ok (now, bytes) → log s file (slot_of st) ≡ Ok found →
-        IsUncommitted s (suc st.sequence) (spans s st.tail (clean_text st.head found)) file c → store_of_disk c ≡ store_of_disk file }
-    ensures calls { (s : Settings) (st now : Store) (file bytes c : Bytes) → IsInStep s st file → after_clean s st file ≡ Ok (now, bytes) →
-        LeftDuring (clean_calls s st file) file c → (store_of_disk c ≡ store_of_disk file) ⊎ (c ≡ bytes) }
+        IsUncommitted s (suc st.sequence) (spans s st.tail (clean_text st.head found)) file c →
+        store_of_disk c ≡ store_of_disk file }
+    ensures calls { (s : Settings) (st now : Store) (file bytes c : Bytes) → IsInStep s st file →
+        after_clean s st file ≡ Ok (now, bytes) → LeftDuring (clean_calls s st file) file c →
+        (store_of_disk c ≡ store_of_disk file) ⊎ (c ≡ bytes) }
 {}

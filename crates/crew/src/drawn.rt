@@ -35,7 +35,8 @@ pub(crate) fn work_drawn<R: Threads + Sync, G: Gate, W: Work>(
     requires workers { (0 < workers) × (workers ≤ 2 ^ 32) }
     requires grain { (0 < grain) × (div_ceil (length jobs.items) grain ≤ 2 ^ 32) }
     requires accepted { All (λ job. W.accepts work.now (W.held job)) jobs.items }
-    ensures made { IfOk result (λ dones. map W.outcome dones.items ≡ map (W.made work.now) (map W.held jobs.items)) }
+    ensures made { IfOk result
+        (λ dones. map W.outcome dones.items ≡ map (W.made work.now) (map W.held jobs.items)) }
     ensures origin { IfOk result (λ dones. map W.origin dones.items ≡ map W.held jobs.items) }
     ensures held { IfErr result (λ again. map W.held again.items ≡ map W.held jobs.items) }
 {
@@ -67,7 +68,8 @@ fn draw_round<R: Threads + Sync, G: Gate, W: Work>(
     requires pieces { length pieces.items ≤ 2 ^ 32 }
     requires grain { 0 < grain }
     requires accepted { AreAccepted W.Work work.now pieces.items }
-    ensures home { IfOk result (λ homes. map (home_origins W.Work) homes.items ≡ map (held_in W.Work) pieces.items) }
+    ensures home { IfOk result
+        (λ homes. map (home_origins W.Work) homes.items ≡ map (held_in W.Work) pieces.items) }
     ensures made { IfOk result (λ homes. AllByRecursion (IsMadeHome W.Work work.now) homes.items) }
     ensures back { IfErr result (λ again. again.items ≡ pieces.items) }
 {
@@ -145,7 +147,8 @@ fn draw_all<R: Threads + Sync, G: Gate, W: Work>(
         hands.as_mut_slice(),
         count,
         &|_: usize, hand: &mut Hand<W::Job, W::Done>|
-            requires { (0 < grain) × AreAccepted W.Work work.now (pieces_of board.now) × IsHandOf W.Work work.now board.now hand.now }
+            requires { (0 < grain) × AreAccepted W.Work work.now (pieces_of board.now)
+                × IsHandOf W.Work work.now board.now hand.now }
             ensures { IsHandOf W.Work work.entry.now board.entry.now hand.exit.now }
         { draw_and_work(board, gate, grain, work, hand) },
     )
@@ -185,7 +188,8 @@ fn bring_home<J: Drop, D: Drop>(
 )
     requires room { (passes.old.items ≡ []) × (length hands.items ≤ vec_capacity passes.old) }
     ensures passes { passes.new.items ≡ map (λ hand. hand.pass) hands.items }
-    ensures homes { homes.new.items ≡ placed homes.old.items (flat_map (λ hand. hand.worked.items) hands.items) }
+    ensures homes { homes.new.items
+        ≡ placed homes.old.items (flat_map (λ hand. hand.worked.items) hands.items) }
 {
     for hand in hands {
         let Hand { pass, worked } = hand;

@@ -63,10 +63,14 @@ pub(crate) fn gather<W: Work>(
 ) -> Result<Vec<W::Done>, Vec<W::Job>>
     requires made { AllByRecursion (IsMadeHome W.Work work.now) homes.items }
     requires empty { (jobs.items ≡ []) × (dones.items ≡ []) }
-    requires room { (length (flat_map (home_origins W.Work) homes.items) ≤ vec_capacity jobs) × (length (flat_map (home_origins W.Work) homes.items) ≤ vec_capacity dones) }
-    ensures made { IfOk result (λ dones. map W.outcome dones.items ≡ map (W.made work.now) (flat_map (home_origins W.Work) homes.items)) }
-    ensures origin { IfOk result (λ dones. map W.origin dones.items ≡ flat_map (home_origins W.Work) homes.items) }
-    ensures held { IfErr result (λ again. map W.held again.items ≡ flat_map (home_origins W.Work) homes.items) }
+    requires room { (length (flat_map (home_origins W.Work) homes.items) ≤ vec_capacity jobs)
+        × (length (flat_map (home_origins W.Work) homes.items) ≤ vec_capacity dones) }
+    ensures made { IfOk result (λ dones. map W.outcome dones.items
+        ≡ map (W.made work.now) (flat_map (home_origins W.Work) homes.items)) }
+    ensures origin { IfOk result
+        (λ dones. map W.origin dones.items ≡ flat_map (home_origins W.Work) homes.items) }
+    ensures held { IfErr result
+        (λ again. map W.held again.items ≡ flat_map (home_origins W.Work) homes.items) }
 {
     let mut refused = false;
     for home in homes {

@@ -18,7 +18,8 @@ pub(crate) fn work_in_turn<W: Work, G: Gate, A: Allocator + Copy>(
 ) -> Result<Vec<W::Done, A>, Vec<W::Job, A>>
     requires grain { 0 < grain }
     requires accepted { All (λ job. W.accepts work.now (W.held job)) jobs.items }
-    ensures made { IfOk result (λ dones. map W.outcome dones.items ≡ map (W.made work.now) (map W.held jobs.items)) }
+    ensures made { IfOk result
+        (λ dones. map W.outcome dones.items ≡ map (W.made work.now) (map W.held jobs.items)) }
     ensures origin { IfOk result (λ dones. map W.origin dones.items ≡ map W.held jobs.items) }
     ensures held { IfErr result (λ again. map W.held again.items ≡ map W.held jobs.items) }
 {
@@ -65,9 +66,11 @@ pub(crate) fn undo_all<W: Work, A: Allocator>(
 /// room for all.
 pub(crate) fn undo_behind<W: Work>(work: &W, dones: &mut Vec<W::Done>, jobs: &mut Vec<W::Job>)
     requires room { length jobs.old.items + length dones.old.items ≤ vec_capacity jobs.old }
-    ensures jobs { map W.held jobs.new.items ≡ map W.held jobs.old.items ++ map W.origin dones.old.items }
+    ensures jobs { map W.held jobs.new.items
+        ≡ map W.held jobs.old.items ++ map W.origin dones.old.items }
     ensures none { dones.new.items ≡ [] }
-    ensures room { (vec_capacity jobs.new ≡ vec_capacity jobs.old) × (vec_capacity dones.new ≡ vec_capacity dones.old) }
+    ensures room { (vec_capacity jobs.new ≡ vec_capacity jobs.old)
+        × (vec_capacity dones.new ≡ vec_capacity dones.old) }
 {
     dones.reverse();
     while let Some(done) = dones.pop() {

@@ -15,6 +15,8 @@ pub fn rounds_are_sound<J, D>()
 /// What is home of which job, and whether it was made, does not depend on what is made of a job: so what `Round::after` returns holds
 /// for any work.
 pub fn marks_are_the_same_for_all_work<J, D>()
-    ensures { (made : J → D) (pieces : List (List J)) (workers : ℕ) (events : List Event) (job : ℕ) →
-        mark_at (round made pieces workers events) job ≡ mark_at (round (λ j. j) pieces workers events) job }
+    ensures { (made : J → D) (pieces : List (List J)) (workers : ℕ)
+        (events : List Event) (job : ℕ) →
+        mark_at (round made pieces workers events) job
+        ≡ mark_at (round (λ j. j) pieces workers events) job }
 {}

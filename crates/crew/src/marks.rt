@@ -33,7 +33,9 @@ impl Round {
         events: &[Event],
     ) -> Result<Round, AllocError>
         ensures { IfOk result (λ marks. (job : ℕ) →
-            slice_index_or marks job None ≡ mark_at (round (λ j. j) (map (λ piece. piece.items) pieces.now) workers events.now) job) }
+            slice_index_or marks job None
+            ≡ mark_at (round (λ j. j) (map (λ piece. piece.items) pieces.now) workers events.now)
+            job) }
     {
         let jobs = count_jobs(pieces)?;
         let mut progress = Progress::begun(alloc, pieces, workers)?;

@@ -10,7 +10,8 @@ use std::alloc::AllocError;
 pub(crate) fn cut<J: Drop>(jobs: &mut Vec<J>, grain: usize) -> Result<Vec<Vec<J>>, AllocError>
     requires grain { 0 < grain }
     ensures pieces { IfOk result (λ pieces. jobs_of pieces.items ≡ jobs.old.items) }
-    ensures few { IfOk result (λ pieces. length pieces.items ≤ div_ceil (length jobs.old.items) grain) }
+    ensures few { IfOk result
+        (λ pieces. length pieces.items ≤ div_ceil (length jobs.old.items) grain) }
     ensures emptied { OnOk result (jobs.new.items ≡ []) }
     ensures kept { OnErr result (jobs.new.items ≡ jobs.old.items) }
     ensures room { vec_capacity jobs.old ≤ vec_capacity jobs.new }

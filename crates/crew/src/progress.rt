@@ -36,7 +36,8 @@ impl Progress {
         workers: usize,
     ) -> Result<Progress, AllocError>
         requires { length (joined (map (λ piece. piece.items) pieces.now)) < 2 ^ 64 }
-        ensures { IfOk result (λ progress. state_by progress ≡ begun (map (λ piece. forgotten piece.items) pieces.now) workers) }
+        ensures { IfOk result (λ progress. state_by progress
+            ≡ begun (map (λ piece. forgotten piece.items) pieces.now) workers) }
     {
         let board = all_on_board(alloc, pieces)?;
         let hands = empty_hands(alloc, workers)?;
@@ -49,7 +50,8 @@ impl Progress {
 
     /// What there is after this event. One that cannot happen changes nothing.
     pub(crate) fn pass(&mut self, event: Event) -> Result<(), AllocError>
-        ensures { IfOk result (λ _. state_by self.new ≡ after_event (λ u. u) (state_by self.old) event) }
+        ensures { IfOk result
+            (λ _. state_by self.new ≡ after_event (λ u. u) (state_by self.old) event) }
     {
         match event {
             Event::Draw(worker) => {
@@ -76,7 +78,8 @@ impl Progress {
     }
 
     fn work(&mut self, worker: usize, mark: Mark) -> Result<(), AllocError>
-        ensures { IfOk result (λ _. state_by self.new ≡ after_event (λ u. u) (state_by self.old) (event_by mark worker)) }
+        ensures { IfOk result (λ _. state_by self.new
+            ≡ after_event (λ u. u) (state_by self.old) (event_by mark worker)) }
     {
         if worker < self.hands.len() {
             let hand = &mut self.hands[worker];
@@ -89,7 +92,8 @@ impl Progress {
     }
 
     fn bring_home(&mut self, worker: usize) -> Result<(), AllocError>
-        ensures { IfOk result (λ _. state_by self.new ≡ after_event (λ u. u) (state_by self.old) (Event.Home worker)) }
+        ensures { IfOk result (λ _. state_by self.new
+            ≡ after_event (λ u. u) (state_by self.old) (Event.Home worker)) }
     {
         if worker < self.hands.len() && self.board.is_empty() {
             let hand = &mut self.hands[worker];
@@ -103,7 +107,8 @@ impl Progress {
     /// The mark of each of the first `jobs` jobs, where it is home.
     pub(crate) fn marks(&self, alloc: Global, jobs: usize) -> Result<Vec<Option<Mark>>, AllocError>
         ensures count { IfOk result (λ marks. length marks.items ≡ jobs) }
-        ensures marks { IfOk result (λ marks. (job : ℕ) → job < jobs → slice_index_or marks.items job None ≡ mark_at (state_by self.now) job) }
+        ensures marks { IfOk result (λ marks. (job : ℕ) → job < jobs →
+            slice_index_or marks.items job None ≡ mark_at (state_by self.now) job) }
     {
         let mut marks = vec![in alloc; None; jobs]?;
         for (job, mark) in &self.home {
@@ -118,7 +123,8 @@ impl Progress {
 // The numbers of the jobs of each piece, counted through all of them.
 fn all_on_board<J>(alloc: Global, pieces: &[Vec<J>]) -> Result<VecDeque<Range<usize>>, AllocError>
     requires { length (joined (map (λ piece. piece.items) pieces.now)) < 2 ^ 64 }
-    ensures { IfOk result (λ board. map jobs_in board.items ≡ numbered_pieces 0 (map (λ piece. forgotten piece.items) pieces.now)) }
+    ensures { IfOk result (λ board. map jobs_in board.items
+        ≡ numbered_pieces 0 (map (λ piece. forgotten piece.items) pieces.now)) }
 {
     let mut board = VecDeque::with_capacity(alloc, pieces.len())?;
     let mut first = 0;
@@ -131,7 +137,8 @@ fn all_on_board<J>(alloc: Global, pieces: &[Vec<J>]) -> Result<VecDeque<Range<us
 }
 
 fn empty_hands(alloc: Global, workers: usize) -> Result<Vec<Hand>, AllocError>
-    ensures { IfOk result (λ hands. map hand_by hands.items ≡ replicate workers (record { unworked = []; worked = [] })) }
+    ensures { IfOk result (λ hands. map hand_by hands.items
+        ≡ replicate workers (record { unworked = []; worked = [] })) }
 {
     let mut hands = Vec::with_capacity(alloc, workers)?;
     for _ in 0..workers {

@@ -30,12 +30,16 @@ pub fn run_round<R: Threads + Sync, G: Gate, W: Work>(
     jobs: Vec<W::Job>,
 ) -> Result<Vec<W::Done>, Vec<W::Job>>
     requires { All (λ job. W.accepts work.now (W.held job)) jobs.items }
-    ensures made { IfOk result (λ dones. map W.outcome dones.items ≡ map (W.made work.now) (map W.held jobs.items)) }
+    ensures made { IfOk result
+        (λ dones. map W.outcome dones.items ≡ map (W.made work.now) (map W.held jobs.items)) }
     ensures origin { IfOk result (λ dones. map W.origin dones.items ≡ map W.held jobs.items) }
     ensures held { IfErr result (λ again. map W.held again.items ≡ map W.held jobs.items) }
     // However workers draw, work and bring home: what they bring home, all of it made, is what this gives.
-    ensures round { (pieces : List (List W.Held)) (workers : ℕ) (events : List Event) (ds : List W.Made) → joined pieces ≡ map W.held jobs.items →
-        AreHome (round (W.made work.now) pieces workers events) (length jobs.items) ds → IfOk result (λ dones. map W.outcome dones.items ≡ ds) }
+    ensures round { (pieces : List (List W.Held)) (workers : ℕ)
+        (events : List Event) (ds : List W.Made) →
+        joined pieces ≡ map W.held jobs.items →
+        AreHome (round (W.made work.now) pieces workers events) (length jobs.items) ds →
+        IfOk result (λ dones. map W.outcome dones.items ≡ ds) }
 {
     work_by_crew(rt, crew, gate, work, jobs)
 }
@@ -49,7 +53,8 @@ fn work_by_crew<R: Threads + Sync, G: Gate, W: Work>(
     jobs: Vec<W::Job>,
 ) -> Result<Vec<W::Done>, Vec<W::Job>>
     requires { All (λ job. W.accepts work.now (W.held job)) jobs.items }
-    ensures made { IfOk result (λ dones. map W.outcome dones.items ≡ map (W.made work.now) (map W.held jobs.items)) }
+    ensures made { IfOk result
+        (λ dones. map W.outcome dones.items ≡ map (W.made work.now) (map W.held jobs.items)) }
     ensures origin { IfOk result (λ dones. map W.origin dones.items ≡ map W.held jobs.items) }
     ensures held { IfErr result (λ again. map W.held again.items ≡ map W.held jobs.items) }
 {

@@ -93,7 +93,8 @@ impl<V, A: Allocator + Copy> Base<V, A> {
     // The place of the key, counted from 0, or none where it isn't there. It is looked for at this place first, which is a guess
     // of the caller's, and then by halves.
     pub(crate) fn place_near(&self, guess: usize, key: &[u8]) -> Option<usize>
-        ensures place { MatchOption result (value_at key.now self.now ≡ None) (λ at. slice_get (keys_of self.now) at ≡ Some key.now) }
+        ensures place { MatchOption result (value_at key.now self.now ≡ None)
+            (λ at. slice_get (keys_of self.now) at ≡ Some key.now) }
         ensures within { IfSome result (λ at. at < length self.now) }
     {
         let mut low = 0;

@@ -37,7 +37,8 @@ impl<V, A: Allocator> Model for Chain<V, A> {
 
     ghost view = { λ c. record { runs = reverse c.runs.items; base = c.base } };
 
-    ghost invariant = { λ c. IsCounted (record { runs = reverse c.runs.items; base = c.base }) c.entries.fewest c.entries.most c.newest_runs.numbers };
+    ghost invariant = { λ c. IsCounted (record { runs = reverse c.runs.items; base = c.base })
+        c.entries.fewest c.entries.most c.newest_runs.numbers };
 }
 
 /// Bounds on how many entries a page has, known without reading them.
@@ -82,7 +83,8 @@ impl EntryBounds {
 impl<'a, V, A: Allocator + Copy> ChainRef<'a, V, A> {
     /// The newest run and what lies below it, or none where the base stands alone.
     pub fn newest(&self) -> Option<(&'a Run<V, A>, ChainRef<'a, V, A>)>
-        ensures { MatchOption result (self.now.runs ≡ []) (λ p. self.now ≡ record { runs = p.0.now ∷ p.1.runs; base = p.1.base }) }
+        ensures { MatchOption result (self.now.runs ≡ [])
+            (λ p. self.now ≡ record { runs = p.0.now ∷ p.1.runs; base = p.1.base }) }
     {
         let (run, older) = self.runs.split_last()?;
         let below = ChainRef {
@@ -215,7 +217,10 @@ impl<V, A: Allocator + Copy> Chain<V, A> {
     // The oldest `count` runs, and the base.
     pub(crate) fn oldest(&self, count: usize) -> ChainRef<'_, V, A>
         requires { count ≤ length self.now.runs }
-        ensures { result ≡ record { runs = drop (length self.now.runs - count) self.now.runs; base = self.now.base } }
+        ensures { result ≡ record {
+          runs = drop (length self.now.runs - count) self.now.runs;
+          base = self.now.base;
+        } }
     {
         ChainRef {
             runs: &self.runs[..count],
@@ -226,7 +231,10 @@ impl<V, A: Allocator + Copy> Chain<V, A> {
     // The runs but for the oldest `count`, and the base.
     pub(crate) fn newest_above(&self, count: usize) -> ChainRef<'_, V, A>
         requires { count ≤ length self.now.runs }
-        ensures { result ≡ record { runs = take (length self.now.runs - count) self.now.runs; base = self.now.base } }
+        ensures { result ≡ record {
+          runs = take (length self.now.runs - count) self.now.runs;
+          base = self.now.base;
+        } }
     {
         ChainRef {
             runs: &self.runs[count..],
@@ -280,7 +288,8 @@ impl<V: Drop, A: Allocator + Copy> Chain<V, A> {
 
     /// Takes the newest run off, if there is one. This undoes `prepend`, and takes no memory.
     pub fn pop(&mut self) -> Option<Run<V, A>>
-        ensures { MatchOption result (self.old.runs ≡ [] × self.new ≡ self.old) (λ run. self.old ≡ record self.new { runs = run ∷ self.new.runs }) }
+        ensures { MatchOption result (self.old.runs ≡ [] × self.new ≡ self.old)
+            (λ run. self.old ≡ record self.new { runs = run ∷ self.new.runs }) }
     {
         let run = self.runs.pop()?;
         let added = run.len();
@@ -358,12 +367,17 @@ fn swap_in_runs<V: Drop, A: Allocator + Copy>(
     key: &KeyRef<'_>,
     cell: &mut V,
 ) -> bool
-    ensures cell { (base : List (Bytes × V)) → unwrap_or (held_under key.now (reverse runs.old) base) cell.old ≡
+    ensures cell { (base : List (Bytes × V)) →
+        unwrap_or (held_under key.now (reverse runs.old) base) cell.old ≡
         (if result then cell.new else unwrap_or (value_at key.now base) cell.old) }
     ensures kept { result ≡ false → cell.new ≡ cell.old }
     ensures count { length runs.new ≡ length runs.old }
-    ensures page { (base : List (Bytes × V)) → exchanged_under key.now cell.old (reverse runs.old) base ≡
-        record { runs = reverse runs.new; base = if result then base else (exchanged_under key.now cell.old [] base).base } }
+    ensures page { (base : List (Bytes × V)) →
+        exchanged_under key.now cell.old (reverse runs.old) base ≡
+        record {
+          runs = reverse runs.new;
+          base = if result then base else (exchanged_under key.now cell.old [] base).base;
+        } }
 {
     let Some((newest, older)) = runs.split_last_mut() else {
         return false;

@@ -116,8 +116,10 @@ impl<T, A: Allocator + Copy> Entries<T, A> {
     // The place of the key, or else the place where it goes.
     pub(crate) fn search(&self, key: &KeyRef<'_>) -> Result<usize, usize>
         ensures { MatchResult result
-            (λ at. (at < length self.now) × (slice_get (keys_of self.now) at ≡ Some key.now) × (value_at key.now self.now ≡ slice_get (values_of self.now) at))
-            (λ at. (at ≤ length self.now) × (value_at key.now self.now ≡ None) × ((item : T) → with_pair self.now key.now item ≡ insert self.now at (key.now, item))) }
+            (λ at. (at < length self.now) × (slice_get (keys_of self.now) at ≡ Some key.now)
+            × (value_at key.now self.now ≡ slice_get (values_of self.now) at))
+            (λ at. (at ≤ length self.now) × (value_at key.now self.now ≡ None)
+            × ((item : T) → with_pair self.now key.now item ≡ insert self.now at (key.now, item))) }
     {
         match &self.kept {
             KeptEntries::One(entry) => match entry.0.key_ref().compare(key) {

@@ -99,7 +99,10 @@ impl<V: Cell<A> + Drop, A: Allocator + Copy> LateChain<V, A> {
 impl<V: Drop, A: Allocator + Copy> LateChain<V, A> {
     /// Puts the run in front. Where memory is refused all stays as it was and the run comes back.
     pub fn prepend(&mut self, run: Run<V, A>) -> Result<(), (AllocError, Run<V, A>)>
-        ensures ok { OnOk result (self.new ≡ record { chain = record { runs = run ∷ self.old.chain.runs; base = self.old.chain.base }; settled = self.old.settled }) }
+        ensures ok { OnOk result (self.new ≡ record {
+          chain = record { runs = run ∷ self.old.chain.runs; base = self.old.chain.base };
+          settled = self.old.settled;
+        }) }
         ensures err { OnErr result (self.new ≡ self.old) }
         ensures back { IfErr result (λ e. e.1 ≡ run) }
     {
@@ -110,7 +113,8 @@ impl<V: Drop, A: Allocator + Copy> LateChain<V, A> {
     /// takes no memory.
     pub fn pop(&mut self) -> Option<Run<V, A>>
         ensures chain { MatchOption result (self.old.chain.runs ≡ [] × self.new ≡ self.old)
-            (λ run. self.old.chain ≡ record { runs = run ∷ self.new.chain.runs; base = self.new.chain.base }) }
+            (λ run. self.old.chain
+            ≡ record { runs = run ∷ self.new.chain.runs; base = self.new.chain.base }) }
         ensures settled { self.new.settled ≡ min self.old.settled (length self.new.chain.runs) }
     {
         let popped = self.chain.pop();
@@ -120,7 +124,8 @@ impl<V: Drop, A: Allocator + Copy> LateChain<V, A> {
 
     /// From now on all runs count as merged: the page is a base of its entries.
     pub fn settle(&mut self)
-        ensures { self.new ≡ record { chain = self.old.chain; settled = length self.old.chain.runs } }
+        ensures { self.new
+            ≡ record { chain = self.old.chain; settled = length self.old.chain.runs } }
     {
         self.settled = self.chain.run_count();
     }

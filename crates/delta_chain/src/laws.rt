@@ -15,7 +15,8 @@ pub fn a_run_says_or_leaves<V>()
 
 /// A page's entries are what the page holds, at each key, and they rise.
 pub fn entries_are_what_is_held<V>()
-    ensures holds { (p : Layers V) (k : Bytes) → IsInOrder p → value_at k (entries_of p) ≡ holds p k }
+    ensures holds { (p : Layers V) (k : Bytes) → IsInOrder p →
+        value_at k (entries_of p) ≡ holds p k }
     ensures rising { (p : Layers V) → IsInOrder p → IsRising (entries_of p) }
 {}
 
@@ -24,11 +25,16 @@ pub fn entries_are_what_is_held<V>()
 pub fn a_late_base_is_what_its_runs_make<V>()
     ensures entries { (c : Late V) → entries_of (seen c) ≡ entries_of c.chain }
     ensures rising { (c : Late V) → IsInOrder c.chain → IsInOrder (seen c) }
-    ensures holds { (c : Late V) (k : Bytes) → IsInOrder c.chain → holds (seen c) k ≡ holds c.chain k }
+    ensures holds { (c : Late V) (k : Bytes) → IsInOrder c.chain →
+        holds (seen c) k ≡ holds c.chain k }
     ensures early { (p : Layers V) → seen (record { chain = p; settled = 0 }) ≡ p }
     ensures settled { (p : Layers V) →
-        seen (record { chain = p; settled = length p.runs }) ≡ record { runs = []; base = entries_of p } }
+        seen (record { chain = p; settled = length p.runs })
+        ≡ record { runs = []; base = entries_of p } }
     ensures in_front { (c : Late V) (run : Changes V) → c.settled ≤ length c.chain.runs →
-        seen (record { chain = record { runs = run ∷ c.chain.runs; base = c.chain.base }; settled = c.settled }) ≡
+        seen (record {
+          chain = record { runs = run ∷ c.chain.runs; base = c.chain.base };
+          settled = c.settled;
+        }) ≡
         record { runs = run ∷ (seen c).runs; base = (seen c).base } }
 {}

@@ -157,7 +157,8 @@ fn push_change<'a, V, A: Allocator + Copy>(
     change: Option<&'a V>,
 )
     requires { vec_len lent.old < vec_capacity lent.old }
-    ensures pairs { pairs_lent lent.new.items ≡ pairs_lent lent.old.items ++ pair_if key.now (option_copied change.entry) }
+    ensures pairs { pairs_lent lent.new.items
+        ≡ pairs_lent lent.old.items ++ pair_if key.now (option_copied change.entry) }
     ensures count { vec_len lent.new ≤ vec_len lent.old + 1 }
     ensures room { vec_capacity lent.new ≡ vec_capacity lent.old }
 {

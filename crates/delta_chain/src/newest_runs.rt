@@ -28,7 +28,9 @@ impl NewestRuns {
     /// How many of the oldest of these `runs` runs may name the key.
     pub(crate) fn reach(&self, key: &[u8], runs: usize) -> usize
         ensures within { result ≤ runs }
-        ensures reached { ((newest_for self.now.numbers key.now ≤ result) × (newest_for self.now.numbers key.now < 255)) ⊎ (result ≡ runs) }
+        ensures reached { ((newest_for self.now.numbers key.now ≤ result)
+            × (newest_for self.now.numbers key.now < 255))
+            ⊎ (result ≡ runs) }
     {
         let number = self.numbers[fingerprint_of(key)];
         if number == ALL {
@@ -40,7 +42,9 @@ impl NewestRuns {
     /// Notes the keys of a run that gets this number.
     pub(crate) fn note<V, A: Allocator + Copy>(&mut self, run: &Run<V, A>, number: usize)
         ensures named { NamesKnown self.new.numbers number run.now }
-        ensures kept { (f : ℕ) → (get_or self.new.numbers f 0 ≡ get_or self.old.numbers f 0) ⊎ (get_or self.new.numbers f 0 ≡ min number 255) }
+        ensures kept { (f : ℕ) →
+            (get_or self.new.numbers f 0 ≡ get_or self.old.numbers f 0)
+            ⊎ (get_or self.new.numbers f 0 ≡ min number 255) }
     {
         let noted = number.min(usize::from(ALL)) as u8;
         for at in 0..run.len() {

@@ -91,18 +91,22 @@ impl<V, A: Allocator + Copy> Run<V, A> {
     /// The place of the key, counted from 0, or none where the run doesn't name it. It is found by halves, and a key
     /// above all of them by one comparison.
     pub fn place(&self, key: &[u8]) -> Option<usize>
-        ensures place { MatchOption result (value_at key.now self.now ≡ None) (λ at. slice_get (keys_of self.now) at ≡ Some key.now) }
+        ensures place { MatchOption result (value_at key.now self.now ≡ None)
+            (λ at. slice_get (keys_of self.now) at ≡ Some key.now) }
         ensures within { IfSome result (λ at. at < length self.now) }
-        ensures change { IfSome result (λ at. value_at key.now self.now ≡ slice_get (values_of self.now) at) }
+        ensures change { IfSome result
+            (λ at. value_at key.now self.now ≡ slice_get (values_of self.now) at) }
     {
         self.place_of(&KeyRef::new(key))
     }
 
     // The same for a key that is looked for in many runs.
     pub(crate) fn place_of(&self, key: &KeyRef<'_>) -> Option<usize>
-        ensures place { MatchOption result (value_at key.now self.now ≡ None) (λ at. slice_get (keys_of self.now) at ≡ Some key.now) }
+        ensures place { MatchOption result (value_at key.now self.now ≡ None)
+            (λ at. slice_get (keys_of self.now) at ≡ Some key.now) }
         ensures within { IfSome result (λ at. at < length self.now) }
-        ensures change { IfSome result (λ at. value_at key.now self.now ≡ slice_get (values_of self.now) at) }
+        ensures change { IfSome result
+            (λ at. value_at key.now self.now ≡ slice_get (values_of self.now) at) }
     {
         self.changes.search(key).ok()
     }

@@ -49,9 +49,12 @@ pub(crate) fn execute(
 ) -> Result<Vec<Reply<Global>>, Fault>
     requires sound { IsSoundInMemory settings.now tree.old }
     requires short { AreShort settings.now commands.now }
-    ensures replies { IfOk result (λ replies. replies.items ≡ replies_to (contents (tree_of tree.old)) commands.now) }
-    ensures tree { OnOk result (tree_of tree.new ≡ planned_tree settings.now (tree_of tree.old) commands.now) }
-    ensures contents { OnOk result (contents (tree_of tree.new) ≡ map_after_all (contents (tree_of tree.old)) commands.now) }
+    ensures replies { IfOk result
+        (λ replies. replies.items ≡ replies_to (contents (tree_of tree.old)) commands.now) }
+    ensures tree { OnOk result
+        (tree_of tree.new ≡ planned_tree settings.now (tree_of tree.old) commands.now) }
+    ensures contents { OnOk result
+        (contents (tree_of tree.new) ≡ map_after_all (contents (tree_of tree.old)) commands.now) }
     ensures sound { IsSoundInMemory settings.now tree.new }
     ensures err { OnErr result (tree.new ≡ tree.old) }
     ensures fault { IfErr result (IsLaterFault settings.now (tree_of tree.old) commands.now) }
@@ -111,12 +114,16 @@ fn execute_routed(
     requires sound { IsSoundInMemory work.now.settings tree.old }
     requires short { AreShort work.now.settings work.now.commands.now }
     requires routed { AreRoutesFor (tree_of tree.old) work.now.commands.now page_runs.items }
-    ensures replies { IfOk result (λ replies. replies.items ≡ replies_to (contents (tree_of tree.old)) work.now.commands.now) }
-    ensures tree { OnOk result (tree_of tree.new ≡ planned_tree work.now.settings (tree_of tree.old) work.now.commands.now) }
-    ensures contents { OnOk result (contents (tree_of tree.new) ≡ map_after_all (contents (tree_of tree.old)) work.now.commands.now) }
+    ensures replies { IfOk result (λ replies. replies.items
+        ≡ replies_to (contents (tree_of tree.old)) work.now.commands.now) }
+    ensures tree { OnOk result (tree_of tree.new
+        ≡ planned_tree work.now.settings (tree_of tree.old) work.now.commands.now) }
+    ensures contents { OnOk result (contents (tree_of tree.new)
+        ≡ map_after_all (contents (tree_of tree.old)) work.now.commands.now) }
     ensures sound { IsSoundInMemory work.now.settings tree.new }
     ensures err { OnErr result (tree.new ≡ tree.old) }
-    ensures fault { IfErr result (IsLaterFault work.now.settings (tree_of tree.old) work.now.commands.now) }
+    ensures fault { IfErr result
+        (IsLaterFault work.now.settings (tree_of tree.old) work.now.commands.now) }
 {
     // What the plan of a sound tree is.
     the_plan_holds_the_map_after_the_commands::<Global>();
@@ -148,12 +155,16 @@ fn read_routed(
     requires short { AreShort work.now.settings work.now.commands.now }
     requires routed { AreRoutesFor (tree_of tree.old) work.now.commands.now page_runs.items }
     requires looks { list_all is_look work.now.commands.now ≡ true }
-    ensures replies { IfOk result (λ replies. replies.items ≡ replies_to (contents (tree_of tree.old)) work.now.commands.now) }
-    ensures tree { OnOk result (tree_of tree.new ≡ planned_tree work.now.settings (tree_of tree.old) work.now.commands.now) }
-    ensures contents { OnOk result (contents (tree_of tree.new) ≡ map_after_all (contents (tree_of tree.old)) work.now.commands.now) }
+    ensures replies { IfOk result (λ replies. replies.items
+        ≡ replies_to (contents (tree_of tree.old)) work.now.commands.now) }
+    ensures tree { OnOk result (tree_of tree.new
+        ≡ planned_tree work.now.settings (tree_of tree.old) work.now.commands.now) }
+    ensures contents { OnOk result (contents (tree_of tree.new)
+        ≡ map_after_all (contents (tree_of tree.old)) work.now.commands.now) }
     ensures sound { IsSoundInMemory work.now.settings tree.new }
     ensures err { OnErr result (tree.new ≡ tree.old) }
-    ensures fault { IfErr result (IsLaterFault work.now.settings (tree_of tree.old) work.now.commands.now) }
+    ensures fault { IfErr result
+        (IsLaterFault work.now.settings (tree_of tree.old) work.now.commands.now) }
 {
     // What the plan of a sound tree is.
     the_plan_holds_the_map_after_the_commands::<Global>();
@@ -213,16 +224,19 @@ fn finish(
     leaves: Vec<LeafDone>,
 ) -> Result<Vec<Reply<Global>>, (Fault, Vec<LeafDone>)>
     requires fan { 1 < work.now.settings.fan }
-    requires ready { (t : definitions.Tree) × (cs : List (Command Global)) × IsReady work.now.settings t cs tree.old (leaves_seen leaves.items) }
+    requires ready { (t : definitions.Tree) × (cs : List (Command Global)) ×
+        IsReady work.now.settings t cs tree.old (leaves_seen leaves.items) }
     requires height { tree.old.height ≤ most_levels }
     ensures replies { IfOk result (λ now. IsOkAnd replies (λ before. now.items ≡ before.items)) }
-    ensures planned { OnOk result ((t : definitions.Tree) (cs : List (Command Global)) → IsReady work.now.settings t cs tree.old (leaves_seen leaves.items) →
+    ensures planned { OnOk result ((t : definitions.Tree) (cs : List (Command Global)) →
+        IsReady work.now.settings t cs tree.old (leaves_seen leaves.items) →
         AreAllHome tree.new × (tree_of tree.new ≡ planned_tree work.now.settings t cs)) }
     ensures low { OnOk result (tree.new.height ≤ most_levels) }
     ensures back { IfErr result (λ e. e.1.items ≡ leaves.items) }
     ensures err { OnErr result (tree.new ≡ tree.old) }
     ensures fault { IfErr result (λ e. (t : definitions.Tree) (cs : List (Command Global)) →
-        IsReady work.now.settings t cs tree.old (leaves_seen leaves.items) → IsLaterFault work.now.settings t cs e.0) }
+        IsReady work.now.settings t cs tree.old (leaves_seen leaves.items) →
+        IsLaterFault work.now.settings t cs e.0) }
 {
     let Ok(replies) = replies else {
         return Err((Fault::NoMemory, leaves));

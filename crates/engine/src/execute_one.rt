@@ -49,12 +49,16 @@ pub(crate) fn execute_one(
     requires short { AreShort work.now.settings work.now.commands.now }
     requires one { work.now.commands.now ≡ command.now ∷ [] }
     requires point { is_ranged command.now ≡ false }
-    ensures replies { IfOk result (λ replies. replies.items ≡ replies_to (contents (tree_of tree.old)) work.now.commands.now) }
-    ensures tree { OnOk result (tree_of tree.new ≡ planned_tree work.now.settings (tree_of tree.old) work.now.commands.now) }
-    ensures contents { OnOk result (contents (tree_of tree.new) ≡ map_after_all (contents (tree_of tree.old)) work.now.commands.now) }
+    ensures replies { IfOk result (λ replies. replies.items
+        ≡ replies_to (contents (tree_of tree.old)) work.now.commands.now) }
+    ensures tree { OnOk result (tree_of tree.new
+        ≡ planned_tree work.now.settings (tree_of tree.old) work.now.commands.now) }
+    ensures contents { OnOk result (contents (tree_of tree.new)
+        ≡ map_after_all (contents (tree_of tree.old)) work.now.commands.now) }
     ensures sound { IsSoundInMemory work.now.settings tree.new }
     ensures err { OnErr result (tree.new ≡ tree.old) }
-    ensures fault { IfErr result (IsLaterFault work.now.settings (tree_of tree.old) work.now.commands.now) }
+    ensures fault { IfErr result
+        (IsLaterFault work.now.settings (tree_of tree.old) work.now.commands.now) }
 {
     // What the plan of a sound tree is.
     commands_that_come_to_nothing_change_nothing::<Global>();
@@ -98,8 +102,10 @@ fn read_leaf(
 ) -> Result<Vec<Reply<Global>>, AllocError>
     requires sound { IsSoundInMemory work.now.settings tree.now }
     requires only { IsOnlyRoute (tree_of tree.now) work.now.commands.now page_run }
-    requires few { length (contents (tree_of tree.now)) + length work.now.commands.now ≤ most_counted }
-    ensures { IfOk result (λ replies. replies.items ≡ replies_to (contents (tree_of tree.now)) work.now.commands.now) }
+    requires few { length (contents (tree_of tree.now)) + length work.now.commands.now
+        ≤ most_counted }
+    ensures { IfOk result (λ replies. replies.items
+        ≡ replies_to (contents (tree_of tree.now)) work.now.commands.now) }
 {
     let reading = ReadWork {
         alloc: work.alloc,
@@ -119,7 +125,8 @@ fn replies_of(
     pieces: Pieces<Global>,
 ) -> Result<Vec<Reply<Global>>, AllocError>
     requires { AreAnswers commands.now pieces }
-    ensures { IfOk result (λ replies. (place : ℕ) → slice_get replies.items place ≡ reply_at commands.now pieces place) }
+    ensures { IfOk result (λ replies. (place : ℕ) →
+        slice_get replies.items place ≡ reply_at commands.now pieces place) }
 {
     let mut replies = blank_replies(alloc, commands)?;
     add_answers(&mut replies, commands, pieces)?;
@@ -138,12 +145,17 @@ fn change_leaf(
 ) -> Result<Vec<Reply<Global>>, Fault>
     requires sound { IsSoundInMemory work.now.settings tree.old }
     requires only { IsOnlyRoute (tree_of tree.old) work.now.commands.now page_run }
-    requires few { length (contents (tree_of tree.old)) + length work.now.commands.now ≤ most_counted }
-    ensures replies { IfOk result (λ replies. replies.items ≡ replies_to (contents (tree_of tree.old)) work.now.commands.now) }
-    ensures planned { OnOk result (AreAllHome tree.new × (tree_of tree.new ≡ planned_tree work.now.settings (tree_of tree.old) work.now.commands.now)) }
+    requires few { length (contents (tree_of tree.old)) + length work.now.commands.now
+        ≤ most_counted }
+    ensures replies { IfOk result (λ replies. replies.items
+        ≡ replies_to (contents (tree_of tree.old)) work.now.commands.now) }
+    ensures planned { OnOk result (AreAllHome tree.new
+        × (tree_of tree.new ≡ planned_tree work.now.settings
+        (tree_of tree.old) work.now.commands.now)) }
     ensures low { OnOk result (tree.new.height ≤ most_levels) }
     ensures err { OnErr result (tree.new ≡ tree.old) }
-    ensures fault { IfErr result (IsLaterFault work.now.settings (tree_of tree.old) work.now.commands.now) }
+    ensures fault { IfErr result
+        (IsLaterFault work.now.settings (tree_of tree.old) work.now.commands.now) }
 {
     let page = tree.take(page_run.pid());
     match work.work(LeafJob { page, page_run }) {
@@ -167,17 +179,23 @@ fn bring_home(
 ) -> Result<Vec<Reply<Global>>, Fault>
     requires fan { 1 < work.now.settings.fan }
     requires answered { AreAnswers work.now.commands.now done.made.pieces }
-    requires ready { (t : definitions.Tree) × (cs : List (Command Global)) × IsReady work.now.settings t cs tree.old (page_seen Leaf done.made.worked ∷ []) }
+    requires ready { (t : definitions.Tree) × (cs : List (Command Global)) ×
+        IsReady work.now.settings t cs tree.old (page_seen Leaf done.made.worked ∷ []) }
     requires away { place_of tree.old.table done.held.route.pid ≡ Some None }
     requires same { done.made.worked.placed.pid ≡ done.held.route.pid }
     requires height { tree.old.height ≤ most_levels }
-    ensures replies { IfOk result (λ replies. (place : ℕ) → slice_get replies.items place ≡ reply_at work.now.commands.now done.made.pieces place) }
-    ensures planned { OnOk result ((t : definitions.Tree) (cs : List (Command Global)) → IsReady work.now.settings t cs tree.old (page_seen Leaf done.made.worked ∷ []) →
+    ensures replies { IfOk result (λ replies. (place : ℕ) →
+        slice_get replies.items place ≡ reply_at work.now.commands.now done.made.pieces place) }
+    ensures planned { OnOk result ((t : definitions.Tree) (cs : List (Command Global)) →
+        IsReady work.now.settings t cs tree.old (page_seen Leaf done.made.worked ∷ []) →
         AreAllHome tree.new × (tree_of tree.new ≡ planned_tree work.now.settings t cs)) }
     ensures low { OnOk result (tree.new.height ≤ most_levels) }
-    ensures back { OnErr result (tree.new ≡ record tree.old { table = with_place tree.old.table done.held.route.pid (Some done.held.page) }) }
+    ensures back { OnErr result (tree.new ≡ record tree.old {
+      table = with_place tree.old.table done.held.route.pid (Some done.held.page);
+    }) }
     ensures fault { IfErr result (λ fault. (t : definitions.Tree) (cs : List (Command Global)) →
-        IsReady work.now.settings t cs tree.old (page_seen Leaf done.made.worked ∷ []) → IsLaterFault work.now.settings t cs fault) }
+        IsReady work.now.settings t cs tree.old (page_seen Leaf done.made.worked ∷ []) →
+        IsLaterFault work.now.settings t cs fault) }
 {
     let Ok(replies) = take_reply(work, &mut done) else {
         put_leaf_back(tree, work.undo(done));
@@ -196,7 +214,8 @@ fn bring_home(
 // The reply of the leaf, which is taken from it. All else stays.
 fn take_reply(work: &LeafWork<'_>, done: &mut LeafDone) -> Result<Vec<Reply<Global>>, AllocError>
     requires { AreAnswers work.now.commands.now done.old.made.pieces }
-    ensures replies { IfOk result (λ replies. (place : ℕ) → slice_get replies.items place ≡ reply_at work.now.commands.now done.old.made.pieces place) }
+    ensures replies { IfOk result (λ replies. (place : ℕ) →
+        slice_get replies.items place ≡ reply_at work.now.commands.now done.old.made.pieces place) }
     ensures held { done.new.held ≡ done.old.held }
     ensures worked { done.new.made.worked ≡ done.old.made.worked }
 {
@@ -213,7 +232,10 @@ fn is_quiet(done: &LeafDone) -> bool
 // Puts the leaf into its place after its run.
 fn put_home(tree: &mut Tree<Global>, done: LeafDone)
     requires { place_of tree.old.table done.made.worked.placed.pid ≡ Some None }
-    ensures { tree.new ≡ record tree.old { table = with_place tree.old.table done.made.worked.placed.pid (Some (Leaf done.made.worked.placed.page)) } }
+    ensures { tree.new ≡ record tree.old {
+      table = with_place tree.old.table done.made.worked.placed.pid
+          (Some (Leaf done.made.worked.placed.page));
+    } }
 {
     let pid = done.pid();
     let (page, _rest) = done.into_page_and_rest();
@@ -230,15 +252,20 @@ fn climb_from(
     done: LeafDone,
 ) -> Result<(), Fault>
     requires fan { 1 < work.now.settings.fan }
-    requires ready { (t : definitions.Tree) × (cs : List (Command Global)) × IsReady work.now.settings t cs tree.old (page_seen Leaf done.made.worked ∷ []) }
+    requires ready { (t : definitions.Tree) × (cs : List (Command Global)) ×
+        IsReady work.now.settings t cs tree.old (page_seen Leaf done.made.worked ∷ []) }
     requires away { place_of tree.old.table done.held.route.pid ≡ Some None }
     requires height { tree.old.height ≤ most_levels }
-    ensures planned { OnOk result ((t : definitions.Tree) (cs : List (Command Global)) → IsReady work.now.settings t cs tree.old (page_seen Leaf done.made.worked ∷ []) →
+    ensures planned { OnOk result ((t : definitions.Tree) (cs : List (Command Global)) →
+        IsReady work.now.settings t cs tree.old (page_seen Leaf done.made.worked ∷ []) →
         AreAllHome tree.new × (tree_of tree.new ≡ planned_tree work.now.settings t cs)) }
     ensures low { OnOk result (tree.new.height ≤ most_levels) }
-    ensures back { OnErr result (tree.new ≡ record tree.old { table = with_place tree.old.table done.held.route.pid (Some done.held.page) }) }
+    ensures back { OnErr result (tree.new ≡ record tree.old {
+      table = with_place tree.old.table done.held.route.pid (Some done.held.page);
+    }) }
     ensures fault { IfErr result (λ fault. (t : definitions.Tree) (cs : List (Command Global)) →
-        IsReady work.now.settings t cs tree.old (page_seen Leaf done.made.worked ∷ []) → IsLaterFault work.now.settings t cs fault) }
+        IsReady work.now.settings t cs tree.old (page_seen Leaf done.made.worked ∷ []) →
+        IsLaterFault work.now.settings t cs fault) }
 {
     let Ok(mut leaves) = Vec::with_capacity(work.alloc, 1) else {
         put_leaf_back(tree, work.undo(done));

@@ -64,7 +64,8 @@ impl From<io::Error> for OpenFault {
 
 // Why a store isn't opened that was refused by this fault: where a call of its disk failed, the reason of that.
 fn with_reason(fault: Fault, reason: Option<io::Error>) -> OpenFault
-    ensures { ((fault ≡ Fault.Device) × MatchOption reason (result ≡ OpenFault.Store fault) (λ r. result ≡ OpenFault.File r))
+    ensures { ((fault ≡ Fault.Device)
+        × MatchOption reason (result ≡ OpenFault.Store fault) (λ r. result ≡ OpenFault.File r))
         ⊎ ((fault ≢ Fault.Device) × (result ≡ OpenFault.Store fault)) }
 {
     match fault {

@@ -47,11 +47,14 @@ pub fn batches_are_their_commands_joined<A: Allocator>()
 /// Of batches that are executed one after the other on a proper tree, the tree afterwards holds the map that they leave in turn. It is
 /// proper again, and what its log has is true.
 pub fn batches_are_planned_in_turn<A: Allocator>()
-    ensures contents { (s : Settings) (t : Tree) (batches : List (List (Command A))) → first_bad_field s ≡ None → IsProper s t → AllByRecursion (AreShort s) batches →
+    ensures contents { (s : Settings) (t : Tree) (batches : List (List (Command A))) →
+        first_bad_field s ≡ None → IsProper s t → AllByRecursion (AreShort s) batches →
         contents (tree_in_turn s t batches) ≡ map_in_turn (contents t) batches }
-    ensures proper { (s : Settings) (t : Tree) (batches : List (List (Command A))) → first_bad_field s ≡ None → IsProper s t → AllByRecursion (AreShort s) batches →
+    ensures proper { (s : Settings) (t : Tree) (batches : List (List (Command A))) →
+        first_bad_field s ≡ None → IsProper s t → AllByRecursion (AreShort s) batches →
         IsProper s (tree_in_turn s t batches) }
-    ensures logs { (s : Settings) (t : Tree) (batches : List (List (Command A))) → first_bad_field s ≡ None → IsProper s t → AllByRecursion (AreShort s) batches →
+    ensures logs { (s : Settings) (t : Tree) (batches : List (List (Command A))) →
+        first_bad_field s ≡ None → IsProper s t → AllByRecursion (AreShort s) batches →
         AreLogsTrue t → AreLogsTrue (tree_in_turn s t batches) }
 {
     the_plan_holds_the_map_after_the_commands::<A>();
@@ -62,10 +65,12 @@ pub fn batches_are_planned_in_turn<A: Allocator>()
 /// A batch that isn't refused leaves a store in step with the bytes of its disk, which it doesn't touch; and one as every store
 /// is, whatever its disk does. The root's page id is a number of 64 bits, as it is in memory.
 pub fn a_batch_stays_in_step<A: Allocator>()
-    ensures step { (s : Settings) (st : Store) (file : Bytes) (cs : List (Command A)) → IsStoreOf s st file →
-        refusal_by s st.tree cs ≡ None → (planned_tree s st.tree cs).root < 2 ^ 64 → IsStoreOf s (plan s st cs) file }
+    ensures step { (s : Settings) (st : Store) (file : Bytes) (cs : List (Command A)) →
+        IsStoreOf s st file → refusal_by s st.tree cs ≡ None →
+        (planned_tree s st.tree cs).root < 2 ^ 64 → IsStoreOf s (plan s st cs) file }
     ensures kept { (s : Settings) (st : Store) (cs : List (Command A)) → IsStore s st →
-        refusal_by s st.tree cs ≡ None → (planned_tree s st.tree cs).root < 2 ^ 64 → IsStore s (plan s st cs) }
+        refusal_by s st.tree cs ≡ None → (planned_tree s st.tree cs).root < 2 ^ 64 →
+        IsStore s (plan s st cs) }
     ensures batches { (s : Settings) → KeepsStores {A = A} s (batching s) }
 {
     the_plan_holds_the_map_after_the_commands::<A>();
@@ -78,8 +83,8 @@ pub fn a_batch_stays_in_step<A: Allocator>()
 /// and the disk stands for the store of the last flush or upgrade, with the head, the tail, the number and the version that there are
 /// now. The numbers on the way have 64 bits, as all have in memory.
 pub fn steps_answer_as_a_map_and_are_read_back<A: Allocator>()
-    ensures { (s : Settings) (st on_disk : Store) (file : Bytes) (steps : List (Step A)) → IsStoreOf s st file →
-        store_of_disk file ≡ Ok (s, on_disk) →
+    ensures { (s : Settings) (st on_disk : Store) (file : Bytes) (steps : List (Step A)) →
+        IsStoreOf s st file → store_of_disk file ≡ Ok (s, on_disk) →
         HaveWords (batching s) s st file steps →
         ArePlayed (batching s) s st.tree on_disk.tree steps (plays (batching s) s st file steps) }
 {

@@ -108,7 +108,8 @@ fn changing<'a>(work: &BatchWork<'a>) -> LeafWork<'a>
 fn read(work: &BatchWork<'_>, page_run: PageRun) -> Turn<LeafTask, TaskDone>
     requires { IsRouteToRead work.now.tree.now work.now.commands.now page_run }
     ensures origin { IfDone result (λ done. done_held done ≡ Reads page_run) }
-    ensures made { IfDone result (λ done. done_made done ≡ Answered (route_answers work.now.tree.now work.now.commands.now page_run)) }
+    ensures made { IfDone result (λ done. done_made done
+        ≡ Answered (route_answers work.now.tree.now work.now.commands.now page_run)) }
     ensures back { IfBack result (λ again. task_held again ≡ Reads page_run) }
 {
     let reads = reading(work);
@@ -122,7 +123,8 @@ fn read(work: &BatchWork<'_>, page_run: PageRun) -> Turn<LeafTask, TaskDone>
 fn change(work: &BatchWork<'_>, job: LeafJob) -> Turn<LeafTask, TaskDone>
     requires { IsLeafHeld work.now.commands.now (leaf_held_of job) }
     ensures origin { IfDone result (λ done. done_held done ≡ Changes (leaf_held_of job)) }
-    ensures made { IfDone result (λ done. done_made done ≡ Changed (leaf_made work.now.settings work.now.commands.now (leaf_held_of job))) }
+    ensures made { IfDone result (λ done. done_made done
+        ≡ Changed (leaf_made work.now.settings work.now.commands.now (leaf_held_of job))) }
     ensures back { IfBack result (λ again. task_held again ≡ Changes (leaf_held_of job)) }
 {
     let changes = changing(work);

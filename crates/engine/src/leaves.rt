@@ -32,13 +32,18 @@ pub(crate) fn work_leaves(
     requires routes { AreLeafRoutes tree.old.table work.now.commands.now page_runs.items }
     ensures count { IfOk result (λ dones. length dones.items ≡ length page_runs.items) }
     ensures answers { IfOk result (λ dones. pieces_of dones.items ≡
-        answers (leaves_made work.now.settings work.now.commands.now tree.old.table page_runs.items)) }
+        answers
+        (leaves_made work.now.settings work.now.commands.now tree.old.table page_runs.items)) }
     ensures made { IfOk result (λ dones. map (λ d. d.made) (changed_of dones.items) ≡
-        leaves_made work.now.settings work.now.commands.now tree.old.table (written_routes work.now.commands.now page_runs.items)) }
+        leaves_made work.now.settings work.now.commands.now tree.old.table
+        (written_routes work.now.commands.now page_runs.items)) }
     ensures held { IfOk result (λ dones. map (λ d. d.held) (changed_of dones.items) ≡
         map (leaf_held tree.old.table) (written_routes work.now.commands.now page_runs.items)) }
     ensures taken { OnOk result (tree.new ≡
-        record tree.old { table = all_taken tree.old.table (route_pids (written_routes work.now.commands.now page_runs.items)) }) }
+        record tree.old {
+          table = all_taken tree.old.table
+              (route_pids (written_routes work.now.commands.now page_runs.items));
+        }) }
     ensures err { AreRisingPids (pids_in_use tree.old.table) → OnErr result (tree.new ≡ tree.old) }
 {
     let tasks = take_leaves(work, tree, page_runs)?;
@@ -64,9 +69,13 @@ fn take_leaves(
     page_runs: Vec<PageRun>,
 ) -> Result<Vec<LeafTask>, AllocError>
     requires { AreLeavesHome tree.old.table (route_pids page_runs.items) }
-    ensures held { IfOk result (λ tasks. map task_held tasks.items ≡ map (task_for tree.old.table work.now.commands.now) page_runs.items) }
+    ensures held { IfOk result (λ tasks. map task_held tasks.items ≡
+        map (task_for tree.old.table work.now.commands.now) page_runs.items) }
     ensures taken { OnOk result (tree.new ≡
-        record tree.old { table = all_taken tree.old.table (route_pids (written_routes work.now.commands.now page_runs.items)) }) }
+        record tree.old {
+          table = all_taken tree.old.table
+              (route_pids (written_routes work.now.commands.now page_runs.items));
+        }) }
     ensures err { OnErr result (tree.new ≡ tree.old) }
 {
     let mut tasks = Vec::with_capacity(work.alloc, page_runs.len())?;
@@ -81,7 +90,10 @@ fn task_of(commands: &[Command<Global>], tree: &mut Tree<Global>, page_run: Page
     requires { IsLeafAt (page_of tree.old.table page_run.pid) }
     ensures held { task_held result ≡ task_for tree.old.table commands.now page_run }
     ensures taken { tree.new ≡
-        record tree.old { table = all_taken tree.old.table (route_pids (written_routes commands.now (page_run ∷ []))) } }
+        record tree.old {
+          table = all_taken tree.old.table
+              (route_pids (written_routes commands.now (page_run ∷ [])));
+        } }
 {
     if is_only_read(commands, &page_run) {
         return LeafTask::Read(page_run);
@@ -94,8 +106,11 @@ fn task_of(commands: &[Command<Global>], tree: &mut Tree<Global>, page_run: Page
 
 // Puts the leaves that the tasks hold back into their places.
 fn put_back(tree: &mut Tree<Global>, tasks: Vec<LeafTask>)
-    requires { AreAway tree.old.table (map (λ h. h.route.pid) (taken_of (map task_held tasks.items))) }
-    ensures { tree.new ≡ record tree.old { table = all_put tree.old.table (under_pids (taken_of (map task_held tasks.items))) } }
+    requires { AreAway tree.old.table
+        (map (λ h. h.route.pid) (taken_of (map task_held tasks.items))) }
+    ensures { tree.new ≡ record tree.old {
+      table = all_put tree.old.table (under_pids (taken_of (map task_held tasks.items)));
+    } }
 {
     for task in tasks {
         put_task_back(tree, task);
@@ -105,7 +120,9 @@ fn put_back(tree: &mut Tree<Global>, tasks: Vec<LeafTask>)
 // Puts the leaf that the task holds, if it holds one, back into its place.
 fn put_task_back(tree: &mut Tree<Global>, task: LeafTask)
     requires { AreAway tree.old.table (map (λ h. h.route.pid) (taken_in (task_held task))) }
-    ensures { tree.new ≡ record tree.old { table = all_put tree.old.table (under_pids (taken_in (task_held task))) } }
+    ensures { tree.new ≡ record tree.old {
+      table = all_put tree.old.table (under_pids (taken_in (task_held task)));
+    } }
 {
     match task {
         LeafTask::Read(_page_run) => {}
@@ -116,7 +133,8 @@ fn put_task_back(tree: &mut Tree<Global>, task: LeafTask)
 /// Puts the leaf back into its place.
 pub(crate) fn put_leaf_back(tree: &mut Tree<Global>, job: LeafJob)
     requires { place_of tree.old.table job.page_run.pid ≡ Some None }
-    ensures { tree.new ≡ record tree.old { table = with_place tree.old.table job.page_run.pid (Some job.page) } }
+    ensures { tree.new ≡
+        record tree.old { table = with_place tree.old.table job.page_run.pid (Some job.page) } }
 {
     let LeafJob { page, page_run } = job;
     tree.put(page_run.pid(), page);
@@ -132,7 +150,8 @@ pub(crate) fn take_replies(
 ) -> Result<Vec<Reply<Global>>, AllocError>
     requires answered { AreAnswers commands.now (pieces_of dones.items) }
     requires room { (leaves.old.items ≡ []) × (length dones.items ≤ vec_capacity leaves.old) }
-    ensures replies { IfOk result (λ replies. (place : ℕ) → slice_get replies.items place ≡ reply_at commands.now (pieces_of dones.items) place) }
+    ensures replies { IfOk result (λ replies. (place : ℕ) →
+        slice_get replies.items place ≡ reply_at commands.now (pieces_of dones.items) place) }
     ensures leaves { leaves.new.items ≡ map without_answers (changed_of dones.items) }
 {
     let mut replies = blank_replies(alloc, commands);
@@ -169,7 +188,8 @@ pub(crate) fn with_answers(
 ) -> Result<Vec<Reply<Global>>, AllocError>
     requires count { IfOk replies (λ before. length before.items ≡ length commands.now) }
     requires within { All (IsPlaceOf commands.now) pieces }
-    ensures { IfOk result (λ now. IsOkAnd replies (λ before. now.items ≡ with_pieces commands.now pieces before.items)) }
+    ensures { IfOk result (λ now. IsOkAnd replies
+        (λ before. now.items ≡ with_pieces commands.now pieces before.items)) }
 {
     let mut replies = replies?;
     add_answers(&mut replies, commands, pieces)?;
@@ -179,7 +199,9 @@ pub(crate) fn with_answers(
 /// Undoes what was made of the leaves, and puts them back into their places as they were. It takes no memory.
 pub(crate) fn undo_leaves(work: &LeafWork<'_>, tree: &mut Tree<Global>, leaves: Vec<LeafDone>)
     requires { AreAway tree.old.table (map (λ d. d.held.route.pid) leaves.items) }
-    ensures { tree.new ≡ record tree.old { table = all_put tree.old.table (map (λ d. (d.held.route.pid, d.held.page)) leaves.items) } }
+    ensures { tree.new ≡ record tree.old {
+      table = all_put tree.old.table (map (λ d. (d.held.route.pid, d.held.page)) leaves.items);
+    } }
 {
     for leaf in leaves {
         put_leaf_back(tree, work.undo(leaf));

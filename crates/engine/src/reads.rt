@@ -41,8 +41,10 @@ pub(crate) fn read_leaves(
     work: &ReadWork<'_>,
     page_runs: Vec<PageRun>,
 ) -> Result<Vec<LeafRead>, AllocError>
-    requires { AllByRecursion (IsRouteToRead work.now.tree.now work.now.commands.now) page_runs.items }
-    ensures { IfOk result (λ reads. read_answers reads.items ≡ map (route_answers work.now.tree.now work.now.commands.now) page_runs.items) }
+    requires { AllByRecursion
+        (IsRouteToRead work.now.tree.now work.now.commands.now) page_runs.items }
+    ensures { IfOk result (λ reads. read_answers reads.items
+        ≡ map (route_answers work.now.tree.now work.now.commands.now) page_runs.items) }
 {
     match run_round(rt, crew, gate, work, page_runs) {
         Ok(reads) => Ok(reads),
@@ -57,7 +59,9 @@ pub(crate) fn replies_of(
     reads: Vec<LeafRead>,
 ) -> Result<Vec<Reply<Global>>, AllocError>
     requires { AreAnswers commands.now (flat (read_answers reads.items)) }
-    ensures { IfOk result (λ replies. (place : ℕ) → slice_get replies.items place ≡ reply_at commands.now (flat (read_answers reads.items)) place) }
+    ensures { IfOk result (λ replies. (place : ℕ) →
+        slice_get replies.items place
+        ≡ reply_at commands.now (flat (read_answers reads.items)) place) }
 {
     let mut replies = blank_replies(alloc, commands);
     for read in reads {

@@ -22,7 +22,8 @@ pub(crate) fn admit_crew(crew: Crew) -> Result<(), Fault>
 
 // Refuses a batch that is too long, and else the first command that has a fault.
 pub(crate) fn admit(settings: &Settings, commands: &[Command<Global>]) -> Result<(), Fault>
-    ensures { MatchOption (refusal settings.now commands.now) (result ≡ Ok tt) (λ fault. result ≡ Err fault) }
+    ensures { MatchOption (refusal settings.now commands.now) (result ≡ Ok tt)
+        (λ fault. result ≡ Err fault) }
 {
     if commands.len() > LONGEST_BATCH {
         return Err(Fault::BatchTooLong);

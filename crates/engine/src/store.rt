@@ -66,7 +66,8 @@ impl<D: Disk> Model for Store<D> {
 
     ghost view = { λ s. state_of s.settings s.tree s.log s.version s.disk s.has_failed };
 
-    ghost invariant = { λ s. IsSoundStore D.view s.settings s.tree s.log s.version s.disk s.has_failed };
+    ghost invariant = { λ s.
+        IsSoundStore D.view s.settings s.tree s.log s.version s.disk s.has_failed };
 }
 
 // Makes the disk one of a new store, and gives the tree. Nothing is written before all else has answered.
@@ -79,7 +80,8 @@ fn make<D: Disk>(alloc: Global, disk: &mut D, settings: &Settings) -> Result<Tre
     ensures tree { IfOk result (λ tree. tree ≡ new_in_memory) }
     ensures counted { OnOk result (D.failed disk.new ≡ D.failed disk.old) }
     ensures bytes { IsTrue (D.view disk.old).is_honest →
-        OnOk result (((D.view disk.new).seen ≡ disk_of_new settings.now (D.view disk.old).seen) × IsSettled (D.view disk.new)) }
+        OnOk result (((D.view disk.new).seen ≡ disk_of_new settings.now (D.view disk.old).seen)
+        × IsSettled (D.view disk.new)) }
 {
     settings.check()?;
     if disk.len() < disk_size(settings) {
@@ -101,14 +103,19 @@ impl<D: Disk> Store<D> {
         ensures refused { MatchOption (create_refusal settings (D.view disk).size)
             (IfErr result (λ e. IsLate (D.failed disk) (D.failed e.1) e.0))
             (λ fault. IsErr result × IfErr result (λ e. e.0 ≡ fault)) }
-        ensures back { IfErr result (λ e. Kept (D.view disk) (D.view e.1) × (e.0 ≢ Fault.Device → e.1 ≡ disk)) }
+        ensures back { IfErr result
+            (λ e. Kept (D.view disk) (D.view e.1) × (e.0 ≢ Fault.Device → e.1 ≡ disk)) }
 
-        ensures made { IfOk result (λ made. (made.settings ≡ settings) × (made.store ≡ first_store) × (made.has_failed ≡ false)) }
+        ensures made { IfOk result (λ made. (made.settings ≡ settings) × (made.store ≡ first_store)
+            × (made.has_failed ≡ false)) }
         ensures contents { IfOk result (λ made. contents made.store.tree ≡ []) }
-        ensures kept { IfOk result (λ made. Kept (D.view disk) (D.view made.disk) × (D.failed made.disk ≡ D.failed disk)) }
+        ensures kept { IfOk result
+            (λ made. Kept (D.view disk) (D.view made.disk) × (D.failed made.disk ≡ D.failed disk)) }
         // On an honest disk: these bytes, and settled.
-        ensures bytes { IsTrue (D.view disk).is_honest → IfOk result (λ made.
-            (after_create settings (D.view disk).seen ≡ Ok (made.store, (D.view made.disk).seen)) × IsSettled (D.view made.disk)) }
+        ensures bytes { IsTrue (D.view disk).is_honest →
+            IfOk result (λ made.
+            (after_create settings (D.view disk).seen ≡ Ok (made.store, (D.view made.disk).seen))
+            × IsSettled (D.view made.disk)) }
         ensures sound { IfOk result (λ made. IsSound D.view made) }
     {
         // Only for the proof.
@@ -162,20 +169,29 @@ impl<D: Disk> Store<D> {
         commands: &[Command<Global>],
     ) -> Result<Vec<Reply<Global>>, Fault>
         // The replies are those of an ordered map; the pages, the root, the height and what the log has are the plan's.
-        ensures replies { IfOk result (λ replies. replies.items ≡ replies_to (contents self.old.store.tree) commands.now) }
-        ensures store { OnOk result (self.new.store ≡ plan self.old.settings self.old.store commands.now) }
-        ensures contents { OnOk result (contents self.new.store.tree ≡ map_after_all (contents self.old.store.tree) commands.now) }
-        ensures rest { (self.new.settings ≡ self.old.settings) × (self.new.disk ≡ self.old.disk) × (self.new.has_failed ≡ self.old.has_failed) }
+        ensures replies { IfOk result
+            (λ replies. replies.items ≡ replies_to (contents self.old.store.tree) commands.now) }
+        ensures store { OnOk result
+            (self.new.store ≡ plan self.old.settings self.old.store commands.now) }
+        ensures contents { OnOk result (contents self.new.store.tree
+            ≡ map_after_all (contents self.old.store.tree) commands.now) }
+        ensures rest { (self.new.settings ≡ self.old.settings) × (self.new.disk ≡ self.old.disk)
+            × (self.new.has_failed ≡ self.old.has_failed) }
 
         // Which fault, and that there is no other but for lack of memory and for the height.
         ensures failed { self.old.has_failed ≡ true → result ≡ Err Fault.Failed }
-        ensures bad_crew { self.old.has_failed ≡ false → is_crew crew ≡ false → result ≡ Err Fault.BadCrew }
-        ensures refused { self.old.has_failed ≡ false → IsTrue (is_crew crew) → MatchOption (refusal self.old.settings commands.now)
-            (IfErr result (IsLaterFault self.old.settings self.old.store.tree commands.now)) (λ fault. result ≡ Err fault) }
+        ensures bad_crew { self.old.has_failed ≡ false → is_crew crew ≡ false →
+            result ≡ Err Fault.BadCrew }
+        ensures refused { self.old.has_failed ≡ false → IsTrue (is_crew crew) →
+            MatchOption (refusal self.old.settings commands.now)
+            (IfErr result (IsLaterFault self.old.settings self.old.store.tree commands.now))
+            (λ fault. result ≡ Err fault) }
         ensures unchanged { OnErr result (self.new ≡ self.old) }
         // One that is done is refused by nothing, and its root's page id has 64 bits.
-        ensures allowed { OnOk result ((refusal_by self.old.settings self.old.store.tree commands.now ≡ None)
-            × HasWords (batching self.old.settings) self.old.settings self.old.store (Batch commands.now)) }
+        ensures allowed { OnOk result
+            ((refusal_by self.old.settings self.old.store.tree commands.now ≡ None)
+            × HasWords (batching self.old.settings) self.old.settings self.old.store
+            (Batch commands.now)) }
 
         // The store was sound, and is so again.
         ensures sound { IsSound D.view self.old × IsSound D.view self.new }

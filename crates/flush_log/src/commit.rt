@@ -32,7 +32,8 @@ pub fn is_gate_open<D: Disk>(disk: &mut D, sequence: u64) -> Result<bool, DiskFa
     requires { segments_begin ≤ (D.view disk.old).size }
     ensures kept { Kept (D.view disk.old) (D.view disk.new) }
     ensures failed { CountsFailure result (D.failed disk.old) (D.failed disk.new) }
-    ensures gate { IsTrue (D.view disk.old).is_honest → IfOk result (λ is_open. is_open ≡ is_open_on sequence (D.view disk.old).seen) }
+    ensures gate { IsTrue (D.view disk.old).is_honest →
+        IfOk result (λ is_open. is_open ≡ is_open_on sequence (D.view disk.old).seen) }
     ensures same { IsTrue (D.view disk.old).is_honest → Same (D.view disk.old) (D.view disk.new) }
 {
     let mut gate = [0];
@@ -47,7 +48,8 @@ pub fn write_through<D: Disk>(disk: &mut D, at: u64, bytes: &[u8]) -> Result<(),
     ensures failed { CountsFailure result (D.failed disk.old) (D.failed disk.new) }
     ensures written { IsTrue (D.view disk.old).is_honest →
         OnOk result ((D.view disk.new).seen ≡ overlay (D.view disk.old).seen at bytes.now) }
-    ensures settled { IsTrue (D.view disk.old).is_honest → OnOk result (IsSettled (D.view disk.new)) }
+    ensures settled { IsTrue (D.view disk.old).is_honest →
+        OnOk result (IsSettled (D.view disk.new)) }
     ensures crash { IsTrue (D.view disk.old).is_honest →
         Leaves (D.view disk.old) (D.view disk.new) (Torn at (length bytes.now)) }
 {
@@ -62,7 +64,8 @@ pub fn close_gate<D: Disk>(disk: &mut D, sequence: u64, is_open: bool) -> Result
     ensures kept { Kept (D.view disk.old) (D.view disk.new) }
     ensures failed { CountsFailure result (D.failed disk.old) (D.failed disk.new) }
     ensures written { IsTrue (D.view disk.old).is_honest →
-        OnOk result ((D.view disk.new).seen ≡ seen_after (close_gate is_open (slot_place sequence)) (D.view disk.old).seen) }
+        OnOk result ((D.view disk.new).seen
+        ≡ seen_after (close_gate is_open (slot_place sequence)) (D.view disk.old).seen) }
     ensures crash { IsTrue (D.view disk.old).is_honest →
         Leaves (D.view disk.old) (D.view disk.new) (IsClosing is_open (slot_place sequence)) }
 {
@@ -79,10 +82,14 @@ pub fn write_slot<D: Disk>(disk: &mut D, slot: &Slot) -> Result<(), DiskFault>
     ensures failed { CountsFailure result (D.failed disk.old) (D.failed disk.new) }
     ensures written { IsTrue (D.view disk.old).is_honest → OnOk result ((D.view disk.new).seen
         ≡ overlay (D.view disk.old).seen (slot_place slot.now.sequence) (slot_bytes slot.now)) }
-    ensures settled { IsTrue (D.view disk.old).is_honest → OnOk result (IsSettled (D.view disk.new)) }
-    ensures crash { IsSettled (D.view disk.old) → is_open_on slot.now.sequence (D.view disk.old).seen ≡ false →
-        LeavesOnly (D.view disk.old) (D.view disk.new) (λ c. IsBehindGate slot.now.sequence (D.view disk.old).seen c
-        ⊎ (c ≡ overlay (D.view disk.old).seen (slot_place slot.now.sequence) (slot_bytes slot.now))) }
+    ensures settled { IsTrue (D.view disk.old).is_honest →
+        OnOk result (IsSettled (D.view disk.new)) }
+    ensures crash { IsSettled (D.view disk.old) →
+        is_open_on slot.now.sequence (D.view disk.old).seen ≡ false →
+        LeavesOnly (D.view disk.old) (D.view disk.new)
+        (λ c. IsBehindGate slot.now.sequence (D.view disk.old).seen c
+        ⊎ (c ≡ overlay (D.view disk.old).seen
+        (slot_place slot.now.sequence) (slot_bytes slot.now))) }
 {
     let gate = slot_place(slot.ends.sequence);
     let bytes = slot_bytes(slot);
@@ -102,14 +109,17 @@ fn write_images<D: Disk>(
     requires within { disk_size settings.now ≤ (D.view disk.old).size }
     requires buffer { settings.now.seg_size ≤ length buffer.old }
     requires fits { FitSegments settings.now (frames_in images.now) }
-    requires room { (text : List Frame) × AreOfText images.now text × (tail_after settings.now tail text ≤ greatest) }
+    requires room { (text : List Frame) × AreOfText images.now text
+        × (tail_after settings.now tail text ≤ greatest) }
     ensures kept { Kept (D.view disk.old) (D.view disk.new) }
     ensures failed { CountsFailure result (D.failed disk.old) (D.failed disk.new) }
-    ensures written { (text : List Frame) → AreOfText images.now text → (images.now ≡ []) ⊎ (1 ≤ length text) →
-        IsTrue (D.view disk.old).is_honest → OnOk result ((D.view disk.new).seen
+    ensures written { (text : List Frame) → AreOfText images.now text →
+        (images.now ≡ []) ⊎ (1 ≤ length text) → IsTrue (D.view disk.old).is_honest →
+        OnOk result ((D.view disk.new).seen
         ≡ with_spans settings.now (D.view disk.old).seen (spans settings.now tail text)) }
-    ensures crash { (text : List Frame) → AreOfText images.now text → (images.now ≡ []) ⊎ (1 ≤ length text) →
-        IsTrue (D.view disk.old).is_honest → Leaves (D.view disk.old) (D.view disk.new)
+    ensures crash { (text : List Frame) → AreOfText images.now text →
+        (images.now ≡ []) ⊎ (1 ≤ length text) → IsTrue (D.view disk.old).is_honest →
+        Leaves (D.view disk.old) (D.view disk.new)
         (AgreeAt (IsBesideSpans settings.now (spans settings.now tail text))) }
 {
     if images.is_empty() {
@@ -132,18 +142,24 @@ fn write_hidden<D: Disk>(
     requires within { disk_size settings.now ≤ (D.view disk.old).size }
     requires buffer { settings.now.seg_size ≤ length buffer.old }
     requires fits { FitSegments settings.now (frames_in images.now) }
-    requires room { (text : List Frame) × AreOfText images.now text × (tail_after settings.now tail text ≤ greatest) }
+    requires room { (text : List Frame) × AreOfText images.now text
+        × (tail_after settings.now tail text ≤ greatest) }
     ensures kept { Kept (D.view disk.old) (D.view disk.new) }
     ensures failed { CountsFailure result (D.failed disk.old) (D.failed disk.new) }
-    ensures written { (text : List Frame) → AreOfText images.now text → (images.now ≡ []) ⊎ (1 ≤ length text) →
-        IsTrue (D.view disk.old).is_honest → OnOk result ((D.view disk.new).seen ≡ with_spans settings.now
-        (seen_after (close_gate is_open (slot_place sequence)) (D.view disk.old).seen) (spans settings.now tail text)) }
-    ensures settled { IsTrue (D.view disk.old).is_honest → OnOk result (IsSettled (D.view disk.new)) }
-    ensures crash { (text : List Frame) → AreOfText images.now text → (images.now ≡ []) ⊎ (1 ≤ length text) →
+    ensures written { (text : List Frame) → AreOfText images.now text →
+        (images.now ≡ []) ⊎ (1 ≤ length text) → IsTrue (D.view disk.old).is_honest →
+        OnOk result ((D.view disk.new).seen
+        ≡ with_spans settings.now
+        (seen_after (close_gate is_open (slot_place sequence)) (D.view disk.old).seen)
+        (spans settings.now tail text)) }
+    ensures settled { IsTrue (D.view disk.old).is_honest →
+        OnOk result (IsSettled (D.view disk.new)) }
+    ensures crash { (text : List Frame) → AreOfText images.now text →
+        (images.now ≡ []) ⊎ (1 ≤ length text) →
         AreWithin settings.now (disk_size settings.now) (spans settings.now tail text) →
         IsSettled (D.view disk.old) → is_open ≡ is_open_on sequence (D.view disk.old).seen →
-        LeavesOnly (D.view disk.old) (D.view disk.new)
-        (IsUncommitted settings.now sequence (spans settings.now tail text) (D.view disk.old).seen) }
+        LeavesOnly (D.view disk.old) (D.view disk.new) (IsUncommitted settings.now sequence
+        (spans settings.now tail text) (D.view disk.old).seen) }
 {
     close_gate(disk, sequence, is_open)?;
     write_images(disk, settings, tail, images, buffer)?;
@@ -171,19 +187,28 @@ pub fn write_flush<D: Disk>(
     requires within { disk_size settings.now ≤ (D.view disk.old).size }
     requires buffer { settings.now.seg_size ≤ length buffer.old }
     requires fits { FitSegments settings.now (frames_in images.now) }
-    requires room { (text : List Frame) × AreOfText images.now text × (tail_after settings.now tail text ≤ greatest) }
+    requires room { (text : List Frame) × AreOfText images.now text
+        × (tail_after settings.now tail text ≤ greatest) }
     ensures kept { Kept (D.view disk.old) (D.view disk.new) }
     ensures failed { CountsFailure result (D.failed disk.old) (D.failed disk.new) }
-    ensures written { (text : List Frame) → AreOfText images.now text → (images.now ≡ []) ⊎ (1 ≤ length text) →
-        AreWithin settings.now (disk_size settings.now) (spans settings.now tail text) → IsTrue (D.view disk.old).is_honest →
-        OnOk result ((D.view disk.new).seen ≡ committed settings.now (D.view disk.old).seen (spans settings.now tail text) slot.now) }
-    ensures settled { IsTrue (D.view disk.old).is_honest → OnOk result (IsSettled (D.view disk.new)) }
-    ensures crash { (text : List Frame) → AreOfText images.now text → (images.now ≡ []) ⊎ (1 ≤ length text) →
+    ensures written { (text : List Frame) → AreOfText images.now text →
+        (images.now ≡ []) ⊎ (1 ≤ length text) →
         AreWithin settings.now (disk_size settings.now) (spans settings.now tail text) →
-        IsSettled (D.view disk.old) → is_open ≡ is_open_on slot.now.sequence (D.view disk.old).seen →
+        IsTrue (D.view disk.old).is_honest →
+        OnOk result ((D.view disk.new).seen
+        ≡ committed settings.now (D.view disk.old).seen (spans settings.now tail text) slot.now) }
+    ensures settled { IsTrue (D.view disk.old).is_honest →
+        OnOk result (IsSettled (D.view disk.new)) }
+    ensures crash { (text : List Frame) → AreOfText images.now text →
+        (images.now ≡ []) ⊎ (1 ≤ length text) →
+        AreWithin settings.now (disk_size settings.now) (spans settings.now tail text) →
+        IsSettled (D.view disk.old) →
+        is_open ≡ is_open_on slot.now.sequence (D.view disk.old).seen →
         LeavesOnly (D.view disk.old) (D.view disk.new)
-        (λ c. IsUncommitted settings.now slot.now.sequence (spans settings.now tail text) (D.view disk.old).seen c
-        ⊎ (c ≡ committed settings.now (D.view disk.old).seen (spans settings.now tail text) slot.now)) }
+        (λ c. IsUncommitted settings.now slot.now.sequence
+        (spans settings.now tail text) (D.view disk.old).seen c
+        ⊎ (c ≡ committed settings.now (D.view disk.old).seen
+        (spans settings.now tail text) slot.now)) }
 {
     write_hidden(
         disk,

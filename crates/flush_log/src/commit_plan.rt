@@ -34,7 +34,12 @@ impl Model for Commit {
 
     ghost Value = { CommitPlan };
 
-    ghost view = { λ m. record { images = m.images.items; tail = m.tail; slot = m.slot; room = length m.buffer.items } };
+    ghost view = { λ m. record {
+      images = m.images.items;
+      tail = m.tail;
+      slot = m.slot;
+      room = length m.buffer.items;
+    } };
 }
 
 // `len` zeros. They are copied block by block, since it takes many times as long to push them one by one.
@@ -66,8 +71,11 @@ impl Commit {
         requires checked { first_bad_field settings.now ≡ None }
         requires numbers { (slot.now.sequence ≤ greatest) × (slot.now.tail ≤ greatest) }
         requires log { slot.now.head * settings.now.seg_size < slot.now.tail }
-        requires text { (text : List Frame) × AreImages (format_of settings.now slot.now) text images.items }
-        ensures { (text : List Frame) → AreImages (format_of settings.now slot.now) text images.items → MatchResult result
+        requires text { (text : List Frame) ×
+            AreImages (format_of settings.now slot.now) text images.items }
+        ensures { (text : List Frame) →
+            AreImages (format_of settings.now slot.now) text images.items →
+            MatchResult result
             (λ commit. IsPlanned settings.now slot.now text commit)
             (λ fault. (fault ≡ NoMemory) ⊎ (next_tail settings.now slot.now text ≡ Err fault)) }
     {
@@ -104,14 +112,20 @@ impl Commit {
     pub fn write<D: Disk>(self, disk: &mut D, settings: &Settings) -> Result<(), DiskFault>
         requires checked { first_bad_field settings.now ≡ None }
         requires within { disk_size settings.now ≤ (D.view disk.old).size }
-        requires planned { (t : slots.Slot) × (text : List Frame) × IsPlanned settings.now t text self }
+        requires planned { (t : slots.Slot) × (text : List Frame) ×
+            IsPlanned settings.now t text self }
         ensures kept { Kept (D.view disk.old) (D.view disk.new) }
         ensures failed { CountsFailure result (D.failed disk.old) (D.failed disk.new) }
-        ensures written { (t : slots.Slot) (text : List Frame) → IsPlanned settings.now t text self → IsTrue (D.view disk.old).is_honest →
-            OnOk result ((D.view disk.new).seen ≡ file_with settings.now t text (D.view disk.old).seen) }
-        ensures settled { IsTrue (D.view disk.old).is_honest → OnOk result (IsSettled (D.view disk.new)) }
-        ensures crash { (t : slots.Slot) (text : List Frame) → IsPlanned settings.now t text self → IsSettled (D.view disk.old) →
-            LeavesOnly (D.view disk.old) (D.view disk.new) (LeftOf settings.now t text (D.view disk.old).seen) }
+        ensures written { (t : slots.Slot) (text : List Frame) →
+            IsPlanned settings.now t text self → IsTrue (D.view disk.old).is_honest →
+            OnOk result ((D.view disk.new).seen
+            ≡ file_with settings.now t text (D.view disk.old).seen) }
+        ensures settled { IsTrue (D.view disk.old).is_honest →
+            OnOk result (IsSettled (D.view disk.new)) }
+        ensures crash { (t : slots.Slot) (text : List Frame) → IsPlanned settings.now t text self →
+            IsSettled (D.view disk.old) →
+            LeavesOnly (D.view disk.old) (D.view disk.new)
+            (LeftOf settings.now t text (D.view disk.old).seen) }
     {
         let Commit {
             images,

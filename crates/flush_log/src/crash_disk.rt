@@ -56,7 +56,8 @@ pub struct CrashDisk<A: Allocator + Copy> {
     calls: u64,
     failures: u64,
     ghost whole: { length disk.kept.items ≡ disk.len },
-    ghost left: { IsSettledAt (replicate disk.len 0) (calls_of disk.calls.items) since settled.items } by { Prim.hlevel props },
+    ghost left: { IsSettledAt (replicate disk.len 0)
+        (calls_of disk.calls.items) since settled.items } by { Prim.hlevel props },
 }
 
 // Where a write or a sync lies, by the call at which the disk stops.
@@ -71,7 +72,8 @@ impl<A: Allocator + Copy> CrashDisk<A> {
     /// A disk of zeros, settled, that never stops. `Err` where memory was refused.
     pub fn new(alloc: A, len: usize) -> Result<Self, AllocError>
         ensures size { IfOk result (λ disk. (⟦<CrashDisk<A> as Disk>⟧.view disk).size ≡ len) }
-        ensures seen { IfOk result (λ disk. (⟦<CrashDisk<A> as Disk>⟧.view disk).seen ≡ replicate len 0) }
+        ensures seen { IfOk result
+            (λ disk. (⟦<CrashDisk<A> as Disk>⟧.view disk).seen ≡ replicate len 0) }
         ensures settled { IfOk result (λ disk. IsSettled (⟦<CrashDisk<A> as Disk>⟧.view disk)) }
         ensures failures { IfOk result (λ disk. ⟦<CrashDisk<A> as Disk>⟧.failed disk ≡ 0) }
         ensures running { IfOk result (λ disk. disk.stops_at ≡ None) }
@@ -84,8 +86,10 @@ impl<A: Allocator + Copy> CrashDisk<A> {
 
     // A disk that holds these bytes, settled, and never stops.
     fn holding(alloc: A, bytes: Vec<u8, A>) -> Result<Self, AllocError>
-        ensures size { IfOk result (λ disk. (⟦<CrashDisk<A> as Disk>⟧.view disk).size ≡ length bytes.items) }
-        ensures seen { IfOk result (λ disk. (⟦<CrashDisk<A> as Disk>⟧.view disk).seen ≡ bytes.items) }
+        ensures size { IfOk result
+            (λ disk. (⟦<CrashDisk<A> as Disk>⟧.view disk).size ≡ length bytes.items) }
+        ensures seen { IfOk result
+            (λ disk. (⟦<CrashDisk<A> as Disk>⟧.view disk).seen ≡ bytes.items) }
         ensures settled { IfOk result (λ disk. IsSettled (⟦<CrashDisk<A> as Disk>⟧.view disk)) }
         ensures failures { IfOk result (λ disk. ⟦<CrashDisk<A> as Disk>⟧.failed disk ≡ 0) }
         ensures running { IfOk result (λ disk. disk.stops_at ≡ None) }
@@ -107,9 +111,12 @@ impl<A: Allocator + Copy> CrashDisk<A> {
 
     /// From the write or sync with this number on, counted from 1 from now on, the disk has stopped.
     pub fn stop_at(&mut self, call: u64)
-        ensures same { Same (⟦<CrashDisk<A> as Disk>⟧.view self.old) (⟦<CrashDisk<A> as Disk>⟧.view self.new) }
-        ensures kept { Kept (⟦<CrashDisk<A> as Disk>⟧.view self.old) (⟦<CrashDisk<A> as Disk>⟧.view self.new) }
-        ensures failures { ⟦<CrashDisk<A> as Disk>⟧.failed self.new ≡ ⟦<CrashDisk<A> as Disk>⟧.failed self.old }
+        ensures same { Same
+            (⟦<CrashDisk<A> as Disk>⟧.view self.old) (⟦<CrashDisk<A> as Disk>⟧.view self.new) }
+        ensures kept { Kept
+            (⟦<CrashDisk<A> as Disk>⟧.view self.old) (⟦<CrashDisk<A> as Disk>⟧.view self.new) }
+        ensures failures { ⟦<CrashDisk<A> as Disk>⟧.failed self.new
+            ≡ ⟦<CrashDisk<A> as Disk>⟧.failed self.old }
         ensures stops { self.new.stops_at ≡ Some (min (self.old.calls + call) (2 ^ 64 - 1)) }
         ensures calls { self.new.calls ≡ self.old.calls }
     {
@@ -133,15 +140,18 @@ impl<A: Allocator + Copy> CrashDisk<A> {
     /// What a crash of this disk now may leave, as a disk that is settled and never stops: what a read gave at the last sync, with
     /// each range written since filled as `fill` says, one after the other. This disk stays as it is. `Err` where memory was refused.
     pub fn crashed(&self, fill: Fill) -> Result<CrashDisk<A>, AllocError>
-        ensures left { IfOk result (λ disk. (⟦<CrashDisk<A> as Disk>⟧.view self.now).may_leave (⟦<CrashDisk<A> as Disk>⟧.view disk).seen) }
+        ensures left { IfOk result (λ disk. (⟦<CrashDisk<A> as Disk>⟧.view self.now).may_leave
+            (⟦<CrashDisk<A> as Disk>⟧.view disk).seen) }
         // Which of all that it may leave.
         ensures filled { IfOk result (λ disk. (⟦<CrashDisk<A> as Disk>⟧.view disk).seen
             ≡ left_with fill (calls_of self.now.disk.calls.items)
             (replicate self.now.disk.len 0) (replicate self.now.disk.len 0)) }
-        ensures written { fill ≡ Fill.Written → IfOk result (λ disk. (⟦<CrashDisk<A> as Disk>⟧.view disk).seen
+        ensures written { fill ≡ Fill.Written →
+            IfOk result (λ disk. (⟦<CrashDisk<A> as Disk>⟧.view disk).seen
             ≡ (⟦<CrashDisk<A> as Disk>⟧.view self.now).seen) }
         ensures settled { IfOk result (λ disk. IsSettled (⟦<CrashDisk<A> as Disk>⟧.view disk)) }
-        ensures size { IfOk result (λ disk. (⟦<CrashDisk<A> as Disk>⟧.view disk).size ≡ (⟦<CrashDisk<A> as Disk>⟧.view self.now).size) }
+        ensures size { IfOk result (λ disk. (⟦<CrashDisk<A> as Disk>⟧.view disk).size
+            ≡ (⟦<CrashDisk<A> as Disk>⟧.view self.now).size) }
         ensures failures { IfOk result (λ disk. ⟦<CrashDisk<A> as Disk>⟧.failed disk ≡ 0) }
         ensures running { IfOk result (λ disk. disk.stops_at ≡ None) }
         ensures calls { IfOk result (λ disk. disk.calls ≡ 0) }
@@ -208,13 +218,15 @@ impl<A: Allocator + Copy> Disk for CrashDisk<A> {
 
     ghost lawful = { λ d _. record {
       whole =
-          let both = length-append d.disk.kept.items (replicate (d.disk.len - length d.disk.kept.items) 0) in
+          let both = length-append d.disk.kept.items
+          (replicate (d.disk.len - length d.disk.kept.items) 0) in
           let rest = length-replicate {A = ℕ} (d.disk.len - length d.disk.kept.items) 0 in
           let all = length-replicate {A = ℕ} d.disk.len 0 in
           sym (ap length d.disk.recorded) ∙ Prim.omega (arith, both, rest, all, d.disk.short);
       may_stay = inl refl;
       counts_now = λ t c _ now. inl now;
-      only_now = λ c left. ⊎_elim (λ now. now) (λ earlier. absurd (Prim.omega (arith, earlier.1, earlier.2))) left;
+      only_now = λ c left. ⊎_elim (λ now. now)
+          (λ earlier. absurd (Prim.omega (arith, earlier.1, earlier.2))) left;
     } };
 
     fn len(&self) -> u64 {
@@ -228,7 +240,8 @@ impl<A: Allocator + Copy> Disk for CrashDisk<A> {
     fn read_at(&mut self, at: u64, buf: &mut [u8]) -> Result<(), DiskFault>
         requires { at + length buf.old ≤ (⟦<CrashDisk<A> as Disk>⟧.view self.old).size }
         ensures answers { result ≡ Ok tt }
-        ensures bytes { buf.new ≡ take (length buf.old) (drop at (⟦<CrashDisk<A> as Disk>⟧.view self.old).seen) }
+        ensures bytes { buf.new
+            ≡ take (length buf.old) (drop at (⟦<CrashDisk<A> as Disk>⟧.view self.old).seen) }
         ensures same { self.new ≡ self.old }
     {
         self.disk.read(at, buf);
@@ -237,22 +250,29 @@ impl<A: Allocator + Copy> Disk for CrashDisk<A> {
 
     fn write_at(&mut self, at: u64, bytes: &[u8]) -> Result<(), DiskFault>
         requires { at + length bytes.now ≤ (⟦<CrashDisk<A> as Disk>⟧.view self.old).size }
-        ensures kept { Kept (⟦<CrashDisk<A> as Disk>⟧.view self.old) (⟦<CrashDisk<A> as Disk>⟧.view self.new) }
-        ensures failed { CountsFailure result (⟦<CrashDisk<A> as Disk>⟧.failed self.old) (⟦<CrashDisk<A> as Disk>⟧.failed self.new) }
+        ensures kept { Kept
+            (⟦<CrashDisk<A> as Disk>⟧.view self.old) (⟦<CrashDisk<A> as Disk>⟧.view self.new) }
+        ensures failed { CountsFailure result
+            (⟦<CrashDisk<A> as Disk>⟧.failed self.old) (⟦<CrashDisk<A> as Disk>⟧.failed self.new) }
         ensures written { IsTrue (⟦<CrashDisk<A> as Disk>⟧.view self.old).is_honest →
-            OnOk result ((⟦<CrashDisk<A> as Disk>⟧.view self.new).seen ≡ overlay (⟦<CrashDisk<A> as Disk>⟧.view self.old).seen at bytes.now) }
+            OnOk result ((⟦<CrashDisk<A> as Disk>⟧.view self.new).seen
+            ≡ overlay (⟦<CrashDisk<A> as Disk>⟧.view self.old).seen at bytes.now) }
         ensures torn { IsTrue (⟦<CrashDisk<A> as Disk>⟧.view self.old).is_honest →
-            Torn at (length bytes.now) (⟦<CrashDisk<A> as Disk>⟧.view self.old).seen (⟦<CrashDisk<A> as Disk>⟧.view self.new).seen }
+            Torn at (length bytes.now) (⟦<CrashDisk<A> as Disk>⟧.view self.old).seen
+            (⟦<CrashDisk<A> as Disk>⟧.view self.new).seen }
         ensures crash { IsTrue (⟦<CrashDisk<A> as Disk>⟧.view self.old).is_honest →
-            Leaves (⟦<CrashDisk<A> as Disk>⟧.view self.old) (⟦<CrashDisk<A> as Disk>⟧.view self.new) (Torn at (length bytes.now)) }
+            Leaves (⟦<CrashDisk<A> as Disk>⟧.view self.old) (⟦<CrashDisk<A> as Disk>⟧.view self.new)
+            (Torn at (length bytes.now)) }
         // At which call it stops, and what that leaves.
         ensures counted { self.new.calls ≡ min (self.old.calls + 1) (2 ^ 64 - 1) }
         ensures stops { self.new.stops_at ≡ self.old.stops_at }
         ensures running { OnOk result (moment_at self.old.stops_at self.new.calls ≡ Running) }
-        ensures cut { OnErr result (IsCutShort (moment_at self.old.stops_at self.new.calls ≡ Stopping)
+        ensures cut { OnErr result
+            (IsCutShort (moment_at self.old.stops_at self.new.calls ≡ Stopping)
             (overlay (⟦<CrashDisk<A> as Disk>⟧.view self.old).seen at bytes.now)
             ((moment_at self.old.stops_at self.new.calls ≡ Stopped)
-            ⊎ HasFailed (⟦<MemDisk<A> as Disk>⟧.failed self.old.disk) (⟦<MemDisk<A> as Disk>⟧.failed self.new.disk))
+            ⊎ HasFailed (⟦<MemDisk<A> as Disk>⟧.failed self.old.disk)
+            (⟦<MemDisk<A> as Disk>⟧.failed self.new.disk))
             (⟦<CrashDisk<A> as Disk>⟧.view self.old) (⟦<CrashDisk<A> as Disk>⟧.view self.new)) }
     {
         match next_moment(self.stops_at, &mut self.calls) {
@@ -266,22 +286,28 @@ impl<A: Allocator + Copy> Disk for CrashDisk<A> {
     }
 
     fn sync(&mut self) -> Result<(), DiskFault>
-        ensures kept { Kept (⟦<CrashDisk<A> as Disk>⟧.view self.old) (⟦<CrashDisk<A> as Disk>⟧.view self.new) }
-        ensures failed { CountsFailure result (⟦<CrashDisk<A> as Disk>⟧.failed self.old) (⟦<CrashDisk<A> as Disk>⟧.failed self.new) }
+        ensures kept { Kept
+            (⟦<CrashDisk<A> as Disk>⟧.view self.old) (⟦<CrashDisk<A> as Disk>⟧.view self.new) }
+        ensures failed { CountsFailure result
+            (⟦<CrashDisk<A> as Disk>⟧.failed self.old) (⟦<CrashDisk<A> as Disk>⟧.failed self.new) }
         ensures settled { IsTrue (⟦<CrashDisk<A> as Disk>⟧.view self.old).is_honest →
             OnOk result (IsSettled (⟦<CrashDisk<A> as Disk>⟧.view self.new)) }
         ensures seen { IsTrue (⟦<CrashDisk<A> as Disk>⟧.view self.old).is_honest →
-            (⟦<CrashDisk<A> as Disk>⟧.view self.new).seen ≡ (⟦<CrashDisk<A> as Disk>⟧.view self.old).seen }
+            (⟦<CrashDisk<A> as Disk>⟧.view self.new).seen
+            ≡ (⟦<CrashDisk<A> as Disk>⟧.view self.old).seen }
         ensures crash { IsTrue (⟦<CrashDisk<A> as Disk>⟧.view self.old).is_honest →
-            Leaves (⟦<CrashDisk<A> as Disk>⟧.view self.old) (⟦<CrashDisk<A> as Disk>⟧.view self.new) (λ before c. c ≡ before) }
+            Leaves (⟦<CrashDisk<A> as Disk>⟧.view self.old) (⟦<CrashDisk<A> as Disk>⟧.view self.new)
+            (λ before c. c ≡ before) }
         // At which call it stops, and what that leaves.
         ensures counted { self.new.calls ≡ min (self.old.calls + 1) (2 ^ 64 - 1) }
         ensures stops { self.new.stops_at ≡ self.old.stops_at }
         ensures running { OnOk result (moment_at self.old.stops_at self.new.calls ≡ Running) }
         ensures none { OnErr result ((((moment_at self.old.stops_at self.new.calls ≡ Stopping)
             ⊎ (moment_at self.old.stops_at self.new.calls ≡ Stopped))
-            ⊎ HasFailed (⟦<MemDisk<A> as Disk>⟧.failed self.old.disk) (⟦<MemDisk<A> as Disk>⟧.failed self.new.disk))
-            × Same (⟦<CrashDisk<A> as Disk>⟧.view self.old) (⟦<CrashDisk<A> as Disk>⟧.view self.new)) }
+            ⊎ HasFailed (⟦<MemDisk<A> as Disk>⟧.failed self.old.disk)
+            (⟦<MemDisk<A> as Disk>⟧.failed self.new.disk))
+            × Same (⟦<CrashDisk<A> as Disk>⟧.view self.old)
+            (⟦<CrashDisk<A> as Disk>⟧.view self.new)) }
     {
         if next_moment(self.stops_at, &mut self.calls) != Moment::Running {
             return Err(count_failure(&mut self.failures));

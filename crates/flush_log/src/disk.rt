@@ -84,8 +84,10 @@ pub trait Disk {
     fn sync(&mut self) -> Result<(), DiskFault>
         ensures kept { Kept (view self.old) (view self.new) }
         ensures failed { CountsFailure result (failed self.old) (failed self.new) }
-        ensures settled { IsTrue (view self.old).is_honest → OnOk result (IsSettled (view self.new)) }
-        ensures seen { IsTrue (view self.old).is_honest → (view self.new).seen ≡ (view self.old).seen }
+        ensures settled { IsTrue (view self.old).is_honest →
+            OnOk result (IsSettled (view self.new)) }
+        ensures seen { IsTrue (view self.old).is_honest →
+            (view self.new).seen ≡ (view self.old).seen }
         ensures crash { IsTrue (view self.old).is_honest →
             Leaves (view self.old) (view self.new) (λ before c. c ≡ before) };
 

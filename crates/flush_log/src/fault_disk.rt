@@ -52,8 +52,10 @@ pub struct FaultDisk<A: Allocator + Copy> {
 impl<A: Allocator + Copy> FaultDisk<A> {
     /// This disk, whose calls fail so; a write that fails has written its first `written` bytes, or all of them if there are fewer.
     pub fn new(disk: MemDisk<A>, failing: Failing, written: usize) -> Self
-        ensures same { Same (⟦<MemDisk<A> as Disk>⟧.view disk) (⟦<FaultDisk<A> as Disk>⟧.view result) }
-        ensures kept { Kept (⟦<MemDisk<A> as Disk>⟧.view disk) (⟦<FaultDisk<A> as Disk>⟧.view result) }
+        ensures same { Same (⟦<MemDisk<A> as Disk>⟧.view disk)
+            (⟦<FaultDisk<A> as Disk>⟧.view result) }
+        ensures kept { Kept (⟦<MemDisk<A> as Disk>⟧.view disk)
+            (⟦<FaultDisk<A> as Disk>⟧.view result) }
         ensures failures { ⟦<FaultDisk<A> as Disk>⟧.failed result ≡ 0 }
         ensures calls { result.calls ≡ 0 }
         ensures wanted { result.failing ≡ failing }
@@ -77,8 +79,10 @@ impl<A: Allocator + Copy> FaultDisk<A> {
 
     /// The disk without its faults, as it was left.
     pub fn into_inner(self) -> MemDisk<A>
-        ensures same { Same (⟦<FaultDisk<A> as Disk>⟧.view self) (⟦<MemDisk<A> as Disk>⟧.view result) }
-        ensures kept { Kept (⟦<FaultDisk<A> as Disk>⟧.view self) (⟦<MemDisk<A> as Disk>⟧.view result) }
+        ensures same { Same (⟦<FaultDisk<A> as Disk>⟧.view self)
+            (⟦<MemDisk<A> as Disk>⟧.view result) }
+        ensures kept { Kept (⟦<FaultDisk<A> as Disk>⟧.view self)
+            (⟦<MemDisk<A> as Disk>⟧.view result) }
     {
         let FaultDisk { disk, .. } = self;
         disk
@@ -105,13 +109,15 @@ impl<A: Allocator + Copy> Disk for FaultDisk<A> {
 
     ghost lawful = { λ d _. record {
       whole =
-          let both = length-append d.disk.kept.items (replicate (d.disk.len - length d.disk.kept.items) 0) in
+          let both = length-append d.disk.kept.items
+          (replicate (d.disk.len - length d.disk.kept.items) 0) in
           let rest = length-replicate {A = ℕ} (d.disk.len - length d.disk.kept.items) 0 in
           let all = length-replicate {A = ℕ} d.disk.len 0 in
           sym (ap length d.disk.recorded) ∙ Prim.omega (arith, both, rest, all, d.disk.short);
       may_stay = inl refl;
       counts_now = λ t c _ now. inl now;
-      only_now = λ c left. ⊎_elim (λ now. now) (λ earlier. absurd (Prim.omega (arith, earlier.1, earlier.2))) left;
+      only_now = λ c left. ⊎_elim (λ now. now)
+          (λ earlier. absurd (Prim.omega (arith, earlier.1, earlier.2))) left;
     } };
 
     fn len(&self) -> u64 {
@@ -125,7 +131,8 @@ impl<A: Allocator + Copy> Disk for FaultDisk<A> {
     fn read_at(&mut self, at: u64, buf: &mut [u8]) -> Result<(), DiskFault>
         requires { at + length buf.old ≤ (⟦<FaultDisk<A> as Disk>⟧.view self.old).size }
         ensures answers { result ≡ Ok tt }
-        ensures bytes { buf.new ≡ take (length buf.old) (drop at (⟦<FaultDisk<A> as Disk>⟧.view self.old).seen) }
+        ensures bytes { buf.new
+            ≡ take (length buf.old) (drop at (⟦<FaultDisk<A> as Disk>⟧.view self.old).seen) }
         ensures same { self.new ≡ self.old }
     {
         self.disk.read(at, buf);
@@ -134,21 +141,29 @@ impl<A: Allocator + Copy> Disk for FaultDisk<A> {
 
     fn write_at(&mut self, at: u64, bytes: &[u8]) -> Result<(), DiskFault>
         requires { at + length bytes.now ≤ (⟦<FaultDisk<A> as Disk>⟧.view self.old).size }
-        ensures kept { Kept (⟦<FaultDisk<A> as Disk>⟧.view self.old) (⟦<FaultDisk<A> as Disk>⟧.view self.new) }
-        ensures failed { CountsFailure result (⟦<FaultDisk<A> as Disk>⟧.failed self.old) (⟦<FaultDisk<A> as Disk>⟧.failed self.new) }
+        ensures kept { Kept
+            (⟦<FaultDisk<A> as Disk>⟧.view self.old) (⟦<FaultDisk<A> as Disk>⟧.view self.new) }
+        ensures failed { CountsFailure result
+            (⟦<FaultDisk<A> as Disk>⟧.failed self.old) (⟦<FaultDisk<A> as Disk>⟧.failed self.new) }
         ensures written { IsTrue (⟦<FaultDisk<A> as Disk>⟧.view self.old).is_honest →
-            OnOk result ((⟦<FaultDisk<A> as Disk>⟧.view self.new).seen ≡ overlay (⟦<FaultDisk<A> as Disk>⟧.view self.old).seen at bytes.now) }
+            OnOk result ((⟦<FaultDisk<A> as Disk>⟧.view self.new).seen
+            ≡ overlay (⟦<FaultDisk<A> as Disk>⟧.view self.old).seen at bytes.now) }
         ensures torn { IsTrue (⟦<FaultDisk<A> as Disk>⟧.view self.old).is_honest →
-            Torn at (length bytes.now) (⟦<FaultDisk<A> as Disk>⟧.view self.old).seen (⟦<FaultDisk<A> as Disk>⟧.view self.new).seen }
+            Torn at (length bytes.now) (⟦<FaultDisk<A> as Disk>⟧.view self.old).seen
+            (⟦<FaultDisk<A> as Disk>⟧.view self.new).seen }
         ensures crash { IsTrue (⟦<FaultDisk<A> as Disk>⟧.view self.old).is_honest →
-            Leaves (⟦<FaultDisk<A> as Disk>⟧.view self.old) (⟦<FaultDisk<A> as Disk>⟧.view self.new) (Torn at (length bytes.now)) }
+            Leaves (⟦<FaultDisk<A> as Disk>⟧.view self.old) (⟦<FaultDisk<A> as Disk>⟧.view self.new)
+            (Torn at (length bytes.now)) }
         // Which call fails, and what it leaves.
         ensures counted { self.new.calls ≡ min (self.old.calls + 1) (2 ^ 64 - 1) }
-        ensures same { (self.new.failing ≡ self.old.failing) × (self.new.written ≡ self.old.written) }
+        ensures same { (self.new.failing ≡ self.old.failing)
+            × (self.new.written ≡ self.old.written) }
         ensures wanted { OnOk result (is_wanted self.old.failing self.new.calls ≡ false) }
         ensures cut { OnErr result (IsCutShort (is_wanted self.old.failing self.new.calls ≡ true)
-            (overlay (⟦<FaultDisk<A> as Disk>⟧.view self.old).seen at (take self.old.written bytes.now))
-            (HasFailed (⟦<MemDisk<A> as Disk>⟧.failed self.old.disk) (⟦<MemDisk<A> as Disk>⟧.failed self.new.disk))
+            (overlay (⟦<FaultDisk<A> as Disk>⟧.view self.old).seen at
+            (take self.old.written bytes.now))
+            (HasFailed (⟦<MemDisk<A> as Disk>⟧.failed self.old.disk)
+            (⟦<MemDisk<A> as Disk>⟧.failed self.new.disk))
             (⟦<FaultDisk<A> as Disk>⟧.view self.old) (⟦<FaultDisk<A> as Disk>⟧.view self.new)) }
     {
         if is_to_fail(self.failing, &mut self.calls) {
@@ -160,21 +175,28 @@ impl<A: Allocator + Copy> Disk for FaultDisk<A> {
     }
 
     fn sync(&mut self) -> Result<(), DiskFault>
-        ensures kept { Kept (⟦<FaultDisk<A> as Disk>⟧.view self.old) (⟦<FaultDisk<A> as Disk>⟧.view self.new) }
-        ensures failed { CountsFailure result (⟦<FaultDisk<A> as Disk>⟧.failed self.old) (⟦<FaultDisk<A> as Disk>⟧.failed self.new) }
+        ensures kept { Kept
+            (⟦<FaultDisk<A> as Disk>⟧.view self.old) (⟦<FaultDisk<A> as Disk>⟧.view self.new) }
+        ensures failed { CountsFailure result
+            (⟦<FaultDisk<A> as Disk>⟧.failed self.old) (⟦<FaultDisk<A> as Disk>⟧.failed self.new) }
         ensures settled { IsTrue (⟦<FaultDisk<A> as Disk>⟧.view self.old).is_honest →
             OnOk result (IsSettled (⟦<FaultDisk<A> as Disk>⟧.view self.new)) }
         ensures seen { IsTrue (⟦<FaultDisk<A> as Disk>⟧.view self.old).is_honest →
-            (⟦<FaultDisk<A> as Disk>⟧.view self.new).seen ≡ (⟦<FaultDisk<A> as Disk>⟧.view self.old).seen }
+            (⟦<FaultDisk<A> as Disk>⟧.view self.new).seen
+            ≡ (⟦<FaultDisk<A> as Disk>⟧.view self.old).seen }
         ensures crash { IsTrue (⟦<FaultDisk<A> as Disk>⟧.view self.old).is_honest →
-            Leaves (⟦<FaultDisk<A> as Disk>⟧.view self.old) (⟦<FaultDisk<A> as Disk>⟧.view self.new) (λ before c. c ≡ before) }
+            Leaves (⟦<FaultDisk<A> as Disk>⟧.view self.old) (⟦<FaultDisk<A> as Disk>⟧.view self.new)
+            (λ before c. c ≡ before) }
         // Which call fails, and what it leaves.
         ensures counted { self.new.calls ≡ min (self.old.calls + 1) (2 ^ 64 - 1) }
-        ensures same { (self.new.failing ≡ self.old.failing) × (self.new.written ≡ self.old.written) }
+        ensures same { (self.new.failing ≡ self.old.failing)
+            × (self.new.written ≡ self.old.written) }
         ensures wanted { OnOk result (is_wanted self.old.failing self.new.calls ≡ false) }
         ensures none { OnErr result (((is_wanted self.old.failing self.new.calls ≡ true)
-            ⊎ HasFailed (⟦<MemDisk<A> as Disk>⟧.failed self.old.disk) (⟦<MemDisk<A> as Disk>⟧.failed self.new.disk))
-            × Same (⟦<FaultDisk<A> as Disk>⟧.view self.old) (⟦<FaultDisk<A> as Disk>⟧.view self.new)) }
+            ⊎ HasFailed (⟦<MemDisk<A> as Disk>⟧.failed self.old.disk)
+            (⟦<MemDisk<A> as Disk>⟧.failed self.new.disk))
+            × Same (⟦<FaultDisk<A> as Disk>⟧.view self.old)
+            (⟦<FaultDisk<A> as Disk>⟧.view self.new)) }
     {
         if is_to_fail(self.failing, &mut self.calls) {
             return Err(count_failure(&mut self.failures));

@@ -74,8 +74,10 @@ impl Image {
         base: &Base<V, A>,
     ) -> Result<(), AllocError>
         requires { IsSized (V.full spelling low.now base.now) }
-        ensures ok { OnOk result (self.new ≡ self.old ++ bytes_of (record { pid = pid; content = V.full spelling low.now base.now }) ∷ []) }
-        ensures words { OnOk result (HasWords (record { pid = pid; content = V.full spelling low.now base.now })) }
+        ensures ok { OnOk result (self.new ≡ self.old
+            ++ bytes_of (record { pid = pid; content = V.full spelling low.now base.now }) ∷ []) }
+        ensures words { OnOk result
+            (HasWords (record { pid = pid; content = V.full spelling low.now base.now })) }
     {
         self.ends.reserve(1)?;
         V::write_full(pid, spelling, low, base, &mut self.bytes)?;
@@ -90,7 +92,8 @@ impl Image {
         run: &Run<V, A>,
     ) -> Result<(), AllocError>
         requires { IsSized (V.delta run.now) }
-        ensures ok { OnOk result (self.new ≡ self.old ++ bytes_of (record { pid = pid; content = V.delta run.now }) ∷ []) }
+        ensures ok { OnOk result (self.new
+            ≡ self.old ++ bytes_of (record { pid = pid; content = V.delta run.now }) ∷ []) }
         ensures words { OnOk result (HasWords (record { pid = pid; content = V.delta run.now })) }
     {
         self.ends.reserve(1)?;
@@ -101,7 +104,8 @@ impl Image {
 
     // Appends the frame of a page id without a page.
     pub(crate) fn push_free(&mut self, pid: Pid) -> Result<(), AllocError>
-        ensures ok { OnOk result (self.new ≡ self.old ++ bytes_of (record { pid = pid; content = Free }) ∷ []) }
+        ensures ok { OnOk result
+            (self.new ≡ self.old ++ bytes_of (record { pid = pid; content = Free }) ∷ []) }
         ensures words { OnOk result (HasWords (record { pid = pid; content = Free })) }
     {
         self.ends.reserve(1)?;

@@ -151,7 +151,8 @@ fn image_of(
 
 // The image of a page id without a page.
 fn free_image(alloc: Global, pid: Pid, logged: Logged) -> Result<Image, AllocError>
-    ensures { (spelling : spellings.Spelling) → IfOk result (λ image. AreWritten pid (lacking spelling None (log_state logged)) [] image) }
+    ensures { (spelling : spellings.Spelling) →
+        IfOk result (λ image. AreWritten pid (lacking spelling None (log_state logged)) [] image) }
 {
     if logged != Logged::Old {
         return Image::with_capacity(alloc, 0);
@@ -171,7 +172,8 @@ fn page_image(
 ) -> Result<Image, AllocError>
     requires few { page_depth page.now < 2 ^ 31 }
     requires sized { AllByRecursion IsSized (lacking spelling (Some page.now) (log_state logged)) }
-    ensures { IfOk result (λ image. AreWritten pid (lacking spelling (Some page.now) (log_state logged)) [] image) }
+    ensures { IfOk result
+        (λ image. AreWritten pid (lacking spelling (Some page.now) (log_state logged)) [] image) }
 {
     if let Some(chain) = page.as_leaf() {
         return leaf_image(alloc, pid, spelling, page.low(), chain, logged);
@@ -192,10 +194,12 @@ fn leaf_image(
     logged: Logged,
 ) -> Result<Image, AllocError>
     requires few { depth_of (seen chain.now) < 2 ^ 31 }
-    requires sized { AllByRecursion IsSized (lacking_by (log_state logged)
-        (FullLeaf spelling low.now (seen chain.now).base) (map DeltaLeaf (reverse (seen chain.now).runs))) }
-    ensures { IfOk result (λ image. AreWritten pid (lacking_by (log_state logged)
-        (FullLeaf spelling low.now (seen chain.now).base) (map DeltaLeaf (reverse (seen chain.now).runs))) [] image) }
+    requires sized { AllByRecursion IsSized
+        (lacking_by (log_state logged) (FullLeaf spelling low.now (seen chain.now).base)
+        (map DeltaLeaf (reverse (seen chain.now).runs))) }
+    ensures { IfOk result (λ image. AreWritten pid
+        (lacking_by (log_state logged) (FullLeaf spelling low.now (seen chain.now).base)
+        (map DeltaLeaf (reverse (seen chain.now).runs))) [] image) }
 {
     match logged {
         Logged::Upto(kept) => newer_image(alloc, pid, &chain.open_lent(), kept),
@@ -214,8 +218,8 @@ fn whole_leaf(
     requires few { depth_of (seen chain.now) < 2 ^ 31 }
     requires base { IsSized (FullLeaf spelling low.now (seen chain.now).base) }
     requires runs { AllByRecursion IsSized (map DeltaLeaf (reverse (seen chain.now).runs)) }
-    ensures { IfOk result (λ image. AreWritten pid
-        (FullLeaf spelling low.now (seen chain.now).base ∷ map DeltaLeaf (reverse (seen chain.now).runs)) [] image) }
+    ensures { IfOk result (λ image. AreWritten pid (FullLeaf spelling low.now (seen chain.now).base
+        ∷ map DeltaLeaf (reverse (seen chain.now).runs)) [] image) }
 {
     let runs = chain.open_lent();
     if chain.settled() == 0 {
@@ -235,10 +239,11 @@ fn index_image(
     logged: Logged,
 ) -> Result<Image, AllocError>
     requires few { depth_of chain.now < 2 ^ 31 }
-    requires sized { AllByRecursion IsSized
-        (lacking_by (log_state logged) (FullIndex spelling low.now chain.now.base) (map DeltaIndex (reverse chain.now.runs))) }
+    requires sized { AllByRecursion IsSized (lacking_by (log_state logged)
+        (FullIndex spelling low.now chain.now.base) (map DeltaIndex (reverse chain.now.runs))) }
     ensures { IfOk result (λ image. AreWritten pid
-        (lacking_by (log_state logged) (FullIndex spelling low.now chain.now.base) (map DeltaIndex (reverse chain.now.runs))) [] image) }
+        (lacking_by (log_state logged) (FullIndex spelling low.now chain.now.base)
+        (map DeltaIndex (reverse chain.now.runs))) [] image) }
 {
     let runs = chain.lent();
     match logged {
@@ -259,8 +264,8 @@ fn whole_image<V: Kind<Global>>(
     requires few { depth_of lists.now < 2 ^ 31 }
     requires base { IsSized (V.full spelling low.now base.now) }
     requires runs { AllByRecursion IsSized (map V.delta (reverse lists.now.runs)) }
-    ensures { IfOk result (λ image.
-        AreWritten pid (V.full spelling low.now base.now ∷ map V.delta (reverse lists.now.runs)) [] image) }
+    ensures { IfOk result (λ image. AreWritten pid
+        (V.full spelling low.now base.now ∷ map V.delta (reverse lists.now.runs)) [] image) }
 {
     let depth = lists.depth() as usize;
     let mut image = Image::with_capacity(alloc, depth + 1)?;
@@ -278,7 +283,8 @@ fn newer_image<V: Kind<Global>>(
 ) -> Result<Image, AllocError>
     requires few { depth_of lists.now < 2 ^ 31 }
     requires sized { AllByRecursion IsSized (drop kept (map V.delta (reverse lists.now.runs))) }
-    ensures { IfOk result (λ image. AreWritten pid (drop kept (map V.delta (reverse lists.now.runs))) [] image) }
+    ensures { IfOk result
+        (λ image. AreWritten pid (drop kept (map V.delta (reverse lists.now.runs))) [] image) }
 {
     let newer = lists.depth().saturating_sub(kept) as usize;
     let mut image = Image::with_capacity(alloc, newer)?;
@@ -295,7 +301,8 @@ fn push_runs<V: Kind<A>, A: Allocator + Copy>(
 ) -> Result<(), AllocError>
     requires few { depth_of lists.now < 2 ^ 31 }
     requires sized { AllByRecursion IsSized (drop kept (map V.delta (reverse lists.now.runs))) }
-    ensures { OnOk result (AreWritten pid (drop kept (map V.delta (reverse lists.now.runs))) image.old image.new) }
+    ensures { OnOk result
+        (AreWritten pid (drop kept (map V.delta (reverse lists.now.runs))) image.old image.new) }
 {
     if lists.depth() <= kept {
         return Ok(());

@@ -28,15 +28,17 @@ pub(crate) trait Kind<A: Allocator>: Drop {
         out: &mut Vec<u8>,
     ) -> Result<(), AllocError>
         requires { IsSized (full spelling low.now base.now) }
-        ensures ok { OnOk result (out.new.items
-            ≡ out.old.items ++ bytes_of (record { pid = pid; content = full spelling low.now base.now })) }
-        ensures words { OnOk result (HasWords (record { pid = pid; content = full spelling low.now base.now })) }
+        ensures ok { OnOk result (out.new.items ≡ out.old.items
+            ++ bytes_of (record { pid = pid; content = full spelling low.now base.now })) }
+        ensures words { OnOk result
+            (HasWords (record { pid = pid; content = full spelling low.now base.now })) }
         ensures err { OnErr result (out.new.items ≡ out.old.items) };
 
     /// Appends the frame of a run. Where memory is refused nothing is appended.
     fn write_delta(pid: Pid, run: &Run<Self, A>, out: &mut Vec<u8>) -> Result<(), AllocError>
         requires { IsSized (delta run.now) }
-        ensures ok { OnOk result (out.new.items ≡ out.old.items ++ bytes_of (record { pid = pid; content = delta run.now })) }
+        ensures ok { OnOk result (out.new.items
+            ≡ out.old.items ++ bytes_of (record { pid = pid; content = delta run.now })) }
         ensures words { OnOk result (HasWords (record { pid = pid; content = delta run.now })) }
         ensures err { OnErr result (out.new.items ≡ out.old.items) };
 }
@@ -59,9 +61,10 @@ impl Kind<Global> for Value<Global> {
         out: &mut Vec<u8>,
     ) -> Result<(), AllocError>
         requires { IsSized (FullLeaf spelling low.now base.now) }
-        ensures ok { OnOk result (out.new.items
-            ≡ out.old.items ++ bytes_of (record { pid = pid; content = FullLeaf spelling low.now base.now })) }
-        ensures words { OnOk result (HasWords (record { pid = pid; content = FullLeaf spelling low.now base.now })) }
+        ensures ok { OnOk result (out.new.items ≡ out.old.items
+            ++ bytes_of (record { pid = pid; content = FullLeaf spelling low.now base.now })) }
+        ensures words { OnOk result
+            (HasWords (record { pid = pid; content = FullLeaf spelling low.now base.now })) }
         ensures err { OnErr result (out.new.items ≡ out.old.items) }
     {
         write_full_leaf(pid, spelling, low, base, out)
@@ -69,7 +72,8 @@ impl Kind<Global> for Value<Global> {
 
     fn write_delta(pid: Pid, run: &Run<Self, Global>, out: &mut Vec<u8>) -> Result<(), AllocError>
         requires { IsSized (DeltaLeaf run.now) }
-        ensures ok { OnOk result (out.new.items ≡ out.old.items ++ bytes_of (record { pid = pid; content = DeltaLeaf run.now })) }
+        ensures ok { OnOk result (out.new.items
+            ≡ out.old.items ++ bytes_of (record { pid = pid; content = DeltaLeaf run.now })) }
         ensures words { OnOk result (HasWords (record { pid = pid; content = DeltaLeaf run.now })) }
         ensures err { OnErr result (out.new.items ≡ out.old.items) }
     {
@@ -95,9 +99,10 @@ impl Kind<Global> for Pid {
         out: &mut Vec<u8>,
     ) -> Result<(), AllocError>
         requires { IsSized (FullIndex spelling low.now base.now) }
-        ensures ok { OnOk result (out.new.items
-            ≡ out.old.items ++ bytes_of (record { pid = pid; content = FullIndex spelling low.now base.now })) }
-        ensures words { OnOk result (HasWords (record { pid = pid; content = FullIndex spelling low.now base.now })) }
+        ensures ok { OnOk result (out.new.items ≡ out.old.items
+            ++ bytes_of (record { pid = pid; content = FullIndex spelling low.now base.now })) }
+        ensures words { OnOk result
+            (HasWords (record { pid = pid; content = FullIndex spelling low.now base.now })) }
         ensures err { OnErr result (out.new.items ≡ out.old.items) }
     {
         write_full_index(pid, spelling, low, base, out)
@@ -105,8 +110,10 @@ impl Kind<Global> for Pid {
 
     fn write_delta(pid: Pid, run: &Run<Self, Global>, out: &mut Vec<u8>) -> Result<(), AllocError>
         requires { IsSized (DeltaIndex run.now) }
-        ensures ok { OnOk result (out.new.items ≡ out.old.items ++ bytes_of (record { pid = pid; content = DeltaIndex run.now })) }
-        ensures words { OnOk result (HasWords (record { pid = pid; content = DeltaIndex run.now })) }
+        ensures ok { OnOk result (out.new.items
+            ≡ out.old.items ++ bytes_of (record { pid = pid; content = DeltaIndex run.now })) }
+        ensures words { OnOk result
+            (HasWords (record { pid = pid; content = DeltaIndex run.now })) }
         ensures err { OnErr result (out.new.items ≡ out.old.items) }
     {
         write_delta_index(pid, run, out)

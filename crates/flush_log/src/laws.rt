@@ -23,7 +23,8 @@ ghost use Rattle.flush_log.specs.Standing.{AreFrames, IsBrokenAt, IsFirstFault};
 
 /// Each frame that a store may have fits into a segment, after its header.
 pub fn a_frame_fits_into_a_segment()
-    ensures { (g : Format) (f : Frame) → let s = g.settings in first_bad_field s ≡ None → is_frame g f ≡ true →
+    ensures { (g : Format) (f : Frame) →
+        let s = g.settings in first_bad_field s ≡ None → is_frame g f ≡ true →
         segment_header_size + length (bytes_of f) ≤ s.seg_size }
 {}
 
@@ -32,9 +33,11 @@ pub fn a_frame_fits_into_a_segment()
 pub fn a_text_is_read_back()
     ensures { (g : Format) (file : Bytes) (head tail : ℕ) (found : List Found) (text : List Frame) →
         let s = g.settings in first_bad_field s ≡ None → HasSegments s file →
-        AllByRecursion (λ f. is_frame g f ≡ true) text → head * s.seg_size < tail → log_between g file head tail ≡ Ok found →
+        AllByRecursion (λ f. is_frame g f ≡ true) text → head * s.seg_size < tail →
+        log_between g file head tail ≡ Ok found →
         last_segment s (tail_after s tail text) < head + s.segments →
-        log_between g (with_spans s file (spans s tail text)) head (tail_after s tail text) ≡ Ok (found ++ found_in_text s tail text) }
+        log_between g (with_spans s file (spans s tail text)) head (tail_after s tail text)
+        ≡ Ok (found ++ found_in_text s tail text) }
 {}
 
 /// Once a text is written, each of its frames stands at its place: in its segment, at its offset.
@@ -43,7 +46,9 @@ pub fn each_frame_stands_at_its_place()
         let s = g.settings in first_bad_field s ≡ None → HasSegments s file →
         AllByRecursion (λ f. is_frame g f ≡ true) text → head * s.seg_size < tail →
         last_segment s (tail_after s tail text) < head + s.segments →
-        AllByRecursion (λ p. take (length (bytes_of p.frame)) (drop p.offset (segment_bytes s (with_spans s file (spans s tail text)) p.segment)) ≡ bytes_of p.frame)
+        AllByRecursion (λ p. take (length (bytes_of p.frame))
+        (drop p.offset (segment_bytes s (with_spans s file (spans s tail text)) p.segment))
+        ≡ bytes_of p.frame)
         (placed s tail text) }
 {}
 
@@ -51,38 +56,44 @@ pub fn each_frame_stands_at_its_place()
 /// free, and before all segments.
 pub fn what_is_behind_the_tail_is_hidden()
     ensures hidden { (g : Format) (file other : Bytes) (head tail : ℕ) →
-        let s = g.settings in first_bad_field s ≡ None → HasSegments s file → head * s.seg_size < tail →
-        AgreeAt (IsInLog s head tail) file other → log_between g other head tail ≡ log_between g file head tail }
-    ensures places { (s : Settings) (head tail place : ℕ) → first_bad_field s ≡ None → IsInLog s head tail place →
-        (segments_begin ≤ place) × (place < disk_size s) }
+        let s = g.settings in first_bad_field s ≡ None → HasSegments s file →
+        head * s.seg_size < tail → AgreeAt (IsInLog s head tail) file other →
+        log_between g other head tail ≡ log_between g file head tail }
+    ensures places { (s : Settings) (head tail place : ℕ) → first_bad_field s ≡ None →
+        IsInLog s head tail place → (segments_begin ≤ place) × (place < disk_size s) }
 {}
 
 /// What is written for a text that finds room lies in no place of the log, and within the segments.
 pub fn a_text_lies_behind_the_tail()
     ensures behind { (g : Format) (head tail : ℕ) (text : List Frame) →
         let s = g.settings in first_bad_field s ≡ None → head * s.seg_size < tail →
-        AllByRecursion (λ f. is_frame g f ≡ true) text → last_segment s (tail_after s tail text) < head + s.segments →
+        AllByRecursion (λ f. is_frame g f ≡ true) text →
+        last_segment s (tail_after s tail text) < head + s.segments →
         (place : ℕ) → IsInLog s head tail place → IsBesideSpans s (spans s tail text) place }
     ensures apart { (g : Format) (head tail : ℕ) (text : List Frame) →
         let s = g.settings in first_bad_field s ≡ None → head * s.seg_size < tail →
-        AllByRecursion (λ f. is_frame g f ≡ true) text → last_segment s (tail_after s tail text) < head + s.segments →
+        AllByRecursion (λ f. is_frame g f ≡ true) text →
+        last_segment s (tail_after s tail text) < head + s.segments →
         (place : ℕ) → place < segments_begin → IsBesideSpans s (spans s tail text) place }
     ensures inside { (g : Format) (head tail : ℕ) (text : List Frame) →
         let s = g.settings in first_bad_field s ≡ None → head * s.seg_size < tail →
-        AllByRecursion (λ f. is_frame g f ≡ true) text → last_segment s (tail_after s tail text) < head + s.segments →
+        AllByRecursion (λ f. is_frame g f ≡ true) text →
+        last_segment s (tail_after s tail text) < head + s.segments →
         AreWithin s (disk_size s) (spans s tail text) }
 {}
 
 /// From the next segment on a reading finds what it finds from the head on, but for the frames of the head segment. All that it finds
 /// stands from the head to the last segment, and a text from the tail's segment on.
 pub fn the_head_segment_is_taken_off()
-    ensures rest { (g : Format) (file : Bytes) (head tail : ℕ) (found : List Found) → head < last_segment g.settings tail →
-        log_between g file head tail ≡ Ok found →
+    ensures rest { (g : Format) (file : Bytes) (head tail : ℕ) (found : List Found) →
+        head < last_segment g.settings tail → log_between g file head tail ≡ Ok found →
         log_between g file (suc head) tail ≡ Ok (filter (λ f. not (nat_eq f.segment head)) found) }
     ensures found { (g : Format) (file : Bytes) (head tail : ℕ) (found : List Found) →
         let s = g.settings in first_bad_field s ≡ None → head * s.seg_size < tail →
-        log_between g file head tail ≡ Ok found → AllByRecursion (λ f. (head ≤ f.segment) × (f.segment ≤ last_segment s tail)) found }
-    ensures text { (s : Settings) (tail : ℕ) (text : List Frame) → first_bad_field s ≡ None → 0 < tail →
+        log_between g file head tail ≡ Ok found →
+        AllByRecursion (λ f. (head ≤ f.segment) × (f.segment ≤ last_segment s tail)) found }
+    ensures text { (s : Settings) (tail : ℕ) (text : List Frame) → first_bad_field s ≡ None →
+        0 < tail →
         AllByRecursion (λ f. last_segment s tail ≤ f.segment) (found_in_text s tail text) }
 {}
 
@@ -91,19 +102,25 @@ pub fn the_head_segment_is_taken_off()
 /// bytes as all segments have finds none.
 pub fn a_text_moves_the_tail()
     ensures rises { (g : Format) (tail : ℕ) (text : List Frame) →
-        let s = g.settings in first_bad_field s ≡ None → AllByRecursion (λ f. is_frame g f ≡ true) text →
+        let s = g.settings in
+        first_bad_field s ≡ None → AllByRecursion (λ f. is_frame g f ≡ true) text →
         tail + sum_by (λ f. length (bytes_of f)) text ≤ tail_after s tail text }
     ensures bounded { (g : Format) (tail : ℕ) (text : List Frame) →
-        let s = g.settings in first_bad_field s ≡ None → AllByRecursion (λ f. is_frame g f ≡ true) text →
+        let s = g.settings in
+        first_bad_field s ≡ None → AllByRecursion (λ f. is_frame g f ≡ true) text →
         tail_after s tail text ≤ tail + (length text + 1) * s.seg_size }
-    ensures in_room { (s : Settings) (head tail : ℕ) → first_bad_field s ≡ None → last_segment s tail < head + s.segments →
-        tail ≤ (head + s.segments) * s.seg_size }
-    ensures clean { (s : Settings) (head tail : ℕ) → is_full_for_clean s head tail ≡ false → last_segment s tail < head + s.segments }
-    ensures flush { (s : Settings) (head tail : ℕ) → is_full_for_flush s head tail ≡ false → last_segment s tail + 1 < head + s.segments }
+    ensures in_room { (s : Settings) (head tail : ℕ) → first_bad_field s ≡ None →
+        last_segment s tail < head + s.segments → tail ≤ (head + s.segments) * s.seg_size }
+    ensures clean { (s : Settings) (head tail : ℕ) → is_full_for_clean s head tail ≡ false →
+        last_segment s tail < head + s.segments }
+    ensures flush { (s : Settings) (head tail : ℕ) → is_full_for_flush s head tail ≡ false →
+        last_segment s tail + 1 < head + s.segments }
     ensures too_long { (g : Format) (head tail : ℕ) (text : List Frame) →
-        let s = g.settings in first_bad_field s ≡ None → AllByRecursion (λ f. is_frame g f ≡ true) text →
-        head * s.seg_size < tail → s.segments * s.seg_size ≤ sum_by (λ f. length (bytes_of f)) text →
-        (is_full_for_clean s head (tail_after s tail text) ≡ true) × (is_full_for_flush s head (tail_after s tail text) ≡ true) }
+        let s = g.settings in first_bad_field s ≡ None →
+        AllByRecursion (λ f. is_frame g f ≡ true) text → head * s.seg_size < tail →
+        s.segments * s.seg_size ≤ sum_by (λ f. length (bytes_of f)) text →
+        (is_full_for_clean s head (tail_after s tail text) ≡ true)
+        × (is_full_for_flush s head (tail_after s tail text) ≡ true) }
 {}
 
 /// What is found in a segment stands there: its header, the frames, and zeros up to its end, or in the last one the tail. What stands
@@ -116,15 +133,19 @@ pub fn a_segment_is_read_as_it_stands()
     ensures last { (g : Format) (n : ℕ) (bytes : Bytes) (found : List Found) → AreBytes bytes →
         read_segment g is_at_tail n bytes ≡ Ok found →
         (fs : List Frame) × AreFrames g n fs 0 bytes × (found ≡ all_in n fs) }
-    ensures earlier_back { (g : Format) (n zeros : ℕ) (bytes : Bytes) (fs : List Frame) → first_bad_field g.settings ≡ None →
+    ensures earlier_back { (g : Format) (n zeros : ℕ) (bytes : Bytes) (fs : List Frame) →
+        first_bad_field g.settings ≡ None →
         AreFrames g n fs zeros bytes → read_segment g is_padding n bytes ≡ Ok (all_in n fs) }
-    ensures last_back { (g : Format) (n : ℕ) (bytes : Bytes) (fs : List Frame) → first_bad_field g.settings ≡ None →
+    ensures last_back { (g : Format) (n : ℕ) (bytes : Bytes) (fs : List Frame) →
+        first_bad_field g.settings ≡ None →
         AreFrames g n fs 0 bytes → read_segment g is_at_tail n bytes ≡ Ok (all_in n fs) }
     ensures bad_segment { (g : Format) (is_end : Bytes → Bool) (n m : ℕ) (bytes : Bytes) →
         read_segment g is_end n bytes ≡ Err (BadSegment m) →
         (m ≡ n) × (starts_with nat_eq bytes (segment_header n) ≡ false) }
-    ensures bad_frame { (g : Format) (is_end : Bytes → Bool) (n m offset : ℕ) (bytes : Bytes) → AreBytes bytes → is_end [] ≡ true →
-        read_segment g is_end n bytes ≡ Err (BadFrame m offset) → (m ≡ n) × IsBrokenAt g is_end n offset bytes }
+    ensures bad_frame { (g : Format) (is_end : Bytes → Bool) (n m offset : ℕ) (bytes : Bytes) →
+        AreBytes bytes → is_end [] ≡ true →
+        read_segment g is_end n bytes ≡ Err (BadFrame m offset) →
+        (m ≡ n) × IsBrokenAt g is_end n offset bytes }
 {}
 
 /// A reading reports the fault of the first segment that has one.

@@ -93,7 +93,8 @@ fn text_end(settings: &Settings, tail: u64, images: &[Image]) -> Option<u64>
     requires fits { FitSegments settings.now (frames_in images.now) }
     requires room { tail ≤ greatest }
     ensures { (text : List Frame) → AreOfText images.now text →
-        let after = tail_after settings.now tail text in result ≡ (if nat_lt greatest after then None else Some after) }
+        let after = tail_after settings.now tail text in
+        result ≡ (if nat_lt greatest after then None else Some after) }
 {
     let mut reached = from_tail(settings, tail);
     for image in images {

@@ -34,7 +34,8 @@ pub struct MemDisk<A: Allocator + Copy> {
     failures: u64,
     ghost in_range: { AreCalls len (calls_of calls.items) } by { Prim.hlevel props },
     ghost short: { length kept.items ≤ len },
-    ghost recorded: { with_zeros len kept.items ≡ seen_after (calls_of calls.items) (replicate len 0) },
+    ghost recorded: { with_zeros len kept.items
+        ≡ seen_after (calls_of calls.items) (replicate len 0) },
 }
 
 impl<A: Allocator + Copy> MemDisk<A> {
@@ -42,7 +43,8 @@ impl<A: Allocator + Copy> MemDisk<A> {
     pub fn new(alloc: A, len: usize) -> Result<Self, AllocError>
         ensures never { IsOk result }
         ensures size { IfOk result (λ disk. (⟦<MemDisk<A> as Disk>⟧.view disk).size ≡ len) }
-        ensures seen { IfOk result (λ disk. (⟦<MemDisk<A> as Disk>⟧.view disk).seen ≡ replicate len 0) }
+        ensures seen { IfOk result
+            (λ disk. (⟦<MemDisk<A> as Disk>⟧.view disk).seen ≡ replicate len 0) }
         ensures settled { IfOk result (λ disk. IsSettled (⟦<MemDisk<A> as Disk>⟧.view disk)) }
         ensures failures { IfOk result (λ disk. ⟦<MemDisk<A> as Disk>⟧.failed disk ≡ 0) }
     {
@@ -59,7 +61,8 @@ impl<A: Allocator + Copy> MemDisk<A> {
     pub(crate) fn holding(alloc: A, bytes: Vec<u8, A>) -> Result<Self, AllocError>
         ensures len { IfOk result (λ disk. disk.len ≡ length bytes.items) }
         ensures kept { IfOk result (λ disk. disk.kept.items ≡ bytes.items) }
-        ensures calls { IfOk result (λ disk. calls_of disk.calls.items ≡ Write 0 bytes.items ∷ Sync ∷ []) }
+        ensures calls { IfOk result
+            (λ disk. calls_of disk.calls.items ≡ Write 0 bytes.items ∷ Sync ∷ []) }
     {
         let mut calls = Vec::new(alloc);
         note_write(alloc, &mut calls, 0, &bytes)?;
@@ -75,7 +78,8 @@ impl<A: Allocator + Copy> MemDisk<A> {
 
     /// What a read gives, up to the furthest byte that was written; all bytes beyond are zeros.
     pub fn bytes(&self) -> &[u8]
-        ensures seen { with_zeros (⟦<MemDisk<A> as Disk>⟧.view self.now).size result.now ≡ (⟦<MemDisk<A> as Disk>⟧.view self.now).seen }
+        ensures seen { with_zeros (⟦<MemDisk<A> as Disk>⟧.view self.now).size result.now
+            ≡ (⟦<MemDisk<A> as Disk>⟧.view self.now).seen }
         ensures short { length result.now ≤ (⟦<MemDisk<A> as Disk>⟧.view self.now).size }
         ensures kept { result.now ≡ self.now.kept.items }
     {
@@ -92,7 +96,8 @@ impl<A: Allocator + Copy> MemDisk<A> {
     // As `read_at`.
     pub(crate) fn read(&self, at: u64, buf: &mut [u8])
         requires { at + length buf.old ≤ (⟦<MemDisk<A> as Disk>⟧.view self.now).size }
-        ensures { buf.new ≡ take (length buf.old) (drop at (⟦<MemDisk<A> as Disk>⟧.view self.now).seen) }
+        ensures { buf.new
+            ≡ take (length buf.old) (drop at (⟦<MemDisk<A> as Disk>⟧.view self.now).seen) }
     {
         read_kept(&self.kept, self.len, at as usize, buf);
     }
@@ -100,17 +105,24 @@ impl<A: Allocator + Copy> MemDisk<A> {
     // As `write_at`, with what it puts into the record.
     pub(crate) fn write_recorded(&mut self, at: u64, bytes: &[u8]) -> Result<(), DiskFault>
         requires { at + length bytes.now ≤ (⟦<MemDisk<A> as Disk>⟧.view self.old).size }
-        ensures done { OnOk result (calls_of self.new.calls.items ≡ calls_of self.old.calls.items ++ Write at bytes.now ∷ []) }
-        ensures refused { OnErr result (calls_of self.new.calls.items ≡ calls_of self.old.calls.items) }
-        ensures kept { Kept (⟦<MemDisk<A> as Disk>⟧.view self.old) (⟦<MemDisk<A> as Disk>⟧.view self.new) }
+        ensures done { OnOk result (calls_of self.new.calls.items
+            ≡ calls_of self.old.calls.items ++ Write at bytes.now ∷ []) }
+        ensures refused { OnErr result
+            (calls_of self.new.calls.items ≡ calls_of self.old.calls.items) }
+        ensures kept { Kept
+            (⟦<MemDisk<A> as Disk>⟧.view self.old) (⟦<MemDisk<A> as Disk>⟧.view self.new) }
         ensures len { self.new.len ≡ self.old.len }
         ensures grows { length self.old.kept.items ≤ length self.new.kept.items }
-        ensures none { OnErr result (Same (⟦<MemDisk<A> as Disk>⟧.view self.old) (⟦<MemDisk<A> as Disk>⟧.view self.new)) }
-        ensures failed { CountsFailure result (⟦<MemDisk<A> as Disk>⟧.failed self.old) (⟦<MemDisk<A> as Disk>⟧.failed self.new) }
+        ensures none { OnErr result
+            (Same (⟦<MemDisk<A> as Disk>⟧.view self.old) (⟦<MemDisk<A> as Disk>⟧.view self.new)) }
+        ensures failed { CountsFailure result
+            (⟦<MemDisk<A> as Disk>⟧.failed self.old) (⟦<MemDisk<A> as Disk>⟧.failed self.new) }
         ensures written { OnOk result ((⟦<MemDisk<A> as Disk>⟧.view self.new).seen
             ≡ overlay (⟦<MemDisk<A> as Disk>⟧.view self.old).seen at bytes.now) }
-        ensures torn { Torn at (length bytes.now) (⟦<MemDisk<A> as Disk>⟧.view self.old).seen (⟦<MemDisk<A> as Disk>⟧.view self.new).seen }
-        ensures crash { Leaves (⟦<MemDisk<A> as Disk>⟧.view self.old) (⟦<MemDisk<A> as Disk>⟧.view self.new) (Torn at (length bytes.now)) }
+        ensures torn { Torn at (length bytes.now) (⟦<MemDisk<A> as Disk>⟧.view self.old).seen
+            (⟦<MemDisk<A> as Disk>⟧.view self.new).seen }
+        ensures crash { Leaves (⟦<MemDisk<A> as Disk>⟧.view self.old)
+            (⟦<MemDisk<A> as Disk>⟧.view self.new) (Torn at (length bytes.now)) }
     {
         let end = at as usize + bytes.len();
         if lengthen(&mut self.kept, self.len, end).is_err() {
@@ -127,15 +139,21 @@ impl<A: Allocator + Copy> MemDisk<A> {
 
     // As `sync`, with what it puts into the record.
     pub(crate) fn sync_recorded(&mut self) -> Result<(), DiskFault>
-        ensures done { OnOk result (calls_of self.new.calls.items ≡ calls_of self.old.calls.items ++ Sync ∷ []) }
-        ensures refused { OnErr result (calls_of self.new.calls.items ≡ calls_of self.old.calls.items) }
+        ensures done { OnOk result
+            (calls_of self.new.calls.items ≡ calls_of self.old.calls.items ++ Sync ∷ []) }
+        ensures refused { OnErr result
+            (calls_of self.new.calls.items ≡ calls_of self.old.calls.items) }
         ensures len { self.new.len ≡ self.old.len }
         ensures kept { self.new.kept.items ≡ self.old.kept.items }
-        ensures none { OnErr result (Same (⟦<MemDisk<A> as Disk>⟧.view self.old) (⟦<MemDisk<A> as Disk>⟧.view self.new)) }
-        ensures failed { CountsFailure result (⟦<MemDisk<A> as Disk>⟧.failed self.old) (⟦<MemDisk<A> as Disk>⟧.failed self.new) }
+        ensures none { OnErr result
+            (Same (⟦<MemDisk<A> as Disk>⟧.view self.old) (⟦<MemDisk<A> as Disk>⟧.view self.new)) }
+        ensures failed { CountsFailure result
+            (⟦<MemDisk<A> as Disk>⟧.failed self.old) (⟦<MemDisk<A> as Disk>⟧.failed self.new) }
         ensures settled { OnOk result (IsSettled (⟦<MemDisk<A> as Disk>⟧.view self.new)) }
-        ensures seen { (⟦<MemDisk<A> as Disk>⟧.view self.new).seen ≡ (⟦<MemDisk<A> as Disk>⟧.view self.old).seen }
-        ensures crash { Leaves (⟦<MemDisk<A> as Disk>⟧.view self.old) (⟦<MemDisk<A> as Disk>⟧.view self.new) (λ before c. c ≡ before) }
+        ensures seen { (⟦<MemDisk<A> as Disk>⟧.view self.new).seen
+            ≡ (⟦<MemDisk<A> as Disk>⟧.view self.old).seen }
+        ensures crash { Leaves (⟦<MemDisk<A> as Disk>⟧.view self.old)
+            (⟦<MemDisk<A> as Disk>⟧.view self.new) (λ before c. c ≡ before) }
     {
         match note(&mut self.calls, RecordedCall::Sync) {
             Ok(()) => Ok(()),
@@ -184,7 +202,8 @@ fn note<A: Allocator>(
     calls: &mut Vec<RecordedCall<A>, A>,
     call: RecordedCall<A>,
 ) -> Result<(), AllocError>
-    ensures ok { OnOk result (calls_of calls.new.items ≡ calls_of calls.old.items ++ call_of call ∷ []) }
+    ensures ok { OnOk result
+        (calls_of calls.new.items ≡ calls_of calls.old.items ++ call_of call ∷ []) }
     ensures err { OnErr result (calls.new.items ≡ calls.old.items) }
 {
     calls.push(call)?;
@@ -197,7 +216,8 @@ fn note_write<A: Allocator + Copy>(
     at: u64,
     bytes: &[u8],
 ) -> Result<(), AllocError>
-    ensures ok { OnOk result (calls_of calls.new.items ≡ calls_of calls.old.items ++ Write at bytes.now ∷ []) }
+    ensures ok { OnOk result
+        (calls_of calls.new.items ≡ calls_of calls.old.items ++ Write at bytes.now ∷ []) }
     ensures err { OnErr result (calls.new.items ≡ calls.old.items) }
 {
     let copy = bytes.to_vec(alloc)?;
@@ -218,7 +238,8 @@ impl<A: Allocator + Copy> Disk for MemDisk<A> {
           sym (ap length d.recorded) ∙ Prim.omega (arith, both, rest, all, d.short);
       may_stay = inl refl;
       counts_now = λ t c _ now. inl now;
-      only_now = λ c left. ⊎_elim (λ now. now) (λ earlier. absurd (Prim.omega (arith, earlier.1, earlier.2))) left;
+      only_now = λ c left. ⊎_elim (λ now. now)
+          (λ earlier. absurd (Prim.omega (arith, earlier.1, earlier.2))) left;
     } };
 
     fn len(&self) -> u64 {

@@ -149,8 +149,9 @@ fn is_in_segments(settings: &Settings, head: u64, tail: u64) -> bool
 // Whether a log may go from this head to this tail.
 fn is_log(settings: &Settings, head: u64, tail: u64) -> bool
     requires { first_bad_field settings.now ≡ None }
-    ensures { result ≡ (nat_lt (head * settings.now.seg_size + segment_header_size) tail && nat_le tail greatest &&
-        is_tail settings.now tail && nat_lt (last_segment settings.now tail) (head + settings.now.segments)) }
+    ensures { result ≡ (nat_lt (head * settings.now.seg_size + segment_header_size) tail
+        && nat_le tail greatest && is_tail settings.now tail
+        && nat_lt (last_segment settings.now tail) (head + settings.now.segments)) }
 {
     is_behind(settings, head, tail)
         && tail <= GREATEST

@@ -76,9 +76,11 @@ pub fn images(
 ) -> Result<Vec<Image>, AllocError>
     requires home { AreAllHome tree.now }
     requires proper { IsOfStore (tree_of tree.now) }
-    ensures text { IfOk result (λ images. AreOfText images.items (text_of text (tree_of tree.now))) }
+    ensures text { IfOk result
+        (λ images. AreOfText images.items (text_of text (tree_of tree.now))) }
     ensures some { IfOk result (λ images. AllByRecursion (λ image. image ≢ []) images.items) }
-    ensures frames { IfOk result (λ _. (s : limits.Settings) → IsProper s (tree_of tree.now) → HasFrames s text (tree_of tree.now)) }
+    ensures frames { IfOk result (λ _. (s : limits.Settings) → IsProper s (tree_of tree.now) →
+        HasFrames s text (tree_of tree.now)) }
 {
     let jobs = due_jobs(alloc, tree, text)?;
     match run_round(rt, crew, &NoGate, &ImageWork::new(alloc), jobs) {
@@ -92,7 +94,8 @@ pub fn images(
 pub fn is_all_written(tree: &Tree<Global>) -> bool
     requires home { AreAllHome tree.now }
     requires proper { IsOfStore (tree_of tree.now) }
-    ensures { (version : versions.Version) → IsTrue result ↔ (flush_text version (tree_of tree.now) ≡ []) }
+    ensures { (version : versions.Version) →
+        IsTrue result ↔ (flush_text version (tree_of tree.now) ≡ []) }
 {
     match tree.due_pids() {
         Some(pids) => are_written(tree, pids),
@@ -104,7 +107,9 @@ pub fn is_all_written(tree: &Tree<Global>) -> bool
 fn are_written(tree: &Tree<Global>, pids: &[u64]) -> bool
     requires home { AreAllHome tree.now }
     requires proper { IsOfStore (tree_of tree.now) }
-    ensures { (version : versions.Version) → IsTrue result ↔ (flat_map (pid_text (texts.Flush version) (tree_of tree.now)) pids.now ≡ []) }
+    ensures { (version : versions.Version) →
+        IsTrue result
+        ↔ (flat_map (pid_text (texts.Flush version) (tree_of tree.now)) pids.now ≡ []) }
 {
     for pid in pids {
         let job = job_of(tree, *pid, Text::Flush(Version::One));
@@ -119,7 +124,8 @@ fn are_written(tree: &Tree<Global>, pids: &[u64]) -> bool
 fn are_all_written(tree: &Tree<Global>) -> bool
     requires home { AreAllHome tree.now }
     requires proper { IsOfStore (tree_of tree.now) }
-    ensures { (version : versions.Version) → IsTrue result ↔ (flush_text version (tree_of tree.now) ≡ []) }
+    ensures { (version : versions.Version) →
+        IsTrue result ↔ (flush_text version (tree_of tree.now) ≡ []) }
 {
     for pid in tree.known_pids() {
         let job = job_of(tree, pid, Text::Flush(Version::One));
@@ -138,7 +144,8 @@ fn due_jobs<'a>(
 ) -> Result<Vec<ImageJob<'a>>, AllocError>
     requires home { AreAllHome tree.now }
     requires proper { IsOfStore (tree_of tree.now) }
-    ensures text { IfOk result (λ jobs. flat_map held_text (map job_held jobs.items) ≡ text_of text (tree_of tree.now)) }
+    ensures text { IfOk result
+        (λ jobs. flat_map held_text (map job_held jobs.items) ≡ text_of text (tree_of tree.now)) }
     ensures due { IfOk result (λ jobs. AllByRecursion IsDue (map job_held jobs.items)) }
 {
     match (text, tree.due_pids()) {
@@ -153,7 +160,8 @@ fn due_jobs<'a>(
 // These numbers by size, each once.
 fn rising(alloc: Global, numbers: &[u64]) -> Result<Vec<u64>, AllocError>
     ensures rising { IfOk result (λ rising. AreRisingPids rising.items) }
-    ensures all { IfOk result (λ rising. (n : ℕ) → is_among n numbers.now ≡ true → is_among n rising.items ≡ true) }
+    ensures all { IfOk result
+        (λ rising. (n : ℕ) → is_among n numbers.now ≡ true → is_among n rising.items ≡ true) }
 {
     let mut rising = Vec::new(alloc);
     rising.extend_from_slice(numbers)?;
@@ -171,7 +179,8 @@ fn jobs_of<'a>(
 ) -> Result<Vec<ImageJob<'a>>, AllocError>
     requires home { AreAllHome tree.now }
     requires writable { (pid : ℕ) → CanBeWritten (held_of_pid text (tree_of tree.now) pid) }
-    ensures text { IfOk result (λ jobs. flat_map held_text (map job_held jobs.items) ≡ flat_map (pid_text text (tree_of tree.now)) pids.now) }
+    ensures text { IfOk result (λ jobs. flat_map held_text (map job_held jobs.items)
+        ≡ flat_map (pid_text text (tree_of tree.now)) pids.now) }
     ensures due { IfOk result (λ jobs. AllByRecursion IsDue (map job_held jobs.items)) }
 {
     let mut jobs = Vec::new(alloc);
@@ -193,7 +202,8 @@ fn all_jobs<'a>(
 ) -> Result<Vec<ImageJob<'a>>, AllocError>
     requires home { AreAllHome tree.now }
     requires writable { (pid : ℕ) → CanBeWritten (held_of_pid text (tree_of tree.now) pid) }
-    ensures text { IfOk result (λ jobs. flat_map held_text (map job_held jobs.items) ≡ text_of text (tree_of tree.now)) }
+    ensures text { IfOk result
+        (λ jobs. flat_map held_text (map job_held jobs.items) ≡ text_of text (tree_of tree.now)) }
     ensures due { IfOk result (λ jobs. AllByRecursion IsDue (map job_held jobs.items)) }
 {
     let mut jobs = Vec::new(alloc);
@@ -210,7 +220,8 @@ fn all_jobs<'a>(
 // The images of these jobs.
 fn images_of<'a>(alloc: Global, dones: Vec<ImageDone<'a>>) -> Result<Vec<Image>, AllocError>
     ensures images { IfOk result (λ images. images.items ≡ map image_made dones.entry.items) }
-    ensures words { IfOk result (λ _. AllByRecursion HasWords (flat_map held_text dones.entry.items)) }
+    ensures words { IfOk result
+        (λ _. AllByRecursion HasWords (flat_map held_text dones.entry.items)) }
 {
     let mut images = Vec::with_capacity(alloc, dones.len())?;
     for done in dones {
@@ -236,7 +247,8 @@ fn job_of<'a>(tree: &'a Tree<Global>, pid: u64, text: Text) -> ImageJob<'a>
 // Whether the log has all of the page, or, where there is none, nothing that it must lose.
 fn is_written(page: Option<&Page<Global>>, logged: Logged) -> bool
     requires { HasFewRuns (option_copied page) }
-    ensures { (spelling : spellings.Spelling) → IsTrue result ↔ (lacking spelling (option_copied page.entry) (log_state logged) ≡ []) }
+    ensures { (spelling : spellings.Spelling) →
+        IsTrue result ↔ (lacking spelling (option_copied page.entry) (log_state logged) ≡ []) }
 {
     match page {
         None => logged != Logged::Old,

@@ -33,7 +33,8 @@ struct Part {
 fn put(buffer: &mut [u8], at: usize, bytes: &[u8])
     requires { at + length bytes.now ≤ length buffer.old }
     ensures { (from : ℕ) → from ≤ at →
-        slice_range buffer.new from (at + length bytes.now) ≡ slice_range buffer.old from at ++ bytes.now }
+        slice_range buffer.new from (at + length bytes.now)
+        ≡ slice_range buffer.old from at ++ bytes.now }
 {
     buffer[at..at + bytes.len()].copy_from_slice(bytes);
 }
@@ -84,16 +85,20 @@ fn put_frame<D: Disk>(
     requires buffer { settings.now.seg_size ≤ length buffer.old }
     requires within { disk_size settings.now ≤ (D.view disk.old).size }
     requires fits { segment_header_size + length frame.now ≤ settings.now.seg_size }
-    requires room { (open_after settings.now (span_of part buffer.old) (frame.now ∷ [])).segment ≤ greatest }
+    requires room { (open_after settings.now (span_of part buffer.old) (frame.now ∷ [])).segment
+        ≤ greatest }
     ensures inside { IfOk result (λ next. IsInside settings.now next) }
     ensures same { IfOk result (λ next. span_of next buffer.new
         ≡ open_after settings.now (span_of part buffer.old) (frame.now ∷ [])) }
     ensures kept { Kept (D.view disk.old) (D.view disk.new) }
     ensures failed { CountsFailure result (D.failed disk.old) (D.failed disk.new) }
-    ensures written { IsTrue (D.view disk.old).is_honest → OnOk result ((D.view disk.new).seen
-        ≡ with_spans settings.now (D.view disk.old).seen (left_by settings.now (span_of part buffer.old) (frame.now ∷ []))) }
-    ensures crash { IsTrue (D.view disk.old).is_honest → Leaves (D.view disk.old) (D.view disk.new)
-        (AgreeAt (IsBesideSpans settings.now (left_by settings.now (span_of part buffer.old) (frame.now ∷ [])))) }
+    ensures written { IsTrue (D.view disk.old).is_honest →
+        OnOk result ((D.view disk.new).seen
+        ≡ with_spans settings.now (D.view disk.old).seen
+        (left_by settings.now (span_of part buffer.old) (frame.now ∷ []))) }
+    ensures crash { IsTrue (D.view disk.old).is_honest →
+        Leaves (D.view disk.old) (D.view disk.new) (AgreeAt (IsBesideSpans settings.now
+        (left_by settings.now (span_of part buffer.old) (frame.now ∷ [])))) }
 {
     let seg_size = settings.seg_size as usize;
     let end = part.end + frame.len();
@@ -130,16 +135,20 @@ fn put_image<D: Disk>(
     requires buffer { settings.now.seg_size ≤ length buffer.old }
     requires within { disk_size settings.now ≤ (D.view disk.old).size }
     requires fits { FitSegments settings.now image.now }
-    requires room { (open_after settings.now (span_of part buffer.old) image.now).segment ≤ greatest }
+    requires room { (open_after settings.now (span_of part buffer.old) image.now).segment
+        ≤ greatest }
     ensures inside { IfOk result (λ next. IsInside settings.now next) }
     ensures same { IfOk result (λ next. span_of next buffer.new
         ≡ open_after settings.now (span_of part buffer.old) image.now) }
     ensures kept { Kept (D.view disk.old) (D.view disk.new) }
     ensures failed { CountsFailure result (D.failed disk.old) (D.failed disk.new) }
-    ensures written { IsTrue (D.view disk.old).is_honest → OnOk result ((D.view disk.new).seen
-        ≡ with_spans settings.now (D.view disk.old).seen (left_by settings.now (span_of part buffer.old) image.now)) }
-    ensures crash { IsTrue (D.view disk.old).is_honest → Leaves (D.view disk.old) (D.view disk.new)
-        (AgreeAt (IsBesideSpans settings.now (left_by settings.now (span_of part buffer.old) image.now))) }
+    ensures written { IsTrue (D.view disk.old).is_honest →
+        OnOk result ((D.view disk.new).seen
+        ≡ with_spans settings.now (D.view disk.old).seen
+        (left_by settings.now (span_of part buffer.old) image.now)) }
+    ensures crash { IsTrue (D.view disk.old).is_honest →
+        Leaves (D.view disk.old) (D.view disk.new) (AgreeAt
+        (IsBesideSpans settings.now (left_by settings.now (span_of part buffer.old) image.now))) }
 {
     let mut gathered = part;
     for at in 0..image.len() {
@@ -153,7 +162,8 @@ fn begin_part(settings: &Settings, tail: u64, buffer: &mut [u8]) -> Part
     requires checked { first_bad_field settings.now ≡ None }
     requires buffer { settings.now.seg_size ≤ length buffer.old }
     ensures inside { IsInside settings.now result }
-    ensures same { span_of result buffer.new ≡ opened (tail / settings.now.seg_size) (tail % settings.now.seg_size) }
+    ensures same { span_of result buffer.new
+        ≡ opened (tail / settings.now.seg_size) (tail % settings.now.seg_size) }
 {
     let seg_size = u64::from(settings.seg_size);
     let segment = tail / seg_size;
@@ -189,7 +199,8 @@ pub fn write_text<D: Disk>(
     requires within { disk_size settings.now ≤ (D.view disk.old).size }
     requires buffer { settings.now.seg_size ≤ length buffer.old }
     requires fits { FitSegments settings.now (frames_in images.now) }
-    requires room { (text : List Frame) × AreOfText images.now text × (tail_after settings.now tail text ≤ greatest) }
+    requires room { (text : List Frame) × AreOfText images.now text
+        × (tail_after settings.now tail text ≤ greatest) }
     ensures kept { Kept (D.view disk.old) (D.view disk.new) }
     ensures failed { CountsFailure result (D.failed disk.old) (D.failed disk.new) }
     ensures written { (text : List Frame) → AreOfText images.now text → 1 ≤ length text →

@@ -25,7 +25,8 @@ pub(crate) trait Spelled {
     /// Skips what is at the front, if a frame may have it, and returns the bytes after it.
     fn skip<'a>(bytes: &'a [u8], settings: &Settings) -> Option<&'a [u8]>
         ensures { let read = read_where (is_short settings.now) (codec.read bytes.now) in
-            MatchOption result (read ≡ None) (λ rest. (cell : Self) × (read ≡ Some (cell, rest.now))) };
+            MatchOption result (read ≡ None)
+            (λ rest. (cell : Self) × (read ≡ Some (cell, rest.now))) };
 }
 
 /// A kind of cell: the values of leaves, or the page ids of index pages.
@@ -46,7 +47,8 @@ pub(crate) trait FrameCell: Spelled + Drop {
     ) -> Result<Option<(Self, &'a [u8])>, AllocError>
         ensures { IfOk result (λ found. MatchOption found
             (read_where (Self.is_short settings.now) (Self.codec.read bytes.now) ≡ None)
-            (λ p. read_where (Self.is_short settings.now) (Self.codec.read bytes.now) ≡ Some (p.0, p.1.now))) };
+            (λ p. read_where (Self.is_short settings.now) (Self.codec.read bytes.now)
+            ≡ Some (p.0, p.1.now))) };
 
     /// How many bytes the cell takes.
     fn spelled_len(&self) -> usize
@@ -61,7 +63,8 @@ pub(crate) trait FrameCell: Spelled + Drop {
         ensures word { is_word self.now ≡ true };
 
     // The two together are what is asked of a frame.
-    ghost is_short_by_both: { (s : limits.Settings) (cell : Self) → has_size s cell ≡ true → is_word cell ≡ true → Self.is_short s cell ≡ true };
+    ghost is_short_by_both: { (s : limits.Settings) (cell : Self) → has_size s cell ≡ true →
+        is_word cell ≡ true → Self.is_short s cell ≡ true };
 }
 
 impl Spelled for Value<Global> {
@@ -74,7 +77,8 @@ impl Spelled for Value<Global> {
 
     fn skip<'a>(bytes: &'a [u8], settings: &Settings) -> Option<&'a [u8]>
         ensures { let read = read_where (is_short_value settings.now) (value_cell.read bytes.now) in
-            MatchOption result (read ≡ None) (λ rest. (cell : Bytes) × (read ≡ Some (cell, rest.now))) }
+            MatchOption result (read ≡ None)
+            (λ rest. (cell : Bytes) × (read ≡ Some (cell, rest.now))) }
     {
         let (value, rest) = read_counted(bytes)?;
         if value.len() > settings.max_value as usize {
@@ -102,7 +106,8 @@ impl FrameCell for Value<Global> {
     ) -> Result<Option<(Self, &'a [u8])>, AllocError>
         ensures { IfOk result (λ found. MatchOption found
             (read_where (is_short_value settings.now) (value_cell.read bytes.now) ≡ None)
-            (λ p. read_where (is_short_value settings.now) (value_cell.read bytes.now) ≡ Some (p.0, p.1.now))) }
+            (λ p. read_where (is_short_value settings.now) (value_cell.read bytes.now)
+            ≡ Some (p.0, p.1.now))) }
     {
         let Some((value, rest)) = read_counted(bytes) else {
             return Ok(None);
@@ -182,8 +187,10 @@ impl<V: Spelled> Spelled for Option<V> {
     ghost is_short = { λ s. of_cell (V.is_short s) };
 
     fn skip<'a>(bytes: &'a [u8], settings: &Settings) -> Option<&'a [u8]>
-        ensures { let read = read_where (of_cell (V.is_short settings.now)) ((flagged V.codec).read bytes.now) in
-            MatchOption result (read ≡ None) (λ rest. (cell : Option V) × (read ≡ Some (cell, rest.now))) }
+        ensures { let read =
+            read_where (of_cell (V.is_short settings.now)) ((flagged V.codec).read bytes.now) in
+            MatchOption result (read ≡ None)
+            (λ rest. (cell : Option V) × (read ≡ Some (cell, rest.now))) }
     {
         match bytes.split_first() {
             Some((0, rest)) => Some(rest),
@@ -201,7 +208,8 @@ pub(crate) fn read_flagged<'a, V: FrameCell>(
 ) -> Result<Option<(Option<V>, &'a [u8])>, AllocError>
     ensures { IfOk result (λ found. MatchOption found
         (read_where (of_cell (V.is_short settings.now)) ((flagged V.codec).read bytes.now) ≡ None)
-        (λ p. read_where (of_cell (V.is_short settings.now)) ((flagged V.codec).read bytes.now) ≡ Some (p.0, p.1.now))) }
+        (λ p. read_where (of_cell (V.is_short settings.now)) ((flagged V.codec).read bytes.now)
+        ≡ Some (p.0, p.1.now))) }
 {
     match bytes.split_first() {
         Some((0, rest)) => Ok(Some((None, rest))),

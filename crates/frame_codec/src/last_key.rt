@@ -35,7 +35,8 @@ impl Model for LastKey {
 
 // How the one compares to the other, if they have no first byte in common.
 fn apart(one: &[u8], other: &[u8]) -> Option<Ordering>
-    ensures { MatchOption result (common one.now other.now ≢ 0) (λ o. (common one.now other.now ≡ 0) × (o ≡ order one.now other.now)) }
+    ensures { MatchOption result (common one.now other.now ≢ 0)
+        (λ o. (common one.now other.now ≡ 0) × (o ≡ order one.now other.now)) }
 {
     match (one.split_first(), other.split_first()) {
         (Some((byte, _)), Some((other_byte, _))) => match byte.cmp(other_byte) {
@@ -52,7 +53,8 @@ fn apart(one: &[u8], other: &[u8]) -> Option<Ordering>
 // Only the bytes at that place need a look.
 fn parted(key: &[u8], shared: usize, rest: &[u8]) -> Option<Ordering>
     ensures { let next = rejoined key.now (shared, rest.now) in
-        MatchOption result (common key.now next ≢ shared) (λ o. (common key.now next ≡ shared) × (o ≡ order key.now next)) }
+        MatchOption result (common key.now next ≢ shared)
+        (λ o. (common key.now next ≡ shared) × (o ≡ order key.now next)) }
 {
     if shared > key.len() {
         return None;

@@ -32,33 +32,37 @@ pub fn a_cell_is_read_back()
 
 /// A frame is read back from its bytes, whatever follows them.
 pub fn a_frame_is_read_back()
-    ensures { (g : Format) (f : Frame) (rest : Bytes) → first_bad_field g.settings ≡ None → is_frame g f ≡ true →
-        read_frame g (bytes_of f ++ rest) ≡ Some (f, rest) }
+    ensures { (g : Format) (f : Frame) (rest : Bytes) → first_bad_field g.settings ≡ None →
+        is_frame g f ≡ true → read_frame g (bytes_of f ++ rest) ≡ Some (f, rest) }
 {}
 
 /// A frame that is read of bytes is read of them too where more bytes follow.
 pub fn what_is_read_needs_no_byte_behind_it()
-    ensures { (g : Format) (bytes : Bytes) (f : Frame) (rest more : Bytes) → read_frame g bytes ≡ Some (f, rest) →
+    ensures { (g : Format) (bytes : Bytes) (f : Frame) (rest more : Bytes) →
+        read_frame g bytes ≡ Some (f, rest) →
         read_frame g (bytes ++ more) ≡ Some (f, rest ++ more) }
 {}
 
 /// Two frames whose bytes begin alike are the same frame: no spelling begins another.
 pub fn a_frame_has_one_spelling()
-    ensures { (g : Format) (e f : Frame) (behind other : Bytes) → first_bad_field g.settings ≡ None →
-        is_frame g e ≡ true → is_frame g f ≡ true → bytes_of e ++ behind ≡ bytes_of f ++ other → (e ≡ f) × (behind ≡ other) }
+    ensures { (g : Format) (e f : Frame) (behind other : Bytes) →
+        first_bad_field g.settings ≡ None → is_frame g e ≡ true → is_frame g f ≡ true →
+        bytes_of e ++ behind ≡ bytes_of f ++ other → (e ≡ f) × (behind ≡ other) }
 {}
 
 /// The reader finds a frame just where bytes begin with one, and it finds that frame.
 pub fn what_is_read_is_what_stands_there()
     ensures found { (g : Format) (bytes : Bytes) (f : Frame) (rest : Bytes) → AreBytes bytes →
         read_frame g bytes ≡ Some (f, rest) → BeginsWithFrame g bytes f rest }
-    ensures none { (g : Format) (bytes : Bytes) (f : Frame) (rest : Bytes) → first_bad_field g.settings ≡ None →
+    ensures none { (g : Format) (bytes : Bytes) (f : Frame) (rest : Bytes) →
+        first_bad_field g.settings ≡ None →
         read_frame g bytes ≡ None → BeginsWithFrame g bytes f rest → ⊥ }
 {}
 
 /// A frame of a log of version 1 is one of version 2, and is read alike.
 pub fn version_two_knows_what_version_one_knows()
-    ensures frame { (s : Settings) (f : Frame) → is_frame (record { settings = s; version = One }) f ≡ true →
+    ensures frame { (s : Settings) (f : Frame) →
+        is_frame (record { settings = s; version = One }) f ≡ true →
         is_frame (record { settings = s; version = Two }) f ≡ true }
     ensures read { (s : Settings) (bytes : Bytes) (f : Frame) (rest : Bytes) →
         read_frame (record { settings = s; version = One }) bytes ≡ Some (f, rest) →
@@ -81,12 +85,18 @@ pub fn shared_keys_take_no_more()
 /// The base of a page that is in order and within the settings is so as a frame, with its keys spelled in each way that the
 /// version knows, and so is each of its runs.
 pub fn a_page_has_frames_within_settings()
-    ensures leaf { (g : Format) (spelling : Spelling) (pid : ℕ) (p : Page Bytes) → is_known g.version spelling ≡ true → pid < 2 ^ 64 →
-        length p.low ≤ g.settings.max_key → IsInOrder p.layers → Fits g.settings (IsShortValue g.settings) p →
-        (is_frame g (record { pid = pid; content = FullLeaf spelling p.low p.layers.base }) ≡ true) ×
-        AllByRecursion (λ run. is_frame g (record { pid = pid; content = DeltaLeaf run }) ≡ true) p.layers.runs }
-    ensures index_page { (g : Format) (spelling : Spelling) (pid : ℕ) (p : Page ℕ) → is_known g.version spelling ≡ true → pid < 2 ^ 64 →
-        length p.low ≤ g.settings.max_key → IsInOrder p.layers → Fits g.settings (λ child. child < 2 ^ 64) p →
-        (is_frame g (record { pid = pid; content = FullIndex spelling p.low p.layers.base }) ≡ true) ×
-        AllByRecursion (λ run. is_frame g (record { pid = pid; content = DeltaIndex run }) ≡ true) p.layers.runs }
+    ensures leaf { (g : Format) (spelling : Spelling) (pid : ℕ) (p : Page Bytes) →
+        is_known g.version spelling ≡ true → pid < 2 ^ 64 → length p.low ≤ g.settings.max_key →
+        IsInOrder p.layers → Fits g.settings (IsShortValue g.settings) p →
+        (is_frame g (record { pid = pid; content = FullLeaf spelling p.low p.layers.base })
+        ≡ true) ×
+        AllByRecursion
+        (λ run. is_frame g (record { pid = pid; content = DeltaLeaf run }) ≡ true) p.layers.runs }
+    ensures index_page { (g : Format) (spelling : Spelling) (pid : ℕ) (p : Page ℕ) →
+        is_known g.version spelling ≡ true → pid < 2 ^ 64 → length p.low ≤ g.settings.max_key →
+        IsInOrder p.layers → Fits g.settings (λ child. child < 2 ^ 64) p →
+        (is_frame g (record { pid = pid; content = FullIndex spelling p.low p.layers.base })
+        ≡ true) ×
+        AllByRecursion
+        (λ run. is_frame g (record { pid = pid; content = DeltaIndex run }) ≡ true) p.layers.runs }
 {}

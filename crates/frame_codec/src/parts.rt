@@ -12,7 +12,8 @@ use keys::{Pid, Settings};
 
 /// The byte at the front, with the bytes after it.
 pub(crate) fn read_byte(bytes: &[u8]) -> Option<(u8, &[u8])>
-    ensures { MatchOption result (read_number 1 bytes.now ≡ None) (λ p. read_number 1 bytes.now ≡ Some (p.0, p.1.now)) }
+    ensures { MatchOption result (read_number 1 bytes.now ≡ None)
+        (λ p. read_number 1 bytes.now ≡ Some (p.0, p.1.now)) }
 {
     let (first, rest) = bytes.split_first()?;
     Some((*first, rest))
@@ -20,7 +21,8 @@ pub(crate) fn read_byte(bytes: &[u8]) -> Option<(u8, &[u8])>
 
 /// The number of two bytes at the front, with the bytes after it. So lengths and counts are spelled.
 pub(crate) fn read_length(bytes: &[u8]) -> Option<(usize, &[u8])>
-    ensures number { MatchOption result (read_number 2 bytes.now ≡ None) (λ p. read_number 2 bytes.now ≡ Some (p.0, p.1.now)) }
+    ensures number { MatchOption result (read_number 2 bytes.now ≡ None)
+        (λ p. read_number 2 bytes.now ≡ Some (p.0, p.1.now)) }
     ensures small { IfSome result (λ p. IsCount p.0) }
 {
     if bytes.len() < 2 {
@@ -31,7 +33,8 @@ pub(crate) fn read_length(bytes: &[u8]) -> Option<(usize, &[u8])>
 
 /// The number of four bytes at the front, with the bytes after it.
 pub(crate) fn read_u32(bytes: &[u8]) -> Option<(u32, &[u8])>
-    ensures { MatchOption result (read_number 4 bytes.now ≡ None) (λ p. read_number 4 bytes.now ≡ Some (p.0, p.1.now)) }
+    ensures { MatchOption result (read_number 4 bytes.now ≡ None)
+        (λ p. read_number 4 bytes.now ≡ Some (p.0, p.1.now)) }
 {
     if bytes.len() < 4 {
         return None;
@@ -41,7 +44,8 @@ pub(crate) fn read_u32(bytes: &[u8]) -> Option<(u32, &[u8])>
 
 /// The page id at the front, with the bytes after it.
 pub(crate) fn read_pid(bytes: &[u8]) -> Option<(Pid, &[u8])>
-    ensures number { MatchOption result (pid_cell.read bytes.now ≡ None) (λ p. pid_cell.read bytes.now ≡ Some (p.0, p.1.now)) }
+    ensures number { MatchOption result (pid_cell.read bytes.now ≡ None)
+        (λ p. pid_cell.read bytes.now ≡ Some (p.0, p.1.now)) }
     ensures word { IfSome result (λ p. is_pid p.0 ≡ true) }
 {
     if bytes.len() < 8 {
@@ -52,7 +56,8 @@ pub(crate) fn read_pid(bytes: &[u8]) -> Option<(Pid, &[u8])>
 
 /// The key or the value at the front, with the bytes after it.
 pub(crate) fn read_counted(bytes: &[u8]) -> Option<(&[u8], &[u8])>
-    ensures { MatchOption result (counted.read bytes.now ≡ None) (λ p. counted.read bytes.now ≡ Some (p.0.now, p.1.now)) }
+    ensures { MatchOption result (counted.read bytes.now ≡ None)
+        (λ p. counted.read bytes.now ≡ Some (p.0.now, p.1.now)) }
 {
     let (len, rest) = read_length(bytes)?;
     if rest.len() < len {
@@ -63,7 +68,8 @@ pub(crate) fn read_counted(bytes: &[u8]) -> Option<(&[u8], &[u8])>
 
 /// The bytes at the front whose number stands before them in one byte, with the bytes after them.
 pub(crate) fn read_short(bytes: &[u8]) -> Option<(&[u8], &[u8])>
-    ensures bytes { MatchOption result (counted_short.read bytes.now ≡ None) (λ p. counted_short.read bytes.now ≡ Some (p.0.now, p.1.now)) }
+    ensures bytes { MatchOption result (counted_short.read bytes.now ≡ None)
+        (λ p. counted_short.read bytes.now ≡ Some (p.0.now, p.1.now)) }
     ensures small { IfSome result (λ p. IsShortCount (length p.0.now)) }
 {
     let (len, rest) = read_byte(bytes)?;
@@ -105,7 +111,8 @@ pub(crate) fn frame_size(bytes: &[u8], len: u32, content: &[u8], rest: &[u8]) ->
     requires behind { length rest.now ≤ length content.now }
     requires within { length content.now ≤ length bytes.now }
     ensures { MatchOption result (len ≢ pid_size + (length content.now - length rest.now))
-        (λ size. (len ≡ pid_size + (length content.now - length rest.now)) × (size ≡ length bytes.now - length rest.now)) }
+        (λ size. (len ≡ pid_size + (length content.now - length rest.now))
+        × (size ≡ length bytes.now - length rest.now)) }
 {
     // The length counts from the page id on.
     if len as usize != 8 + (content.len() - rest.len()) {

@@ -29,8 +29,11 @@ fn read_entry<'a, V: FrameCell>(
     bytes: &'a [u8],
     settings: &Settings,
 ) -> Result<Option<(&'a [u8], V, &'a [u8])>, AllocError>
-    ensures { let read = read_where (λ e. is_key settings.now e.0 && V.is_short settings.now e.1) ((both counted V.codec).read bytes.now) in
-        IfOk result (λ found. MatchOption found (read ≡ None) (λ p. read ≡ Some ((p.0.now, p.1), p.2.now))) }
+    ensures { let read =
+        read_where (λ e. is_key settings.now e.0 && V.is_short settings.now e.1)
+        ((both counted V.codec).read bytes.now) in
+        IfOk result
+        (λ found. MatchOption found (read ≡ None) (λ p. read ≡ Some ((p.0.now, p.1), p.2.now))) }
 {
     let Some((key, rest)) = read_key(bytes, settings) else {
         return Ok(None);
@@ -47,8 +50,11 @@ fn read_change<'a, V: FrameCell>(
     bytes: &'a [u8],
     settings: &Settings,
 ) -> Result<Option<(&'a [u8], Option<V>, &'a [u8])>, AllocError>
-    ensures { let read = read_where (λ e. is_key settings.now e.0 && of_cell (V.is_short settings.now) e.1) ((both counted (flagged V.codec)).read bytes.now) in
-        IfOk result (λ found. MatchOption found (read ≡ None) (λ p. read ≡ Some ((p.0.now, p.1), p.2.now))) }
+    ensures { let read =
+        read_where (λ e. is_key settings.now e.0 && of_cell (V.is_short settings.now) e.1)
+        ((both counted (flagged V.codec)).read bytes.now) in
+        IfOk result
+        (λ found. MatchOption found (read ≡ None) (λ p. read ≡ Some ((p.0.now, p.1), p.2.now))) }
 {
     let Some((key, rest)) = read_key(bytes, settings) else {
         return Ok(None);
@@ -66,7 +72,9 @@ fn read_whole<'a, V: FrameCell>(
     bytes: &'a [u8],
     settings: &Settings,
 ) -> Result<Option<(Base<V, Global>, &'a [u8])>, AllocError>
-    ensures { let read = read_where (are_entries settings.now (V.is_short settings.now)) (read_each (both counted V.codec) count bytes.now) in
+    ensures { let read =
+        read_where (are_entries settings.now (V.is_short settings.now))
+        (read_each (both counted V.codec) count bytes.now) in
         IfOk result (λ found. MatchOption found (read ≡ None) (λ p. read ≡ Some (p.0, p.1.now))) }
 {
     let Some((key_bytes, _end)) = skim_entries::<V>(count, bytes, settings) else {
@@ -94,9 +102,10 @@ fn read_next_entry<'a, V: FrameCell>(
     bytes: &'a [u8],
     settings: &Settings,
 ) -> Result<Option<(V, &'a [u8])>, AllocError>
-    ensures { let test = λ (e : Bytes × V). is_key settings.now e.0 && V.is_short settings.now e.1 in
-        let read = read_where test ((both (sharing last.old) V.codec).read bytes.now) in
-        IfOk result (λ found. MatchOption found (read ≡ None) (λ p. read ≡ Some ((last.new, p.0), p.1.now))) }
+    ensures { let test =
+        λ (e : Bytes × V). is_key settings.now e.0 && V.is_short settings.now e.1 in
+        let read = read_where test ((both (sharing last.old) V.codec).read bytes.now) in IfOk result
+        (λ found. MatchOption found (read ≡ None) (λ p. read ≡ Some ((last.new, p.0), p.1.now))) }
 {
     let Some((_rises, rest)) = last.read_next(bytes, settings) else {
         return Ok(None);
@@ -163,7 +172,9 @@ fn read_run<'a, V: FrameCell>(
     bytes: &'a [u8],
     settings: &Settings,
 ) -> Result<Option<(Run<V, Global>, &'a [u8])>, AllocError>
-    ensures { let read = read_where (are_entries settings.now (of_cell (V.is_short settings.now))) (read_each (both counted (flagged V.codec)) count bytes.now) in
+    ensures { let read =
+        read_where (are_entries settings.now (of_cell (V.is_short settings.now)))
+        (read_each (both counted (flagged V.codec)) count bytes.now) in
         IfOk result (λ found. MatchOption found (read ≡ None) (λ p. read ≡ Some (p.0, p.1.now))) }
 {
     if count > settings.fan as usize {
@@ -194,7 +205,8 @@ fn read_full<'a, V: FrameCell>(
 ) -> Result<Option<(Key<Global>, Base<V, Global>, &'a [u8])>, AllocError>
     ensures { let all = (full spelling V.codec).read bytes.now in
         let read = read_where (λ p. is_full settings.now (V.is_short settings.now) p.0 p.1) all in
-        IfOk result (λ found. MatchOption found (read ≡ None) (λ p. read ≡ Some ((p.0, p.1), p.2.now))) }
+        IfOk result
+        (λ found. MatchOption found (read ≡ None) (λ p. read ≡ Some ((p.0, p.1), p.2.now))) }
 {
     let Some((low, rest)) = read_key(bytes, settings) else {
         return Ok(None);
@@ -215,10 +227,11 @@ fn read_known<'a, V: FrameCell>(
     bytes: &'a [u8],
     format: &Format,
 ) -> Result<Option<(Key<Global>, Base<V, Global>, &'a [u8])>, AllocError>
-    ensures { let s = format.now.settings in
-        let test = λ (p : Bytes × Pairs V). is_known format.now.version spelling && is_full s (V.is_short s) p.0 p.1 in
-        let read = read_where test ((full spelling V.codec).read bytes.now) in
-        IfOk result (λ found. MatchOption found (read ≡ None) (λ p. read ≡ Some ((p.0, p.1), p.2.now))) }
+    ensures { let s = format.now.settings in let test =
+        λ (p : Bytes × Pairs V). is_known format.now.version spelling
+        && is_full s (V.is_short s) p.0 p.1 in
+        let read = read_where test ((full spelling V.codec).read bytes.now) in IfOk result
+        (λ found. MatchOption found (read ≡ None) (λ p. read ≡ Some ((p.0, p.1), p.2.now))) }
 {
     if !format.knows(spelling) {
         return Ok(None);
@@ -232,7 +245,9 @@ fn read_delta<'a, V: FrameCell>(
     bytes: &'a [u8],
     settings: &Settings,
 ) -> Result<Option<(Run<V, Global>, &'a [u8])>, AllocError>
-    ensures { let read = read_where (is_run settings.now (V.is_short settings.now)) ((delta V.codec).read bytes.now) in
+    ensures { let read =
+        read_where (is_run settings.now (V.is_short settings.now))
+        ((delta V.codec).read bytes.now) in
         IfOk result (λ found. MatchOption found (read ≡ None) (λ p. read ≡ Some (p.0, p.1.now))) }
 {
     let Some((count, rest)) = read_length(bytes) else {
@@ -252,9 +267,13 @@ fn read_leaf<'a>(
     bytes: &'a [u8],
     format: &Format,
 ) -> Result<Option<(Frame, &'a [u8])>, AllocError>
-    ensures { let content = read_as (λ p. FullLeaf spelling p.0 p.1) ((full spelling value_cell).read bytes.now) in
-        let read = read_as (λ content. record { pid = pid; content = content }) (read_where (is_allowed format.now) content) in
-        IfOk result (λ found. MatchOption found (read ≡ None) (λ p. read ≡ Some (frame_of p.0, p.1.now))) }
+    ensures { let content =
+        read_as (λ p. FullLeaf spelling p.0 p.1) ((full spelling value_cell).read bytes.now) in
+        let read =
+        read_as (λ content. record { pid = pid; content = content })
+        (read_where (is_allowed format.now) content) in
+        IfOk result
+        (λ found. MatchOption found (read ≡ None) (λ p. read ≡ Some (frame_of p.0, p.1.now))) }
 {
     let Some((low, base, rest)) = read_known(alloc, spelling, bytes, format)? else {
         return Ok(None);
@@ -276,9 +295,13 @@ fn read_index<'a>(
     bytes: &'a [u8],
     format: &Format,
 ) -> Result<Option<(Frame, &'a [u8])>, AllocError>
-    ensures { let content = read_as (λ p. FullIndex spelling p.0 p.1) ((full spelling pid_cell).read bytes.now) in
-        let read = read_as (λ content. record { pid = pid; content = content }) (read_where (is_allowed format.now) content) in
-        IfOk result (λ found. MatchOption found (read ≡ None) (λ p. read ≡ Some (frame_of p.0, p.1.now))) }
+    ensures { let content =
+        read_as (λ p. FullIndex spelling p.0 p.1) ((full spelling pid_cell).read bytes.now) in
+        let read =
+        read_as (λ content. record { pid = pid; content = content })
+        (read_where (is_allowed format.now) content) in
+        IfOk result
+        (λ found. MatchOption found (read ≡ None) (λ p. read ≡ Some (frame_of p.0, p.1.now))) }
 {
     let Some((low, base, rest)) = read_known(alloc, spelling, bytes, format)? else {
         return Ok(None);
@@ -302,7 +325,8 @@ fn read_content<'a>(
 ) -> Result<Option<(Frame, &'a [u8])>, AllocError>
     ensures { let content = read_where (is_allowed format.now) (read_content kind bytes.now) in
         let read = read_as (λ content. record { pid = pid; content = content }) content in
-        IfOk result (λ found. MatchOption found (read ≡ None) (λ p. read ≡ Some (frame_of p.0, p.1.now))) }
+        IfOk result
+        (λ found. MatchOption found (read ≡ None) (λ p. read ≡ Some (frame_of p.0, p.1.now))) }
 {
     match kind {
         FULL_LEAF => read_leaf(alloc, Spelling::Whole, pid, bytes, format),
@@ -334,8 +358,10 @@ pub fn read_frame(
     format: &Format,
 ) -> Result<Option<(Frame, usize)>, AllocError>
     ensures found { let read = read_frame format.now bytes.now in
-        IfOk result (λ found. MatchOption found (read ≡ None) (λ p. read ≡ Some (frame_of p.0, drop p.1 bytes.now))) }
-    ensures size { IfOk result (λ found. IfSome found (λ p. p.1 ≡ length (bytes_of (frame_of p.0)))) }
+        IfOk result (λ found. MatchOption found (read ≡ None)
+        (λ p. read ≡ Some (frame_of p.0, drop p.1 bytes.now))) }
+    ensures size { IfOk result
+        (λ found. IfSome found (λ p. p.1 ≡ length (bytes_of (frame_of p.0)))) }
     ensures within { IfOk result (λ found. IfSome found (λ p. p.1 ≤ length bytes.now)) }
 {
     let Some((kind, len, pid, content)) = read_header(bytes) else {

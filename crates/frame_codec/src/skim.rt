@@ -60,8 +60,11 @@ fn is_above(last: Option<&[u8]>, key: &[u8]) -> bool
 
 // The key of the entry of a base, or of the change of a run, at the front, if a frame may have it, with the bytes after it.
 fn skip_entry<'a, C: Spelled>(bytes: &'a [u8], settings: &Settings) -> Option<(&'a [u8], &'a [u8])>
-    ensures { let read = read_where (λ e. is_key settings.now e.0 && C.is_short settings.now e.1) ((both counted C.codec).read bytes.now) in
-        MatchOption result (read ≡ None) (λ p. (cell : C) × (read ≡ Some ((p.0.now, cell), p.1.now))) }
+    ensures { let read =
+        read_where (λ e. is_key settings.now e.0 && C.is_short settings.now e.1)
+        ((both counted C.codec).read bytes.now) in
+        MatchOption result (read ≡ None)
+        (λ p. (cell : C) × (read ≡ Some ((p.0.now, cell), p.1.now))) }
 {
     let (key, rest) = read_key(bytes, settings)?;
     let rest = C::skip(rest, settings)?;
@@ -75,7 +78,9 @@ pub(crate) fn skim_entries<'a, C: Spelled>(
     bytes: &'a [u8],
     settings: &Settings,
 ) -> Option<(usize, &'a [u8])>
-    ensures { let read = read_where (are_entries settings.now (C.is_short settings.now)) (read_each (both counted C.codec) count bytes.now) in
+    ensures { let read =
+        read_where (are_entries settings.now (C.is_short settings.now))
+        (read_each (both counted C.codec) count bytes.now) in
         MatchOption result (read ≡ None) (λ p. (es : Pairs C) × (read ≡ Some (es, p.1.now))) }
 {
     if count > settings.fan as usize {
@@ -103,10 +108,12 @@ fn skip_shared<'a, C: Spelled>(
     bytes: &'a [u8],
     settings: &Settings,
 ) -> Option<(bool, &'a [u8])>
-    ensures { let test = λ (e : Bytes × C). is_key settings.now e.0 && C.is_short settings.now e.1 in
+    ensures { let test =
+        λ (e : Bytes × C). is_key settings.now e.0 && C.is_short settings.now e.1 in
         let read = read_where test ((both (sharing last.old) C.codec).read bytes.now) in
         MatchOption result (read ≡ None)
-        (λ p. (cell : C) × (read ≡ Some ((last.new, cell), p.1.now)) × (p.0 ≡ is_lt (order last.old last.new))) }
+        (λ p. (cell : C) × (read ≡ Some ((last.new, cell), p.1.now))
+        × (p.0 ≡ is_lt (order last.old last.new))) }
 {
     let (rises, rest) = last.read_next(bytes, settings)?;
     let rest = C::skip(rest, settings)?;
@@ -167,7 +174,8 @@ fn skim_full<'a, V: FrameCell>(
 ) -> Option<&'a [u8]>
     ensures { let all = (full spelling V.codec).read bytes.now in
         let read = read_where (λ p. is_full settings.now (V.is_short settings.now) p.0 p.1) all in
-        MatchOption result (read ≡ None) (λ rest. (p : Bytes × Pairs V) × (read ≡ Some (p, rest.now))) }
+        MatchOption result (read ≡ None)
+        (λ rest. (p : Bytes × Pairs V) × (read ≡ Some (p, rest.now))) }
 {
     let (low, rest) = read_key(bytes, settings)?;
     let (count, rest) = read_length(rest)?;
@@ -181,10 +189,12 @@ fn skim_known<'a, V: FrameCell>(
     bytes: &'a [u8],
     format: &Format,
 ) -> Option<&'a [u8]>
-    ensures { let s = format.now.settings in
-        let test = λ (p : Bytes × Pairs V). is_known format.now.version spelling && is_full s (V.is_short s) p.0 p.1 in
+    ensures { let s = format.now.settings in let test =
+        λ (p : Bytes × Pairs V). is_known format.now.version spelling
+        && is_full s (V.is_short s) p.0 p.1 in
         let read = read_where test ((full spelling V.codec).read bytes.now) in
-        MatchOption result (read ≡ None) (λ rest. (p : Bytes × Pairs V) × (read ≡ Some (p, rest.now))) }
+        MatchOption result (read ≡ None)
+        (λ rest. (p : Bytes × Pairs V) × (read ≡ Some (p, rest.now))) }
 {
     if !format.knows(spelling) {
         return None;
@@ -194,8 +204,11 @@ fn skim_known<'a, V: FrameCell>(
 
 // The bytes after the run at the front, if a frame may have it.
 fn skim_run<'a, V: FrameCell>(bytes: &'a [u8], settings: &Settings) -> Option<&'a [u8]>
-    ensures { let read = read_where (is_run settings.now (V.is_short settings.now)) ((delta V.codec).read bytes.now) in
-        MatchOption result (read ≡ None) (λ rest. (run : Changes V) × (read ≡ Some (run, rest.now))) }
+    ensures { let read =
+        read_where (is_run settings.now (V.is_short settings.now))
+        ((delta V.codec).read bytes.now) in
+        MatchOption result (read ≡ None)
+        (λ rest. (run : Changes V) × (read ≡ Some (run, rest.now))) }
 {
     let (count, rest) = read_length(bytes)?;
     if count == 0 {
@@ -208,7 +221,9 @@ fn skim_run<'a, V: FrameCell>(bytes: &'a [u8], settings: &Settings) -> Option<&'
 // The kind that this number names, with the bytes after the content of that kind at the front, if a log may have it.
 fn skim_content<'a>(number: u8, bytes: &'a [u8], format: &Format) -> Option<(FrameKind, &'a [u8])>
     ensures { let read = read_where (is_allowed format.now) (read_content number bytes.now) in
-        MatchOption result (read ≡ None) (λ p. (content : said.Content) × (read ≡ Some (content, p.1.now)) × (kind_of content ≡ p.0)) }
+        MatchOption result (read ≡ None)
+        (λ p. (content : said.Content) × (read ≡ Some (content, p.1.now))
+        × (kind_of content ≡ p.0)) }
 {
     match number {
         FULL_LEAF => {
@@ -244,7 +259,8 @@ fn skim_content<'a>(number: u8, bytes: &'a [u8], format: &Format) -> Option<(Fra
 /// the same bytes and formats.
 pub fn skim_frame(bytes: &[u8], format: &Format) -> Option<Skimmed>
     ensures found { let read = read_frame format.now bytes.now in MatchOption result (read ≡ None)
-        (λ k. (f : said.Frame) × (read ≡ Some (f, drop k.size bytes.now)) × IsSkimmed k f × (take k.size bytes.now ≡ bytes_of f)) }
+        (λ k. (f : said.Frame) × (read ≡ Some (f, drop k.size bytes.now)) × IsSkimmed k f
+        × (take k.size bytes.now ≡ bytes_of f)) }
     ensures within { IfSome result (λ k. k.size ≤ length bytes.now) }
 {
     let (number, len, pid, content) = read_header(bytes)?;

@@ -132,8 +132,10 @@ fn append_entries<V: FrameCell>(
 // Appends the changes of a run, one after the other. There is room for them.
 fn append_changes<V: FrameCell>(run: &Run<V, Global>, out: &mut Vec<u8>)
     requires small { AreSpellable (flagged V.codec) run.now }
-    requires room { HasRoomFor out.old (length (flat_map (both counted (flagged V.codec)).spell run.now)) }
-    ensures bytes { IsAppended out.old out.new (flat_map (both counted (flagged V.codec)).spell run.now) }
+    requires room { HasRoomFor out.old
+        (length (flat_map (both counted (flagged V.codec)).spell run.now)) }
+    ensures bytes { IsAppended out.old out.new
+        (flat_map (both counted (flagged V.codec)).spell run.now) }
     ensures words { list_all (λ e. of_cell V.is_word e.1) run.now ≡ true }
 {
     for at in 0..run.len() {
@@ -147,7 +149,8 @@ fn append_changes<V: FrameCell>(run: &Run<V, Global>, out: &mut Vec<u8>)
 // is refused nothing is appended.
 fn begin_frame(kind: u8, pid: Pid, len: usize, out: &mut Vec<u8>) -> Result<(), AllocError>
     requires { len < 2 ^ 31 }
-    ensures ok { OnOk result (IsAppended out.old out.new (header.spell ((kind, pid_size + len), pid))) }
+    ensures ok { OnOk result
+        (IsAppended out.old out.new (header.spell ((kind, pid_size + len), pid))) }
     ensures room { OnOk result (HasRoomFor out.new len) }
     ensures err { OnErr result (out.new.items ≡ out.old.items) }
     ensures word { OnOk result (is_pid pid ≡ true) }
@@ -173,9 +176,11 @@ fn write_full<V: FrameCell>(
     requires count { IsCount (length base.now) }
     requires small { AreSpellable V.codec base.now }
     requires few { length ((full spelling V.codec).spell (low.now, base.now)) < 2 ^ 31 }
-    ensures ok { OnOk result (out.new.items ≡ out.old.items ++ framed kind pid ((full spelling V.codec).spell (low.now, base.now))) }
+    ensures ok { OnOk result (out.new.items ≡
+        out.old.items ++ framed kind pid ((full spelling V.codec).spell (low.now, base.now))) }
     ensures err { OnErr result (out.new.items ≡ out.old.items) }
-    ensures words { OnOk result ((is_pid pid ≡ true) × (list_all (λ e. V.is_word e.1) base.now ≡ true)) }
+    ensures words { OnOk result
+        ((is_pid pid ≡ true) × (list_all (λ e. V.is_word e.1) base.now ≡ true)) }
 {
     begin_frame(
         kind,
@@ -199,9 +204,11 @@ fn write_delta<V: FrameCell>(
     requires count { IsCount (length run.now) }
     requires small { AreSpellable (flagged V.codec) run.now }
     requires few { length ((delta V.codec).spell run.now) < 2 ^ 31 }
-    ensures ok { OnOk result (out.new.items ≡ out.old.items ++ framed kind pid ((delta V.codec).spell run.now)) }
+    ensures ok { OnOk result
+        (out.new.items ≡ out.old.items ++ framed kind pid ((delta V.codec).spell run.now)) }
     ensures err { OnErr result (out.new.items ≡ out.old.items) }
-    ensures words { OnOk result ((is_pid pid ≡ true) × (list_all (λ e. of_cell V.is_word e.1) run.now ≡ true)) }
+    ensures words { OnOk result
+        ((is_pid pid ≡ true) × (list_all (λ e. of_cell V.is_word e.1) run.now ≡ true)) }
 {
     begin_frame(kind, pid, 2 + run_len(run), out)?;
     append_length(out, run.len());
@@ -220,9 +227,10 @@ pub fn write_full_leaf(
     out: &mut Vec<u8>,
 ) -> Result<(), AllocError>
     requires { IsSized (FullLeaf spelling low.now base.now) }
-    ensures ok { OnOk result (out.new.items ≡
-        out.old.items ++ bytes_of (record { pid = pid; content = FullLeaf spelling low.now base.now })) }
-    ensures words { OnOk result (HasWords (record { pid = pid; content = FullLeaf spelling low.now base.now })) }
+    ensures ok { OnOk result (out.new.items ≡ out.old.items
+        ++ bytes_of (record { pid = pid; content = FullLeaf spelling low.now base.now })) }
+    ensures words { OnOk result
+        (HasWords (record { pid = pid; content = FullLeaf spelling low.now base.now })) }
     ensures err { OnErr result (out.new.items ≡ out.old.items) }
 {
     write_full(leaf_kind(spelling), pid, spelling, low, base, out)
@@ -235,7 +243,8 @@ pub fn write_delta_leaf(
     out: &mut Vec<u8>,
 ) -> Result<(), AllocError>
     requires { IsSized (DeltaLeaf run.now) }
-    ensures ok { OnOk result (out.new.items ≡ out.old.items ++ bytes_of (record { pid = pid; content = DeltaLeaf run.now })) }
+    ensures ok { OnOk result (out.new.items ≡
+        out.old.items ++ bytes_of (record { pid = pid; content = DeltaLeaf run.now })) }
     ensures words { OnOk result (HasWords (record { pid = pid; content = DeltaLeaf run.now })) }
     ensures err { OnErr result (out.new.items ≡ out.old.items) }
 {
@@ -251,9 +260,10 @@ pub fn write_full_index(
     out: &mut Vec<u8>,
 ) -> Result<(), AllocError>
     requires { IsSized (FullIndex spelling low.now base.now) }
-    ensures ok { OnOk result (out.new.items ≡
-        out.old.items ++ bytes_of (record { pid = pid; content = FullIndex spelling low.now base.now })) }
-    ensures words { OnOk result (HasWords (record { pid = pid; content = FullIndex spelling low.now base.now })) }
+    ensures ok { OnOk result (out.new.items ≡ out.old.items
+        ++ bytes_of (record { pid = pid; content = FullIndex spelling low.now base.now })) }
+    ensures words { OnOk result
+        (HasWords (record { pid = pid; content = FullIndex spelling low.now base.now })) }
     ensures err { OnErr result (out.new.items ≡ out.old.items) }
 {
     write_full(index_kind(spelling), pid, spelling, low, base, out)
@@ -266,7 +276,8 @@ pub fn write_delta_index(
     out: &mut Vec<u8>,
 ) -> Result<(), AllocError>
     requires { IsSized (DeltaIndex run.now) }
-    ensures ok { OnOk result (out.new.items ≡ out.old.items ++ bytes_of (record { pid = pid; content = DeltaIndex run.now })) }
+    ensures ok { OnOk result (out.new.items ≡
+        out.old.items ++ bytes_of (record { pid = pid; content = DeltaIndex run.now })) }
     ensures words { OnOk result (HasWords (record { pid = pid; content = DeltaIndex run.now })) }
     ensures err { OnErr result (out.new.items ≡ out.old.items) }
 {
@@ -275,7 +286,8 @@ pub fn write_delta_index(
 
 /// Appends the frame that says that there is no such page.
 pub fn write_free(pid: Pid, out: &mut Vec<u8>) -> Result<(), AllocError>
-    ensures ok { OnOk result (out.new.items ≡ out.old.items ++ bytes_of (record { pid = pid; content = Free })) }
+    ensures ok { OnOk result
+        (out.new.items ≡ out.old.items ++ bytes_of (record { pid = pid; content = Free })) }
     ensures words { OnOk result (HasWords (record { pid = pid; content = Free })) }
     ensures err { OnErr result (out.new.items ≡ out.old.items) }
 {
@@ -284,7 +296,8 @@ pub fn write_free(pid: Pid, out: &mut Vec<u8>) -> Result<(), AllocError>
 
 /// Appends the frame.
 pub fn write_frame(frame: &Frame, out: &mut Vec<u8>) -> Result<(), AllocError>
-    requires { (g : Format) × (first_bad_field g.settings ≡ None) × (is_frame g (frame_of frame.now) ≡ true) }
+    requires { (g : Format) × (first_bad_field g.settings ≡ None)
+        × (is_frame g (frame_of frame.now) ≡ true) }
     ensures ok { OnOk result (out.new.items ≡ out.old.items ++ bytes_of (frame_of frame.now)) }
     ensures err { OnErr result (out.new.items ≡ out.old.items) }
 {

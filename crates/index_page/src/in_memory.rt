@@ -67,7 +67,8 @@ impl<A: Allocator + Copy> PageInMemory<A> {
 
     /// The values, where this is a leaf.
     pub fn as_leaf(&self) -> Option<&LateChain<Value<A>, A>>
-        ensures { MatchOption result (IsIndex (page_shown self.now)) (λ chain. self.now ≡ LeafInMemory (low_of (page_shown self.now)) chain.now) }
+        ensures { MatchOption result (IsIndex (page_shown self.now))
+            (λ chain. self.now ≡ LeafInMemory (low_of (page_shown self.now)) chain.now) }
     {
         match &self.state {
             State::Values(chain) => Some(chain),
@@ -77,7 +78,8 @@ impl<A: Allocator + Copy> PageInMemory<A> {
 
     /// The page ids of the children, where this is an index page.
     pub fn as_index(&self) -> Option<&Chain<Pid, A>>
-        ensures { MatchOption result (IsLeaf (page_shown self.now)) (λ chain. self.now ≡ IndexInMemory (low_of (page_shown self.now)) chain.now) }
+        ensures { MatchOption result (IsLeaf (page_shown self.now))
+            (λ chain. self.now ≡ IndexInMemory (low_of (page_shown self.now)) chain.now) }
     {
         match &self.state {
             State::Values(_) => None,
@@ -87,7 +89,9 @@ impl<A: Allocator + Copy> PageInMemory<A> {
 
     /// The children in one list, in order, where this is an index page: of each the low key and the page id.
     pub fn child_list(&self) -> Option<&Base<Pid, A>>
-        ensures { MatchOption result (IsLeaf (page_shown self.now)) (λ list. (list.now ≡ child_entries (page_shown self.now)) × IsIndex (page_shown self.now)) }
+        ensures { MatchOption result (IsLeaf (page_shown self.now))
+            (λ list. (list.now ≡ child_entries (page_shown self.now))
+            × IsIndex (page_shown self.now)) }
     {
         match &self.state {
             State::Values(_) => None,

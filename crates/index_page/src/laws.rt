@@ -11,9 +11,11 @@ ghost use Rattle.index_page.specs.Rules.{KeepsRange, keeps_range, IsShortValue, 
 
 /// A page passes each test of its keys, its sizes and its children exactly where the fact that the test stands for holds.
 pub fn a_page_passes_a_test_where_the_fact_holds<V>()
-    ensures keys { (low : Bytes) (end : Option Bytes) (p : Page V) → (keeps_range low end p ≡ true) ↔ KeepsRange low end p }
+    ensures keys { (low : Bytes) (end : Option Bytes) (p : Page V) →
+        (keeps_range low end p ≡ true) ↔ KeepsRange low end p }
     ensures sizes_of_a_leaf { (s : Settings) (p : Page Bytes) →
-        ((fits_sizes s (is_short_value s) p ≡ true) × (fits_depth s p ≡ true)) ↔ Fits s (IsShortValue s) p }
+        ((fits_sizes s (is_short_value s) p ≡ true) × (fits_depth s p ≡ true))
+        ↔ Fits s (IsShortValue s) p }
     ensures sizes_of_an_index_page { (s : Settings) (p : Page ℕ) →
         ((fits_sizes s is_any_pid p ≡ true) × (fits_depth s p ≡ true)) ↔ Fits s IsAnyPid p }
     ensures children { (least : ℕ) (p : Page ℕ) → (is_headed least p ≡ true) ↔ IsHeaded least p }
@@ -22,18 +24,24 @@ pub fn a_page_passes_a_test_where_the_fact_holds<V>()
 /// The places of the children that entries name have the entries' pids and low keys, and tile the range from the first
 /// key up to the end: each key of that range lies in the range of just one of them, and any other key in that of none.
 pub fn children_tile_the_range_of_their_page()
-    ensures pids { (es : Names) (end : Option Bytes) → map (λ at. at.pid) (children es end) ≡ values_of es }
-    ensures lows { (es : Names) (end : Option Bytes) → map (λ at. at.low) (children es end) ≡ keys_of es }
-    ensures one { (es : Names) (end : Option Bytes) (k : Bytes) → IsRising es → 0 < length es → is_within (first_key es) end k ≡ true →
-        count_by (is_place_for k) (children es end) ≡ 1 }
-    ensures none { (es : Names) (end : Option Bytes) (k : Bytes) → IsRising es → AreBefore end (keys_of es) → is_within (first_key es) end k ≡ false →
+    ensures pids { (es : Names) (end : Option Bytes) →
+        map (λ at. at.pid) (children es end) ≡ values_of es }
+    ensures lows { (es : Names) (end : Option Bytes) →
+        map (λ at. at.low) (children es end) ≡ keys_of es }
+    ensures one { (es : Names) (end : Option Bytes) (k : Bytes) → IsRising es → 0 < length es →
+        is_within (first_key es) end k ≡ true → count_by (is_place_for k) (children es end) ≡ 1 }
+    ensures none { (es : Names) (end : Option Bytes) (k : Bytes) → IsRising es →
+        AreBefore end (keys_of es) → is_within (first_key es) end k ≡ false →
         count_by (is_place_for k) (children es end) ≡ 0 }
 {}
 
 /// The range of a place meets bounds just where it has a key with them in common. Where there is no key between the
 /// bounds, it meets them just where the lower bound lies in it.
 pub fn a_range_meets_bounds_where_they_share_a_key()
-    ensures shared { (lo : Bytes) (hi : Option Bytes) (at : Place) → is_before hi lo ≡ true → is_before at.end at.low ≡ true →
-        (meets lo hi at ≡ true) ↔ ((k : Bytes) × (is_within lo hi k ≡ true) × (is_place_for k at ≡ true)) }
-    ensures empty { (lo : Bytes) (hi : Option Bytes) (at : Place) → is_before hi lo ≡ false → meets lo hi at ≡ is_place_for lo at }
+    ensures shared { (lo : Bytes) (hi : Option Bytes) (at : Place) → is_before hi lo ≡ true →
+        is_before at.end at.low ≡ true →
+        (meets lo hi at ≡ true)
+        ↔ ((k : Bytes) × (is_within lo hi k ≡ true) × (is_place_for k at ≡ true)) }
+    ensures empty { (lo : Bytes) (hi : Option Bytes) (at : Place) → is_before hi lo ≡ false →
+        meets lo hi at ≡ is_place_for lo at }
 {}

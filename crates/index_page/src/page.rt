@@ -98,21 +98,24 @@ impl<A: Allocator + Copy> Page<A> {
 
     /// The values, where this is a leaf.
     pub fn as_leaf(&self) -> Option<&LateChain<Value<A>, A>>
-        ensures { MatchOption result (IsIndex self.now) (λ chain. self.now ≡ Leaf (record { low = low_of self.now; layers = seen chain.now })) }
+        ensures { MatchOption result (IsIndex self.now)
+            (λ chain. self.now ≡ Leaf (record { low = low_of self.now; layers = seen chain.now })) }
     {
         self.held.as_leaf()
     }
 
     /// The page ids of the children, where this is an index page.
     pub fn as_index(&self) -> Option<&Chain<Pid, A>>
-        ensures { MatchOption result (IsLeaf self.now) (λ chain. self.now ≡ Index (record { low = low_of self.now; layers = chain.now })) }
+        ensures { MatchOption result (IsLeaf self.now)
+            (λ chain. self.now ≡ Index (record { low = low_of self.now; layers = chain.now })) }
     {
         self.held.as_index()
     }
 
     /// The children in one list, in order, where this is an index page: of each the low key and the page id.
     pub fn child_list(&self) -> Option<&Base<Pid, A>>
-        ensures { MatchOption result (IsLeaf self.now) (λ list. (list.now ≡ child_entries self.now) × IsIndex self.now) }
+        ensures { MatchOption result (IsLeaf self.now)
+            (λ list. (list.now ≡ child_entries self.now) × IsIndex self.now) }
     {
         self.held.child_list()
     }
@@ -146,7 +149,10 @@ impl<A: Allocator + Copy> Page<A> {
     /// no memory.
     pub fn child_for(&self, key: &[u8]) -> Pid
         requires { HasChildFor self.now key.now }
-        ensures { (end : Option Bytes) → is_before end key.now ≡ true → map (λ at. at.pid) (filter (is_place_for key.now) (children (child_entries self.now) end)) ≡ result ∷ [] }
+        ensures { (end : Option Bytes) → is_before end key.now ≡ true →
+            map (λ at. at.pid) (filter (is_place_for key.now)
+            (children (child_entries self.now) end))
+            ≡ result ∷ [] }
     {
         match self.last_child(key) {
             Some(child) => child.1,
@@ -159,9 +165,12 @@ impl<A: Allocator + Copy> Page<A> {
     /// the condition. It takes no memory.
     pub fn child_with_end(&self, key: &[u8]) -> (Pid, Option<&[u8]>)
         requires { HasChildFor self.now key.now }
-        ensures child { (result.0, option_copied result.1) ≡ child_with_end key.now (child_entries self.now) }
+        ensures child { (result.0, option_copied result.1)
+            ≡ child_with_end key.now (child_entries self.now) }
         ensures place { (end : Option Bytes) → is_before end key.now ≡ true →
-            map {B = ℕ × Option Bytes} (λ at. (at.pid, at.end)) (filter (is_place_for key.now) (children (child_entries self.now) end)) ≡ (result.0, option_or (option_copied result.1) end) ∷ [] }
+            map {B = ℕ × Option Bytes} (λ at. (at.pid, at.end))
+            (filter (is_place_for key.now) (children (child_entries self.now) end))
+            ≡ (result.0, option_or (option_copied result.1) end) ∷ [] }
     {
         let Some(list) = self.child_list() else {
             unreachable!()
@@ -176,7 +185,8 @@ impl<A: Allocator + Copy> Page<A> {
     /// The children whose ranges meet the bounds, from `lo` on and before `hi`, in order: the low key and the page id of
     /// each. Where no key lies between the bounds, it is the child in whose range `lo` is. It takes no memory.
     pub fn children<'a>(&'a self, lo: &'a [u8], hi: Option<&'a [u8]>) -> Children<'a, A>
-        ensures { result ≡ children_within lo.now (option_copied hi.entry) (child_entries self.now) }
+        ensures { result
+            ≡ children_within lo.now (option_copied hi.entry) (child_entries self.now) }
     {
         Children {
             page: self,
@@ -187,7 +197,8 @@ impl<A: Allocator + Copy> Page<A> {
 
     // The last child whose low key isn't above the key.
     fn last_child<'a>(&'a self, key: &'a [u8]) -> Option<(&'a [u8], Pid)>
-        ensures child { option_map (λ e. (e.0.now, e.1)) result ≡ floor key.now (child_entries self.now) }
+        ensures child { option_map (λ e. (e.0.now, e.1)) result
+            ≡ floor key.now (child_entries self.now) }
         ensures rising { IsRising (child_entries self.now) }
     {
         let list = self.child_list()?;

@@ -91,7 +91,8 @@ impl<A: Allocator> Eq for Key<A> {
 impl<A: Allocator> PartialOrd for Key<A> {
     ghost partial_cmp = { as_partial_cmp order };
 
-    ghost laws = { partial_order_from_own_ties (Prim.search (comparing, rules)) (Prim.search (comparing, rules)) };
+    ghost laws = { partial_order_from_own_ties
+        (Prim.search (comparing, rules)) (Prim.search (comparing, rules)) };
 
     fn partial_cmp(&self, other: &Self) -> Option<Ordering> {
         Some(self.cmp(other))

@@ -95,7 +95,8 @@ impl Eq for KeyRef<'_> {
 impl PartialOrd for KeyRef<'_> {
     ghost partial_cmp = { as_partial_cmp order };
 
-    ghost laws = { partial_order_from_own_ties (Prim.search (comparing, rules)) (Prim.search (comparing, rules)) };
+    ghost laws = { partial_order_from_own_ties
+        (Prim.search (comparing, rules)) (Prim.search (comparing, rules)) };
 
     #[inline]
     fn partial_cmp(&self, other: &Self) -> Option<Ordering> {

@@ -32,41 +32,49 @@ pub fn equal_rows_are_the_same_pairs()
 /// What is put at a key is read back, and every other key has what it had.
 pub fn what_is_put_is_read_back<V>()
     ensures here { (m : Pairs V) (k : Bytes) (v : V) → value_at k (with_pair m k v) ≡ Some v }
-    ensures elsewhere { (m : Pairs V) (k q : Bytes) (v : V) → q ≢ k → value_at q (with_pair m k v) ≡ value_at q m }
+    ensures elsewhere { (m : Pairs V) (k q : Bytes) (v : V) → q ≢ k →
+        value_at q (with_pair m k v) ≡ value_at q m }
     ensures rising { (m : Pairs V) (k : Bytes) (v : V) → IsRising m → IsRising (with_pair m k v) }
 {}
 
 /// What is deleted is missing, and every other key has what it had.
 pub fn what_is_deleted_is_missing<V>()
     ensures here { (m : Pairs V) (k : Bytes) → IsRising m → value_at k (without m k) ≡ None }
-    ensures elsewhere { (m : Pairs V) (k q : Bytes) → IsRising m → q ≢ k → value_at q (without m k) ≡ value_at q m }
+    ensures elsewhere { (m : Pairs V) (k q : Bytes) → IsRising m → q ≢ k →
+        value_at q (without m k) ≡ value_at q m }
     ensures rising { (m : Pairs V) (k : Bytes) → IsRising m → IsRising (without m k) }
 {}
 
 /// Two maps that have the same at every key are the same list of pairs.
 pub fn a_map_is_what_it_has<V>()
-    ensures { (m n : Pairs V) → IsRising m → IsRising n → ((q : Bytes) → value_at q m ≡ value_at q n) → m ≡ n }
+    ensures { (m n : Pairs V) → IsRising m → IsRising n →
+        ((q : Bytes) → value_at q m ≡ value_at q n) → m ≡ n }
 {}
 
 /// Commands leave a map of strictly rising keys.
 pub fn commands_keep_the_order<A: Allocator>()
     ensures one { (m : Pairs Bytes) (c : Command A) → IsRising m → IsRising (map_after m c) }
-    ensures all { (m : Pairs Bytes) (cs : List (Command A)) → IsRising m → IsRising (map_after_all m cs) }
+    ensures all { (m : Pairs Bytes) (cs : List (Command A)) → IsRising m →
+        IsRising (map_after_all m cs) }
 {}
 
 /// A scan is answered with the rows of its range, and leaves the map as it was.
 pub fn a_scan_leaves_the_map<A: Allocator>()
-    ensures reply { (m : Pairs Bytes) (lo : Bytes) (hi : Option Bytes) (limit : ℕ) → reply_to {A = A} m (Scan lo hi limit) ≡ Rows (rows lo hi limit m) }
-    ensures map { (m : Pairs Bytes) (lo : Bytes) (hi : Option Bytes) (limit : ℕ) → map_after {A = A} m (Scan lo hi limit) ≡ m }
+    ensures reply { (m : Pairs Bytes) (lo : Bytes) (hi : Option Bytes) (limit : ℕ) →
+        reply_to {A = A} m (Scan lo hi limit) ≡ Rows (rows lo hi limit m) }
+    ensures map { (m : Pairs Bytes) (lo : Bytes) (hi : Option Bytes) (limit : ℕ) →
+        map_after {A = A} m (Scan lo hi limit) ≡ m }
 {}
 
 /// A wipe is answered with how many pairs of the map lie in its range. None of their keys is there afterwards, every other key has
 /// what it had, and the map is that many pairs shorter.
 pub fn a_wipe_removes_what_lies_in_its_range<A: Allocator>()
-    ensures reply { (m : Pairs Bytes) (lo : Bytes) (hi : Option Bytes) → reply_to {A = A} m (Wipe lo hi) ≡ Wiped (length (in_range lo hi m)) }
-    ensures within { (m : Pairs Bytes) (lo : Bytes) (hi : Option Bytes) (k : Bytes) → is_within lo hi k ≡ true → value_at k (map_after {A = A} m (Wipe lo hi)) ≡ None }
-    ensures elsewhere { (m : Pairs Bytes) (lo : Bytes) (hi : Option Bytes) (k : Bytes) → is_within lo hi k ≡ false →
-        value_at k (map_after {A = A} m (Wipe lo hi)) ≡ value_at k m }
+    ensures reply { (m : Pairs Bytes) (lo : Bytes) (hi : Option Bytes) →
+        reply_to {A = A} m (Wipe lo hi) ≡ Wiped (length (in_range lo hi m)) }
+    ensures within { (m : Pairs Bytes) (lo : Bytes) (hi : Option Bytes) (k : Bytes) →
+        is_within lo hi k ≡ true → value_at k (map_after {A = A} m (Wipe lo hi)) ≡ None }
+    ensures elsewhere { (m : Pairs Bytes) (lo : Bytes) (hi : Option Bytes) (k : Bytes) →
+        is_within lo hi k ≡ false → value_at k (map_after {A = A} m (Wipe lo hi)) ≡ value_at k m }
     ensures gone { (m : Pairs Bytes) (lo : Bytes) (hi : Option Bytes) →
         length (map_after {A = A} m (Wipe lo hi)) + length (in_range lo hi m) ≡ length m }
 {}
@@ -83,22 +91,31 @@ pub fn joined_commands_follow_one_another<A: Allocator>()
 /// The rows of a range rise. Each is a pair of the map whose key lies in the range; and such a pair is a row, unless there
 /// are as many rows as may be, each of a lesser key. There are none where the range is empty, or none may be.
 pub fn rows_are_the_first_pairs_of_a_range<V>()
-    ensures rising { (m : Pairs V) (lo : Bytes) (hi : Option Bytes) (limit : ℕ) → IsRising m → IsRising (rows lo hi limit m) }
-    ensures held { (m : Pairs V) (lo : Bytes) (hi : Option Bytes) (limit : ℕ) (k : Bytes) (v : V) → IsRising m →
-        value_at k (rows lo hi limit m) ≡ Some v → (value_at k m ≡ Some v) × (is_within lo hi k ≡ true) }
-    ensures none_left_out { (m : Pairs V) (lo : Bytes) (hi : Option Bytes) (limit : ℕ) (k : Bytes) (v : V) → IsRising m →
-        value_at k m ≡ Some v → is_within lo hi k ≡ true →
-        (value_at k (rows lo hi limit m) ≡ Some v) ⊎ ((length (rows lo hi limit m) ≡ limit) × AllByRecursion (λ j. is_below j k ≡ true) (keys_of (rows lo hi limit m))) }
-    ensures at_most { (m : Pairs V) (lo : Bytes) (hi : Option Bytes) (limit : ℕ) → length (rows lo hi limit m) ≤ limit }
-    ensures empty_range { (m : Pairs V) (lo hi : Bytes) (limit : ℕ) → is_below lo hi ≡ false → rows lo (Some hi) limit m ≡ [] }
+    ensures rising { (m : Pairs V) (lo : Bytes) (hi : Option Bytes) (limit : ℕ) → IsRising m →
+        IsRising (rows lo hi limit m) }
+    ensures held { (m : Pairs V) (lo : Bytes) (hi : Option Bytes) (limit : ℕ) (k : Bytes) (v : V) →
+        IsRising m → value_at k (rows lo hi limit m) ≡ Some v →
+        (value_at k m ≡ Some v) × (is_within lo hi k ≡ true) }
+    ensures none_left_out { (m : Pairs V) (lo : Bytes) (hi : Option Bytes)
+        (limit : ℕ) (k : Bytes) (v : V) →
+        IsRising m → value_at k m ≡ Some v → is_within lo hi k ≡ true →
+        (value_at k (rows lo hi limit m) ≡ Some v)
+        ⊎ ((length (rows lo hi limit m) ≡ limit)
+        × AllByRecursion (λ j. is_below j k ≡ true) (keys_of (rows lo hi limit m))) }
+    ensures at_most { (m : Pairs V) (lo : Bytes) (hi : Option Bytes) (limit : ℕ) →
+        length (rows lo hi limit m) ≤ limit }
+    ensures empty_range { (m : Pairs V) (lo hi : Bytes) (limit : ℕ) → is_below lo hi ≡ false →
+        rows lo (Some hi) limit m ≡ [] }
     ensures no_limit_left { (m : Pairs V) (lo : Bytes) (hi : Option Bytes) → rows lo hi 0 m ≡ [] }
 {}
 
 /// A scan that ends at a nearer key, before which it has as many rows as it may, is answered as before; so what lies after that key
 /// needn't be looked at for it. Replies and map of a batch are the same, whichever of its scans end so.
 pub fn a_scan_with_enough_rows_may_end<A: Allocator>()
-    ensures rows { (keys : List Bytes) (m : Pairs Bytes) (lo : Bytes) (hi : Option Bytes) (limit : ℕ)
-        (end : Bytes) → IsRising m → IsEnough keys m lo hi limit end → rows lo (Some end) limit m ≡ rows lo hi limit m }
+    ensures rows { (keys : List Bytes) (m : Pairs Bytes) (lo : Bytes)
+        (hi : Option Bytes) (limit : ℕ) (end : Bytes) →
+        IsRising m → IsEnough keys m lo hi limit end →
+        rows lo (Some end) limit m ≡ rows lo hi limit m }
     ensures replies { (keys : List Bytes) (m : Pairs Bytes) (cs : List (Command A))
         (ends : List (Option Bytes)) → IsRising m → MayEndAtAll keys m cs ends →
         replies_to m (with_ends cs ends) ≡ replies_to m cs }

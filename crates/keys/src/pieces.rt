@@ -43,7 +43,8 @@ impl<A: Allocator> Model for Pieces<A> {
 
     ghost view = { λ p. woven (option_to_list p.first ++ p.rest.items) p.rowless.items };
 
-    ghost invariant = { λ p. StandWithin (length (option_to_list p.first ++ p.rest.items)) p.rowless.items };
+    ghost invariant = { λ p. StandWithin
+        (length (option_to_list p.first ++ p.rest.items)) p.rowless.items };
 }
 
 impl<A: Allocator + Copy> Pieces<A> {

@@ -103,7 +103,9 @@ impl<A: Allocator> RowList<A> {
 impl<A: Allocator> PartialEq for RowList<A> {
     ghost eq = { same_pairs };
 
-    ghost laws = { partial_equiv_from_equiv (lists_equiv (and_equiv (on_equiv (λ p. p.0) (eq_by_cmp_equiv nat_list_cmp_total)) (on_equiv (λ p. p.1) (eq_by_cmp_equiv nat_list_cmp_total)))) };
+    ghost laws = { partial_equiv_from_equiv
+        (lists_equiv (and_equiv (on_equiv (λ p. p.0) (eq_by_cmp_equiv nat_list_cmp_total))
+        (on_equiv (λ p. p.1) (eq_by_cmp_equiv nat_list_cmp_total)))) };
 
     fn eq(&self, other: &Self) -> bool {
         same_rows(self.count, &self.bytes, other.count, &other.bytes)
@@ -111,7 +113,8 @@ impl<A: Allocator> PartialEq for RowList<A> {
 }
 
 impl<A: Allocator> Eq for RowList<A> {
-    ghost laws = { lists_equiv (and_equiv (on_equiv (λ p. p.0) (eq_by_cmp_equiv nat_list_cmp_total)) (on_equiv (λ p. p.1) (eq_by_cmp_equiv nat_list_cmp_total))) };
+    ghost laws = { lists_equiv (and_equiv (on_equiv (λ p. p.0) (eq_by_cmp_equiv nat_list_cmp_total))
+        (on_equiv (λ p. p.1) (eq_by_cmp_equiv nat_list_cmp_total))) };
 }
 
 // Whether both are the same rows. Equal rows take equal bytes, since a row is kept in one way only.

@@ -55,7 +55,14 @@ pub struct Settings {
 impl Default for Settings {
     ghost use Rattle.std.specs.Prelude.{◌≡◌};
 
-    ghost is_default = { λ s. s ≡ record { fan = 16; chain = 4; max_key = 64; max_value = 256; seg_size = 65536; segments = 64 } };
+    ghost is_default = { λ s. s ≡ record {
+      fan = 16;
+      chain = 4;
+      max_key = 64;
+      max_value = 256;
+      seg_size = 65536;
+      segments = 64;
+    } };
 
     /// The settings that the program has where none are given: a log of 4 MiB, in 64 segments.
     fn default() -> Settings {
@@ -75,7 +82,8 @@ impl Settings {
     /// a segment. The first field that is out of range is `Fault::BadSettings`; a segment that is too short for
     /// the longest frame names `seg_size`.
     pub fn check(&self) -> Result<(), Fault>
-        ensures { MatchOption (first_bad_field self.now) (result ≡ Ok tt) (λ field. result ≡ Err (Fault.BadSettings field)) }
+        ensures { MatchOption (first_bad_field self.now) (result ≡ Ok tt)
+            (λ field. result ≡ Err (Fault.BadSettings field)) }
     {
         within(Field::Fan, self.fan, 4, 64)?;
         within(Field::Chain, self.chain, 1, 16)?;
@@ -104,8 +112,11 @@ impl Settings {
     /// `segments`.
     pub fn for_pairs(pairs: u32, key: u32, value: u32) -> Result<Settings, Fault>
         ensures good { IfOk result (λ settings. first_bad_field settings ≡ None) }
-        ensures lengths { IfOk result (λ settings. (settings.max_key ≡ key) × (settings.max_value ≡ value)) }
-        ensures room { IfOk result (λ settings. room_of_pairs pairs key value + 3 * settings.seg_size ≤ settings.segments * settings.seg_size) }
+        ensures lengths { IfOk result
+            (λ settings. (settings.max_key ≡ key) × (settings.max_value ≡ value)) }
+        ensures room { IfOk result
+            (λ settings. room_of_pairs pairs key value + 3 * settings.seg_size
+            ≤ settings.segments * settings.seg_size) }
     {
         within(Field::MaxKey, key, 1, 255)?;
         within(Field::MaxValue, value, 0, 1_024)?;
@@ -142,7 +153,8 @@ fn room_of_pairs(pairs: u32, key: u32, value: u32) -> u64
 
 // Refuses the field where the number is not from `least` to `greatest`.
 fn within(field: Field, number: u32, least: u32, greatest: u32) -> Result<(), Fault>
-    ensures { result ≡ (if is_in_limits least greatest number then Ok tt else Err (Fault.BadSettings field)) }
+    ensures { result
+        ≡ (if is_in_limits least greatest number then Ok tt else Err (Fault.BadSettings field)) }
 {
     if least <= number && number <= greatest {
         Ok(())

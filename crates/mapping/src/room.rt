@@ -47,7 +47,8 @@ pub(crate) fn occupy_all<P: Drop, A: Allocator + Copy>(
 ) -> Result<(), AllocError>
     requires { AreRisingPids (slot_pids slots.old.items) }
     ensures rising { AreRisingPids (slot_pids slots.new.items) }
-    ensures ok { OnOk result (table_of slots.new.items ≡ with_rooms (table_of slots.old.items) pids.now) }
+    ensures ok { OnOk result
+        (table_of slots.new.items ≡ with_rooms (table_of slots.old.items) pids.now) }
     ensures err { OnErr result (slots.new.items ≡ slots.old.items) }
 {
     slots.reserve(pids.len())?;
@@ -65,7 +66,8 @@ pub(crate) fn least_free<P, A: Allocator + Copy>(
     count: usize,
 ) -> Result<Vec<u64, A>, AllocError>
     requires { AreSlots slots.now from }
-    ensures { IfOk result (λ pids. pids.items ≡ fresh_pids (pids_in_use (table_of slots.now)) count) }
+    ensures { IfOk result
+        (λ pids. pids.items ≡ fresh_pids (pids_in_use (table_of slots.now)) count) }
 {
     let mut pids = Vec::with_capacity(alloc, count)?;
     for pid in from..u64::MAX {

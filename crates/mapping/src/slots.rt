@@ -27,7 +27,8 @@ pub(crate) struct TableSlot<P> {
 // mostly there: so that is looked at first, and what is after it never.
 pub(crate) fn slot_of<P>(slots: &[TableSlot<P>], pid: u64) -> Result<usize, usize>
     requires { AreRisingPids (slot_pids slots.now) }
-    ensures { MatchResult result (StandsAt (slot_pids slots.now) pid) (GoesTo (slot_pids slots.now) pid) }
+    ensures { MatchResult result (StandsAt (slot_pids slots.now) pid)
+        (GoesTo (slot_pids slots.now) pid) }
 {
     let near = pid as usize;
     if near >= slots.len() {
@@ -42,7 +43,8 @@ pub(crate) fn slot_of<P>(slots: &[TableSlot<P>], pid: u64) -> Result<usize, usiz
 // The same by halves.
 fn search<P>(slots: &[TableSlot<P>], pid: u64) -> Result<usize, usize>
     requires { AreRisingPids (slot_pids slots.now) }
-    ensures { MatchResult result (StandsAt (slot_pids slots.now) pid) (GoesTo (slot_pids slots.now) pid) }
+    ensures { MatchResult result (StandsAt (slot_pids slots.now) pid)
+        (GoesTo (slot_pids slots.now) pid) }
 {
     slots.binary_search_by_key(&pid, |slot| slot.pid)
 }

@@ -187,7 +187,8 @@ impl<P: Drop, A: Allocator + Copy> Table<P, A> {
     /// are left, nothing has changed.
     pub fn fresh(&mut self, count: usize) -> Result<Vec<u64, A>, AllocError>
         ensures pids { IfOk result (λ pids. pids.items ≡ fresh_pids (pids_in_use self.old) count) }
-        ensures ok { OnOk result (self.new ≡ with_rooms self.old (fresh_pids (pids_in_use self.old) count)) }
+        ensures ok { OnOk result
+            (self.new ≡ with_rooms self.old (fresh_pids (pids_in_use self.old) count)) }
         ensures err { OnErr result (self.new ≡ self.old) }
         ensures rising { AreRisingPids (pids_in_use self.old) }
     {

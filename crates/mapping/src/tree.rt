@@ -68,7 +68,8 @@ impl<A: Allocator + Copy> Tree<A> {
     /// The page at home under the page id, if there is one: where no page is away, the tree's page under it.
     pub fn page(&self, pid: Pid) -> Option<&Page<A>>
         ensures home { option_copied result ≡ page_of self.now.table pid }
-        ensures listed { AreAllHome self.now → option_copied result ≡ page_at (tree_of self.now).pages pid }
+        ensures listed { AreAllHome self.now →
+            option_copied result ≡ page_at (tree_of self.now).pages pid }
     {
         self.table.as_table().get(pid.0)
     }
@@ -160,8 +161,11 @@ impl<A: Allocator + Copy> Tree<A> {
     /// Draws `count` new page ids, the least that have no place, in rising order, and makes a place for each, whose page is
     /// away. Where memory is refused, or fewer are left, nothing has changed.
     pub fn fresh(&mut self, count: usize) -> Result<Vec<u64, A>, AllocError>
-        ensures pids { IfOk result (λ pids. pids.items ≡ fresh_pids (pids_in_use self.old.table) count) }
-        ensures ok { OnOk result (self.new ≡ record self.old { table = with_rooms self.old.table (fresh_pids (pids_in_use self.old.table) count) }) }
+        ensures pids { IfOk result
+            (λ pids. pids.items ≡ fresh_pids (pids_in_use self.old.table) count) }
+        ensures ok { OnOk result (self.new ≡ record self.old {
+          table = with_rooms self.old.table (fresh_pids (pids_in_use self.old.table) count);
+        }) }
         ensures err { OnErr result (self.new ≡ self.old) }
         ensures rising { AreRisingPids (pids_in_use self.old.table) }
     {

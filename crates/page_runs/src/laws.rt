@@ -22,14 +22,17 @@ use std::alloc::Allocator;
 
 /// The net run of commands takes the map before them to the map after them, and its keys rise.
 pub fn the_net_run_is_what_the_commands_come_to<A: Allocator>()
-    ensures map { (m : Pairs Bytes) (cs : List (Command A)) → IsRising m → with_run m (net_run m cs) ≡ map_after_all m cs }
+    ensures map { (m : Pairs Bytes) (cs : List (Command A)) → IsRising m →
+        with_run m (net_run m cs) ≡ map_after_all m cs }
     ensures rising { (m : Pairs Bytes) (cs : List (Command A)) → IsRising (net_run m cs) }
 {}
 
 /// A page's entries after a run are its entries with the run applied, whether the page was replaced or not.
 pub fn a_page_after_a_run_has_the_run_applied<V>()
-    ensures entries { (s : Settings) (p : Layers V) (run : Changes V) → entries_of (after_run s p run) ≡ with_run (entries_of p) run }
-    ensures in_order { (s : Settings) (p : Layers V) (run : Changes V) → IsInOrder p → IsRising run → IsInOrder (after_run s p run) }
+    ensures entries { (s : Settings) (p : Layers V) (run : Changes V) →
+        entries_of (after_run s p run) ≡ with_run (entries_of p) run }
+    ensures in_order { (s : Settings) (p : Layers V) (run : Changes V) → IsInOrder p →
+        IsRising run → IsInOrder (after_run s p run) }
 {}
 
 /// The commands on some of the keys can be worked by themselves, on any map that agrees with the whole one on these keys; further
@@ -39,37 +42,57 @@ pub fn a_page_after_a_run_has_the_run_applied<V>()
 /// other key and no command that gives one a value is taken. A command on one key is on these keys alone or wholly off them, as
 /// its key is.
 pub fn commands_on_some_keys_are_worked_apart<A: Allocator>()
-    ensures replies { (is_own : Bytes → Bool) (is_taken : Command A → Bool) (m x : Pairs Bytes) (cs : List (Command A)) →
+    ensures replies { (is_own : Bytes → Bool) (is_taken : Command A → Bool)
+        (m x : Pairs Bytes) (cs : List (Command A)) →
         TakesAll is_own is_taken → IsRising m → IsRising x → AgreeOn is_own m x →
-        replies_where (is_on_one is_own) cs (replies_to m cs) ≡ replies_where (is_on_one is_own) (filter is_taken cs) (replies_to x (filter is_taken cs)) }
-    ensures all_replies { (is_own : Bytes → Bool) (x : Pairs Bytes) (cs : List (Command A)) → let own = filter (is_on_one is_own) cs in
+        replies_where (is_on_one is_own) cs (replies_to m cs)
+        ≡ replies_where (is_on_one is_own) (filter is_taken cs)
+        (replies_to x (filter is_taken cs)) }
+    ensures all_replies { (is_own : Bytes → Bool) (x : Pairs Bytes) (cs : List (Command A)) →
+        let own = filter (is_on_one is_own) cs in
         replies_where (is_on_one is_own) own (replies_to x own) ≡ replies_to x own }
-    ensures map { (is_own : Bytes → Bool) (is_taken : Command A → Bool) (m x : Pairs Bytes) (cs : List (Command A)) →
+    ensures map { (is_own : Bytes → Bool) (is_taken : Command A → Bool)
+        (m x : Pairs Bytes) (cs : List (Command A)) →
         TakesAll is_own is_taken → IsRising m → IsRising x → AgreeOn is_own m x →
         AgreeOn is_own (map_after_all m cs) (map_after_all x (filter is_taken cs)) }
-    ensures run { (is_own : Bytes → Bool) (is_taken : Command A → Bool) (m x : Pairs Bytes) (cs : List (Command A)) (k : Bytes) →
+    ensures run { (is_own : Bytes → Bool) (is_taken : Command A → Bool) (m x : Pairs Bytes)
+        (cs : List (Command A)) (k : Bytes) →
         TakesAll is_own is_taken → IsRising m → IsRising x → AgreeOn is_own m x → is_own k ≡ true →
         value_at k (net_run m cs) ≡ value_at k (net_run x (filter is_taken cs)) }
-    ensures no_other { (is_own : Bytes → Bool) (is_taken : Command A → Bool) (x : Pairs Bytes) (cs : List (Command A)) (k : Bytes) →
+    ensures no_other { (is_own : Bytes → Bool) (is_taken : Command A → Bool) (x : Pairs Bytes)
+        (cs : List (Command A)) (k : Bytes) →
         TakesNoOther is_own is_taken → is_own k ≡ false →
         value_at k (net_run x (filter is_taken cs)) ≡ None }
-    ensures no_other_there { (is_own : Bytes → Bool) (is_taken : Command A → Bool) (x : Pairs Bytes) (cs : List (Command A)) (k : Bytes) →
+    ensures no_other_there { (is_own : Bytes → Bool) (is_taken : Command A → Bool) (x : Pairs Bytes)
+        (cs : List (Command A)) (k : Bytes) →
         GivesNoOther is_own is_taken → HasNoOther is_own x → IsRising x → is_own k ≡ false →
         value_at k (net_run x (filter is_taken cs)) ≡ None }
-    ensures within { (is_own : Bytes → Bool) (c : Command A) (k : Bytes) → single_key c ≡ Some k → is_own k ≡ true → IsWithin is_own c }
-    ensures off { (is_own : Bytes → Bool) (c : Command A) (k : Bytes) → single_key c ≡ Some k → is_own k ≡ false → IsOff is_own c }
+    ensures within { (is_own : Bytes → Bool) (c : Command A) (k : Bytes) → single_key c ≡ Some k →
+        is_own k ≡ true → IsWithin is_own c }
+    ensures off { (is_own : Bytes → Bool) (c : Command A) (k : Bytes) → single_key c ≡ Some k →
+        is_own k ≡ false → IsOff is_own c }
 {}
 
 /// What a command leaves within a page's range is what it leaves of the page's own pairs, where it goes to the page; a command
 /// on a key gets its page's answer; a scan's rows are those of its pages, joined in their order and cut at the limit; and a wipe
 /// takes as many pairs as its pages take, together.
 pub fn each_page_answers_its_part<V, A: Allocator>()
-    ensures map { (low : Bytes) (end : Option Bytes) (m : Pairs Bytes) (c : Command A) → IsRising m →
-        in_range low end (map_after m c) ≡ (if goes_to low end c then map_after (in_range low end m) c else in_range low end m) }
-    ensures reply { (low : Bytes) (end : Option Bytes) (m : Pairs Bytes) (c : Command A) → IsRising m → is_ranged c ≡ false → goes_to low end c ≡ true →
+    ensures map { (low : Bytes) (end : Option Bytes) (m : Pairs Bytes) (c : Command A) →
+        IsRising m →
+        in_range low end (map_after m c)
+        ≡ (if goes_to low end c then map_after (in_range low end m) c else in_range low end m) }
+    ensures reply { (low : Bytes) (end : Option Bytes) (m : Pairs Bytes) (c : Command A) →
+        IsRising m → is_ranged c ≡ false → goes_to low end c ≡ true →
         reply_to (in_range low end m) c ≡ reply_to m c }
-    ensures rows { (level : List (Placed V)) (m : Pairs Bytes) (lo : Bytes) (hi : Option Bytes) (limit : ℕ) → next_low level None ≡ Some [] → Tiled level None → IsRising m →
-        take limit (flat_map (λ at. if goes_to {A = A} at.low at.end (Scan lo hi limit) then rows lo hi limit (in_range at.low at.end m) else []) (ranges level)) ≡ rows lo hi limit m }
-    ensures counts { (level : List (Placed V)) (m : Pairs Bytes) (lo : Bytes) (hi : Option Bytes) → next_low level None ≡ Some [] → Tiled level None → IsRising m →
-        sum_by (λ at. if goes_to {A = A} at.low at.end (Wipe lo hi) then length (in_range lo hi (in_range at.low at.end m)) else 0) (ranges level) ≡ length (in_range lo hi m) }
+    ensures rows { (level : List (Placed V)) (m : Pairs Bytes) (lo : Bytes)
+        (hi : Option Bytes) (limit : ℕ) →
+        next_low level None ≡ Some [] → Tiled level None → IsRising m →
+        take limit (flat_map (λ at. if goes_to {A = A} at.low at.end (Scan lo hi limit)
+        then rows lo hi limit (in_range at.low at.end m) else []) (ranges level))
+        ≡ rows lo hi limit m }
+    ensures counts { (level : List (Placed V)) (m : Pairs Bytes) (lo : Bytes) (hi : Option Bytes) →
+        next_low level None ≡ Some [] → Tiled level None → IsRising m →
+        sum_by (λ at. if goes_to {A = A} at.low at.end (Wipe lo hi)
+        then length (in_range lo hi (in_range at.low at.end m)) else 0) (ranges level)
+        ≡ length (in_range lo hi m) }
 {}

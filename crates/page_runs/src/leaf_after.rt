@@ -53,8 +53,10 @@ pub(crate) fn put_leaf_run(
     requires fewest { bounds.fewest ≤ length (with_run (entries_of page.chain) run) }
     requires most { min (length (with_run (entries_of page.chain) run)) usize.MAX ≤ bounds.most }
     ensures page { IfOk result (λ after. seen after.0 ≡ after_run settings.now (seen page) run) }
-    ensures class { IfOk result (λ after. leaf_class_now after.1 ≡ class_after settings.now (seen page) run) }
-    ensures replaced { IfOk result (λ after. is_leaf_replaced_now after.1 ≡ is_replaced settings.now (seen page) run) }
+    ensures class { IfOk result
+        (λ after. leaf_class_now after.1 ≡ class_after settings.now (seen page) run) }
+    ensures replaced { IfOk result
+        (λ after. is_leaf_replaced_now after.1 ≡ is_replaced settings.now (seen page) run) }
     ensures can_undo { IfOk result (λ after. CanUndoLeaf after.0 after.1) }
     ensures before { IfOk result (λ after. leaf_before after.0 after.1 ≡ page) }
     ensures back { IfErr result (λ again. again ≡ page) }
@@ -91,8 +93,10 @@ fn replace_leaf(
     requires some { page.settled < length page.chain.runs }
     requires fewest { bounds.fewest ≤ length (entries_of page.chain) }
     requires most { min (length (entries_of page.chain)) usize.MAX ≤ bounds.most }
-    ensures page { IfOk result (λ after. seen after.0 ≡ record { runs = []; base = entries_of page.chain }) }
-    ensures class { IfOk result (λ after. leaf_class_now after.1 ≡ class_of_size settings.now (length (entries_of page.chain))) }
+    ensures page { IfOk result
+        (λ after. seen after.0 ≡ record { runs = []; base = entries_of page.chain }) }
+    ensures class { IfOk result (λ after. leaf_class_now after.1
+        ≡ class_of_size settings.now (length (entries_of page.chain))) }
     ensures replaced { IfOk result (λ after. is_leaf_replaced_now after.1 ≡ true) }
     ensures can_undo { IfOk result (λ after. CanUndoLeaf after.0 after.1) }
     ensures before { IfOk result (λ after. leaf_before after.0 after.1 ≡ without_newest page) }
@@ -106,7 +110,8 @@ fn replace_leaf(
 
 // The class of a replaced page, where that follows from these bounds.
 fn class_within(settings: &Settings, bounds: EntryBounds) -> Option<Class>
-    ensures { IfSome result (λ class. (n : ℕ) → bounds.fewest ≤ n → min n usize.MAX ≤ bounds.most → class ≡ class_of_size settings.now n) }
+    ensures { IfSome result (λ class. (n : ℕ) → bounds.fewest ≤ n → min n usize.MAX ≤ bounds.most →
+        class ≡ class_of_size settings.now n) }
 {
     let quarter = (settings.fan / 4) as usize;
     let fan = settings.fan as usize;
@@ -153,8 +158,10 @@ fn merge(
     page: LateValues,
 ) -> Result<(LateValues, LeafWayBack), LateValues>
     requires { page.settled < length page.chain.runs }
-    ensures page { IfOk result (λ after. seen after.0 ≡ record { runs = []; base = entries_of page.chain }) }
-    ensures class { IfOk result (λ after. leaf_class_now after.1 ≡ class_of_size settings.now (length (entries_of page.chain))) }
+    ensures page { IfOk result
+        (λ after. seen after.0 ≡ record { runs = []; base = entries_of page.chain }) }
+    ensures class { IfOk result (λ after. leaf_class_now after.1
+        ≡ class_of_size settings.now (length (entries_of page.chain))) }
     ensures replaced { IfOk result (λ after. is_leaf_replaced_now after.1 ≡ true) }
     ensures can_undo { IfOk result (λ after. CanUndoLeaf after.0 after.1) }
     ensures before { IfOk result (λ after. leaf_before after.0 after.1 ≡ without_newest page) }

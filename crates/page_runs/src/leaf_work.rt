@@ -58,7 +58,8 @@ impl Model for LeafDone {
 
     ghost Value = { LeafWorked };
 
-    ghost view = { λ d. leaf_worked d.kept.value.page d.kept.value.way_back d.kept.value.page_run d.kept.value.pieces };
+    ghost view = { λ d. leaf_worked d.kept.value.page d.kept.value.way_back
+        d.kept.value.page_run d.kept.value.pieces };
 
     ghost invariant = { λ d. IsWorkedLeaf d.kept.value.page d.kept.value.way_back };
 }
@@ -95,7 +96,10 @@ impl LeafDone {
     /// The answers, for good: none are left here. It takes no memory, and the job can still be given back.
     pub fn take_pieces(&mut self) -> Pieces<Global>
         ensures pieces { result ≡ self.old.made.pieces }
-        ensures rest { self.new ≡ record { held = self.old.held; made = record { worked = self.old.made.worked; pieces = [] } } }
+        ensures rest { self.new ≡ record {
+          held = self.old.held;
+          made = record { worked = self.old.made.worked; pieces = [] };
+        } }
     {
         self.kept.pieces.take()
     }
@@ -180,8 +184,10 @@ impl<'a> Work for LeafWork<'a> {
 // What was made of a leaf, in a block of its own; or the job as it was, where there is no memory for that.
 fn boxed(alloc: Global, done: KeptDone) -> Turn<LeafJob, LeafDone>
     requires { IsWorkedLeaf done.page done.way_back }
-    ensures done { IfDone result (λ boxed. boxed ≡ leaf_worked done.page done.way_back done.page_run done.pieces) }
-    ensures back { IfBack result (λ again. leaf_held_of again ≡ (leaf_worked done.page done.way_back done.page_run done.pieces).held) }
+    ensures done { IfDone result
+        (λ boxed. boxed ≡ leaf_worked done.page done.way_back done.page_run done.pieces) }
+    ensures back { IfBack result (λ again. leaf_held_of again
+        ≡ (leaf_worked done.page done.way_back done.page_run done.pieces).held) }
 {
     match Box::new(alloc, done) {
         Ok(kept) => Turn::Done(LeafDone { kept }),
@@ -192,7 +198,8 @@ fn boxed(alloc: Global, done: KeptDone) -> Turn<LeafJob, LeafDone>
 // The job that this was made of.
 fn job_of(alloc: Global, done: KeptDone) -> LeafJob
     requires { IsWorkedLeaf done.page done.way_back }
-    ensures { leaf_held_of result ≡ (leaf_worked done.page done.way_back done.page_run done.pieces).held }
+    ensures { leaf_held_of result
+        ≡ (leaf_worked done.page done.way_back done.page_run done.pieces).held }
 {
     let KeptDone {
         page,

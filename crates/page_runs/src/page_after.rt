@@ -35,7 +35,8 @@ pub(crate) fn put_run<V: Cell<Global> + Drop>(
 ) -> Result<(Chain<V, Global>, WayBack<V>), (Chain<V, Global>, Run<V, Global>)>
     ensures page { IfOk result (λ after. after.0 ≡ after_run settings.now page run) }
     ensures class { IfOk result (λ after. class_now after.1 ≡ class_after settings.now page run) }
-    ensures replaced { IfOk result (λ after. is_replaced_now after.1 ≡ is_replaced settings.now page run) }
+    ensures replaced { IfOk result
+        (λ after. is_replaced_now after.1 ≡ is_replaced settings.now page run) }
     ensures can_undo { IfOk result (λ after. CanUndo after.0 after.1) }
     ensures page_before { IfOk result (λ after. page_before after.0 after.1 ≡ page) }
     ensures run_before { IfOk result (λ after. run_before after.0 after.1 ≡ run) }
@@ -70,7 +71,8 @@ pub(crate) fn replace<V: Cell<Global> + Drop>(
 ) -> Result<(Chain<V, Global>, WayBack<V>), (Chain<V, Global>, Run<V, Global>)>
     requires { 0 < length before.runs }
     ensures page { IfOk result (λ after. after.0 ≡ record { runs = []; base = entries_of before }) }
-    ensures class { IfOk result (λ after. class_now after.1 ≡ class_of_size settings.now (length (entries_of before))) }
+    ensures class { IfOk result
+        (λ after. class_now after.1 ≡ class_of_size settings.now (length (entries_of before))) }
     ensures replaced { IfOk result (λ after. is_replaced_now after.1 ≡ true) }
     ensures can_undo { IfOk result (λ after. CanUndo after.0 after.1) }
     ensures page_before { IfOk result (λ after. page_before after.0 after.1 ≡ popped before) }

@@ -29,7 +29,8 @@ pub(crate) fn rows_of(
     limit: u32,
 ) -> Result<RowList<Global>, AllocError>
     requires { IsInOrder page.now }
-    ensures { IfOk result (λ list. list ≡ rows low.now end.now limit (map_by_now page.now changes.now)) }
+    ensures { IfOk result
+        (λ list. list ≡ rows low.now end.now limit (map_by_now page.now changes.now)) }
 {
     let mut rows = RowList::empty(alloc);
     for (key, value) in NamedKeys::new(alloc, page, changes, low) {
@@ -54,7 +55,8 @@ pub(crate) fn keys_within(
     end: &Option<Key<Global>>,
 ) -> Result<Vec<Key<Global>>, AllocError>
     requires { IsInOrder page.now }
-    ensures { IfOk result (λ keys. keys.items ≡ keys_of (in_range low.now end.now (map_by_now page.now changes.now))) }
+    ensures { IfOk result (λ keys. keys.items
+        ≡ keys_of (in_range low.now end.now (map_by_now page.now changes.now))) }
 {
     let mut keys = Vec::new(alloc);
     for (key, value) in NamedKeys::new(alloc, page, changes, low) {
@@ -96,16 +98,19 @@ impl<'a> Model for NamedKeys<'a> {
 
     ghost Value = { Changes Bytes };
 
-    ghost view = { λ n. named_by_either (ahead pair_lent n.pair n.pairs) (ahead change_lent n.change n.changes) };
+    ghost view = { λ n. named_by_either (ahead pair_lent n.pair n.pairs)
+        (ahead change_lent n.change n.changes) };
 
-    ghost invariant = { λ n. IsRising (ahead pair_lent n.pair n.pairs) × IsRising (ahead change_lent n.change n.changes) };
+    ghost invariant = { λ n. IsRising (ahead pair_lent n.pair n.pairs)
+        × IsRising (ahead change_lent n.change n.changes) };
 }
 
 impl<'a> NamedKeys<'a> {
     // The keys from this one on.
     fn new(alloc: Global, page: &'a LeafChain, changes: &'a Changes, low: &'a Key<Global>) -> Self
         requires { IsInOrder page.now }
-        ensures named { result ≡ named_by_either (from low.now (entries_of page.now)) (in_range low.now None changes.now) }
+        ensures named { result ≡ named_by_either (from low.now (entries_of page.now))
+            (in_range low.now None changes.now) }
         ensures rising { IsRising result }
         ensures changes_rise { IsRising changes.now }
     {
@@ -123,7 +128,8 @@ impl<'a> NamedKeys<'a> {
 
     // The next key with its value: the lesser of the next pair's and the next change's, and of two that are equal the change's.
     fn step(&mut self) -> Option<Change<'a>>
-        ensures { MatchOption result ((self.old ≡ []) × (self.new ≡ [])) (λ item. self.old ≡ change_lent item ∷ self.new) }
+        ensures { MatchOption result ((self.old ≡ []) × (self.new ≡ []))
+            (λ item. self.old ≡ change_lent item ∷ self.new) }
     {
         match (self.pair, self.change) {
             (None, None) => None,

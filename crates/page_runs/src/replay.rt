@@ -28,8 +28,10 @@ pub(crate) fn replay(
     places: &[usize],
 ) -> Result<(LeafRun, Pieces<Global>, EntryBounds), AllocError>
     requires { ArePlacesOf commands.now places.now }
-    ensures run { IfOk result (λ r. r.0 ≡ net_run (entries_of page.now) (commands_at commands.now places.now)) }
-    ensures pieces { IfOk result (λ r. r.1 ≡ pieces_of places.now (replies_to (entries_of page.now) (commands_at commands.now places.now))) }
+    ensures run { IfOk result
+        (λ r. r.0 ≡ net_run (entries_of page.now) (commands_at commands.now places.now)) }
+    ensures pieces { IfOk result (λ r. r.1 ≡ pieces_of places.now
+        (replies_to (entries_of page.now) (commands_at commands.now places.now))) }
     ensures fewest { IfOk result (λ r. r.2.fewest ≤ length (map_by_now page.now r.0)) }
     ensures most { IfOk result (λ r. min (length (map_by_now page.now r.0)) usize.MAX ≤ r.2.most) }
 {
@@ -96,9 +98,10 @@ fn execute(
 ) -> Result<Reply<Global>, AllocError>
     requires order { IsInOrder page.now }
     requires most { min (length (map_by_now page.now changes.old)) usize.MAX ≤ most }
-    ensures reply { let before = map_by_now page.now changes.old in IfOk result (λ reply. reply ≡ reply_to before command.now) }
-    ensures changes { let before = map_by_now page.now changes.old in
-        OnOk result (changes.new ≡ noted_by (map_after before command.now) before command.now changes.old) }
+    ensures reply { let before = map_by_now page.now changes.old in
+        IfOk result (λ reply. reply ≡ reply_to before command.now) }
+    ensures changes { let before = map_by_now page.now changes.old in OnOk result
+        (changes.new ≡ noted_by (map_after before command.now) before command.now changes.old) }
 {
     match command {
         Command::Get(key) => get(alloc, page, changes, key),
@@ -120,7 +123,8 @@ fn get(
     key: &Key<Global>,
 ) -> Result<Reply<Global>, AllocError>
     requires { IsInOrder page.now }
-    ensures { IfOk result (λ reply. reply ≡ found (value_at key.now (map_by_now page.now changes.now))) }
+    ensures { IfOk result
+        (λ reply. reply ≡ found (value_at key.now (map_by_now page.now changes.now))) }
 {
     match changes.value_now(page, key) {
         Some(value) => Ok(Reply::Value(value.copy(alloc)?)),
@@ -136,7 +140,9 @@ fn put(
     value: &Value<Global>,
 ) -> Result<Reply<Global>, AllocError>
     requires { IsInOrder page.now }
-    ensures reply { IfOk result (λ reply. reply ≡ (if is_some (value_at key.now (map_by_now page.now changes.old)) then Replaced else New)) }
+    ensures reply { IfOk result
+        (λ reply. reply ≡ (if is_some (value_at key.now (map_by_now page.now changes.old))
+        then Replaced else New)) }
     ensures changes { OnOk result (changes.new ≡ with_pair changes.old key.now (Some value.now)) }
 {
     let reply = match changes.value_now(page, key) {
@@ -155,8 +161,12 @@ fn add(
     value: &Value<Global>,
 ) -> Result<Reply<Global>, AllocError>
     requires { IsInOrder page.now }
-    ensures reply { IfOk result (λ reply. reply ≡ (if is_some (value_at key.now (map_by_now page.now changes.old)) then Exists else Added)) }
-    ensures changes { OnOk result (changes.new ≡ (if is_some (value_at key.now (map_by_now page.now changes.old)) then changes.old else with_pair changes.old key.now (Some value.now))) }
+    ensures reply { IfOk result
+        (λ reply. reply ≡ (if is_some (value_at key.now (map_by_now page.now changes.old))
+        then Exists else Added)) }
+    ensures changes { OnOk result
+        (changes.new ≡ (if is_some (value_at key.now (map_by_now page.now changes.old))
+        then changes.old else with_pair changes.old key.now (Some value.now))) }
 {
     if changes.value_now(page, key).is_some() {
         return Ok(Reply::Exists);
@@ -172,8 +182,12 @@ fn del(
     key: &Key<Global>,
 ) -> Result<Reply<Global>, AllocError>
     requires { IsInOrder page.now }
-    ensures reply { IfOk result (λ reply. reply ≡ (if is_some (value_at key.now (map_by_now page.now changes.old)) then Deleted else Missing)) }
-    ensures changes { OnOk result (changes.new ≡ (if is_some (value_at key.now (map_by_now page.now changes.old)) then with_pair changes.old key.now None else changes.old)) }
+    ensures reply { IfOk result
+        (λ reply. reply ≡ (if is_some (value_at key.now (map_by_now page.now changes.old))
+        then Deleted else Missing)) }
+    ensures changes { OnOk result
+        (changes.new ≡ (if is_some (value_at key.now (map_by_now page.now changes.old))
+        then with_pair changes.old key.now None else changes.old)) }
 {
     if changes.value_now(page, key).is_none() {
         return Ok(Reply::Missing);
@@ -194,7 +208,8 @@ fn scan(
 ) -> Result<RowList<Global>, AllocError>
     requires order { IsInOrder page.now }
     requires most { min (length (map_by_now page.now changes.now)) usize.MAX ≤ most }
-    ensures { IfOk result (λ list. list ≡ rows low.now end.now limit (map_by_now page.now changes.now)) }
+    ensures { IfOk result
+        (λ list. list ≡ rows low.now end.now limit (map_by_now page.now changes.now)) }
 {
     if most == 0 {
         return Ok(RowList::empty(alloc));
@@ -213,8 +228,10 @@ fn wipe(
 ) -> Result<Reply<Global>, AllocError>
     requires order { IsInOrder page.now }
     requires most { min (length (map_by_now page.now changes.old)) usize.MAX ≤ most }
-    ensures reply { IfOk result (λ reply. reply ≡ Wiped (length (in_range low.now end.now (map_by_now page.now changes.old)))) }
-    ensures changes { OnOk result (changes.new ≡ with_absent changes.old (keys_of (in_range low.now end.now (map_by_now page.now changes.old)))) }
+    ensures reply { IfOk result (λ reply. reply
+        ≡ Wiped (length (in_range low.now end.now (map_by_now page.now changes.old)))) }
+    ensures changes { OnOk result (changes.new ≡ with_absent changes.old
+        (keys_of (in_range low.now end.now (map_by_now page.now changes.old)))) }
 {
     if most == 0 {
         return Ok(Reply::Wiped(0));

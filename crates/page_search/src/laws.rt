@@ -24,6 +24,6 @@ pub fn a_search_is_by_halves()
 
 /// Of rising keys, just those that stand before a key's count are below the key.
 pub fn keys_below_stand_first()
-    ensures { (k : Bytes) (ks : List Bytes) (at : ℕ) (j : Bytes) → AreRisingKeys ks → slice_get ks at ≡ Some j →
-        ((order j k ≡ Less) ↔ (at < count_below k ks)) }
+    ensures { (k : Bytes) (ks : List Bytes) (at : ℕ) (j : Bytes) → AreRisingKeys ks →
+        slice_get ks at ≡ Some j → ((order j k ≡ Less) ↔ (at < count_below k ks)) }
 {}

@@ -27,7 +27,8 @@ pub fn floor<'a, V, A: Allocator + Copy>(
     key: &[u8],
     probes: &mut Probes,
 ) -> Option<(&'a [u8], &'a V)>
-    ensures value { option_map (λ e. (e.0.now, e.1.now)) result ≡ floor key.now (entries_of chain.now) }
+    ensures value { option_map (λ e. (e.0.now, e.1.now)) result
+        ≡ floor key.now (entries_of chain.now) }
     ensures cost { probes.new ≤ probes.old + floor_most key.now chain.now }
     ensures one_walk { (e : Bytes × V) →
         IsNearest UpTo key.now (named_by chain.now) (Some (e.0, Some e.1)) →
@@ -48,7 +49,8 @@ pub fn above<'a, V, A: Allocator + Copy>(
     key: &[u8],
     probes: &mut Probes,
 ) -> Option<(&'a [u8], &'a V)>
-    ensures value { option_map (λ e. (e.0.now, e.1.now)) result ≡ above key.now (entries_of chain.now) }
+    ensures value { option_map (λ e. (e.0.now, e.1.now)) result
+        ≡ above key.now (entries_of chain.now) }
     ensures cost { probes.new ≤ probes.old + above_most key.now chain.now }
     ensures one_walk { (e : Bytes × V) →
         IsNearest Above key.now (named_by chain.now) (Some (e.0, Some e.1)) →
@@ -69,7 +71,8 @@ fn nearest<'a, V, A: Allocator + Copy>(
     probes: &mut Probes,
 ) -> Option<(&'a [u8], &'a V)>
     requires { IsInOrder lists.now }
-    ensures value { IsNearest side key.now (holds lists.now) (option_map (λ e. (e.0.now, e.1.now)) result) }
+    ensures value { IsNearest side key.now (holds lists.now)
+        (option_map (λ e. (e.0.now, e.1.now)) result) }
     ensures cost { probes.new ≤ probes.old +
         nearest_most side key.now (option_map (λ e. (e.0.now, e.1.now)) result) lists.now }
     ensures one_walk { (e : Bytes × V) →
@@ -98,7 +101,8 @@ fn nearest_named<'a, V, A: Allocator + Copy>(
     side: Side,
     probes: &mut Probes,
 ) -> Option<(KeyRef<'a>, Option<&'a V>)>
-    ensures value { IsNearest side key.now (λ i. named_under i lists.now.runs lists.now.base) (option_map (λ e. (e.0, option_copied e.1)) result) }
+    ensures value { IsNearest side key.now (λ i. named_under i lists.now.runs lists.now.base)
+        (option_map (λ e. (e.0, option_copied e.1)) result) }
     ensures cost { probes.new ≤ probes.old + walk_most lists.now }
     ensures least { min (probes.old + walk_least key.now lists.now) u64.MAX ≤ probes.new }
     ensures kept { probes.old ≤ probes.new }
@@ -121,12 +125,13 @@ fn nearest_named<'a, V, A: Allocator + Copy>(
 
 // The place of the list's nearest key on this side.
 fn nearest_place<L: KeyList>(list: &L, key: &[u8], side: Side, probes: &mut Probes) -> Option<usize>
-    ensures place { MatchOption result (HasNoneOn side key.now (L.keys list.now)) (IsNearestPlace side key.now (L.keys list.now)) }
+    ensures place { MatchOption result (HasNoneOn side key.now (L.keys list.now))
+        (IsNearestPlace side key.now (L.keys list.now)) }
     ensures rising { AreRisingKeys (L.keys list.now) }
     ensures cost { probes.new ≤ probes.old + binary_digits (length (L.keys list.now)) }
-    ensures least { min
-        (probes.old + fewest_among (is_key_among key.now (L.keys list.now)) (length (L.keys list.now)))
-        u64.MAX ≤ probes.new }
+    ensures least { min (probes.old
+        + fewest_among (is_key_among key.now (L.keys list.now)) (length (L.keys list.now))) u64.MAX
+        ≤ probes.new }
     ensures kept { probes.old ≤ probes.new }
 {
     let count = list.len();
@@ -143,9 +148,9 @@ fn nearest_place<L: KeyList>(list: &L, key: &[u8], side: Side, probes: &mut Prob
 fn parting<L: KeyList>(list: &L, key: &[u8], side: Side, probes: &mut Probes) -> usize
     ensures place { Parts side key.now (L.keys list.now) result }
     ensures cost { probes.new ≤ probes.old + binary_digits (length (L.keys list.now)) }
-    ensures least { min
-        (probes.old + fewest_among (is_key_among key.now (L.keys list.now)) (length (L.keys list.now)))
-        u64.MAX ≤ probes.new }
+    ensures least { min (probes.old
+        + fewest_among (is_key_among key.now (L.keys list.now)) (length (L.keys list.now))) u64.MAX
+        ≤ probes.new }
     ensures kept { probes.old ≤ probes.new }
 {
     // The length is looked up for what it bounds: a place among the keys is below it.

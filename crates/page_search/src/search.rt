@@ -20,7 +20,9 @@ use std::cmp::Ordering;
 pub fn lower<V, A: Allocator + Copy>(base: &Base<V, A>, key: &[u8], probes: &mut Probes) -> usize
     ensures place { result ≡ count_below key.now (keys_of base.now) }
     ensures cost { probes.new ≤ probes.old + binary_digits (length base.now) }
-    ensures least { min (probes.old + fewest_among (is_some (value_at key.now base.now)) (length base.now)) u64.MAX ≤ probes.new }
+    ensures least { min
+        (probes.old + fewest_among (is_some (value_at key.now base.now)) (length base.now)) u64.MAX
+        ≤ probes.new }
     ensures kept { probes.old ≤ probes.new }
 {
     match place(base, key, probes) {
@@ -73,7 +75,9 @@ fn find_in_base<'a, V, A: Allocator + Copy>(
 ) -> Option<&'a V>
     ensures value { option_copied result ≡ value_at key.now base.now }
     ensures cost { probes.new ≤ probes.old + binary_digits (length base.now) }
-    ensures least { min (probes.old + fewest_among (is_some (value_at key.now base.now)) (length base.now)) u64.MAX ≤ probes.new }
+    ensures least { min
+        (probes.old + fewest_among (is_some (value_at key.now base.now)) (length base.now)) u64.MAX
+        ≤ probes.new }
     ensures kept { probes.old ≤ probes.new }
 {
     match place(base, key, probes) {
@@ -85,10 +89,14 @@ fn find_in_base<'a, V, A: Allocator + Copy>(
 /// `Ok` is the place where the key is, `Err` the place where it would go. Each comparison at least halves what is
 /// left, and one that meets the key ends the search, so no further test for equality is needed.
 pub fn place<L: KeyList>(list: &L, key: &[u8], probes: &mut Probes) -> Result<usize, usize>
-    ensures place { MatchResult result (λ at. slice_get (L.keys list.now) at ≡ Some key.now) (KeyGoesTo key.now (L.keys list.now)) }
+    ensures place { MatchResult result
+        (λ at. slice_get (L.keys list.now) at ≡ Some key.now)
+        (KeyGoesTo key.now (L.keys list.now)) }
     ensures rising { AreRisingKeys (L.keys list.now) }
     ensures cost { probes.new ≤ probes.old + binary_digits (length (L.keys list.now)) }
-    ensures least { min (probes.old + fewest_among (is_ok result) (length (L.keys list.now))) u64.MAX ≤ probes.new }
+    ensures least { min
+        (probes.old + fewest_among (is_ok result) (length (L.keys list.now))) u64.MAX
+        ≤ probes.new }
     ensures kept { probes.old ≤ probes.new }
 {
     let key = KeyRef::new(key);

@@ -42,7 +42,10 @@ fn put_last(
     page: Page<Global>,
 ) -> Result<(), AllocError>
     requires { AllByRecursion (λ n. n < pid) (keys_of table.old.places) }
-    ensures { OnOk result (table.new ≡ record { places = table.old.places ++ (pid, Some page) ∷ []; logged = table.old.logged }) }
+    ensures { OnOk result (table.new ≡ record {
+      places = table.old.places ++ (pid, Some page) ∷ [];
+      logged = table.old.logged;
+    }) }
 {
     table.room(pid.0)?;
     table.put(pid.0, page);
@@ -81,7 +84,8 @@ fn build_pages(
     logs: Vec<PageLog>,
 ) -> Result<(), Fault>
     requires { AreRisingPids (keys_of table.old.places ++ log_pids (map held_log logs.items)) }
-    ensures ok { OnOk result (table.new ≡ filled table.old (pages_told work.now.format (map held_log logs.items))) }
+    ensures ok { OnOk result
+        (table.new ≡ filled table.old (pages_told work.now.format (map held_log logs.items))) }
     ensures err { IfErr result (λ fault. fault ≡ NoMemory) }
 {
     match run_round(rt, crew, &NoGate, work, logs) {
@@ -101,7 +105,10 @@ fn table_of(
     by_pid: BTreeMap<u64, Kept, Global>,
 ) -> Result<Table<Page<Global>, Global>, Fault>
     ensures ok { IfOk result (λ table.
-        table ≡ record { places = in_places (pages_told work.now.format (map log_under by_pid.entries)); logged = [] }) }
+        table ≡ record {
+          places = in_places (pages_told work.now.format (map log_under by_pid.entries));
+          logged = [];
+        }) }
     ensures err { IfErr result (λ fault. fault ≡ NoMemory) }
     ensures ordered { IsStrictlySortedBy nat_cmp (keys_of by_pid.entries) }
 {
@@ -140,10 +147,13 @@ pub(crate) fn checked_tree(
     gathering: Gathering,
 ) -> Result<Tree<Global>, Fault>
     requires { first_bad_field format.now.settings ≡ None }
-    ensures ok { (found : List Found) → AreGathered format.now Every gathering found → IfOk result (λ tree.
-        (wrong_in format.now.settings slot.now (frames_in found) ≡ None) × (tree_of tree ≡ tree_by_log slot.now (frames_in found)) × AreAllHome tree) }
-    ensures err { (found : List Found) → AreGathered format.now Every gathering found → IfErr result (λ fault. (fault ≡ NoMemory) ⊎
-        ((f : Finding) × (wrong_in format.now.settings slot.now (frames_in found) ≡ Some f) × (fault ≡ BadStructure f))) }
+    ensures ok { (found : List Found) → AreGathered format.now Every gathering found →
+        IfOk result (λ tree. (wrong_in format.now.settings slot.now (frames_in found) ≡ None)
+        × (tree_of tree ≡ tree_by_log slot.now (frames_in found)) × AreAllHome tree) }
+    ensures err { (found : List Found) → AreGathered format.now Every gathering found →
+        IfErr result (λ fault. (fault ≡ NoMemory) ⊎
+        ((f : Finding) × (wrong_in format.now.settings slot.now (frames_in found) ≡ Some f)
+        × (fault ≡ BadStructure f))) }
 {
     if let Some(finding) = gathering.unfit() {
         return Err(Fault::BadStructure(finding));

@@ -167,7 +167,8 @@ impl Gathering {
 
     /// Adds the next frame of the log, which stands in this segment. After an `Err` what is kept of its page may be lost.
     pub fn add(&mut self, segment: u64, frame: ScannedFrame<'_>) -> Result<(), AllocError>
-        ensures { (w : declared.Wanted) (found : List Found) (f : Found) → said_of_frame f ≡ held_frame segment frame.entry → AreLive w self.old found →
+        ensures { (w : declared.Wanted) (found : List Found) (f : Found) →
+            said_of_frame f ≡ held_frame segment frame.entry → AreLive w self.old found →
             OnOk result (AreLive w self.new (found ++ f ∷ [])) }
     {
         let ScannedFrame { pid, kind, bytes } = frame;
@@ -192,7 +193,8 @@ impl Gathering {
 
     /// The first page whose frames fit no page, by the least page id.
     pub fn unfit(&self) -> Option<Finding>
-        ensures { (w : declared.Wanted) (found : List Found) → AreLive w self.now found → result ≡ broken_in (frames_in found) }
+        ensures { (w : declared.Wanted) (found : List Found) → AreLive w self.now found →
+            result ≡ broken_in (frames_in found) }
     {
         for entry in self.by_pid.iter() {
             let (pid, kept) = entry;

@@ -64,16 +64,21 @@ fn read_whole<'b, D: Disk>(
     requires within { disk_size format.now.settings ≤ (D.view disk.old).size }
     requires numbers { first + count < 2 ^ 64 }
     requires whole { length buf.old ≡ count * format.now.settings.seg_size }
-    ensures read { (file : Bytes) (head : ℕ) → IsReadOf (D.view disk.old) file → head ≤ first → first + count ≤ head + format.now.settings.segments →
-        (now : Bytes) × IsReadOf (D.view disk.new) now × (take segments_begin now ≡ take segments_begin file) × IfOk result (λ segments.
-        scanned_behind format.now (earlier_segments format.now file head (first - head)) (map held_segment segments.items)
+    ensures read { (file : Bytes) (head : ℕ) → IsReadOf (D.view disk.old) file → head ≤ first →
+        first + count ≤ head + format.now.settings.segments →
+        (now : Bytes) × IsReadOf (D.view disk.new) now
+        × (take segments_begin now ≡ take segments_begin file)
+        × IfOk result (λ segments. scanned_behind format.now
+        (earlier_segments format.now file head (first - head)) (map held_segment segments.items)
         ≡ earlier_segments format.now now head (first + count - head)) }
-    ensures short { IfOk result (λ segments. All (λ g. length (held_segment g).bytes < 2 ^ 32) segments.items) }
+    ensures short { IfOk result
+        (λ segments. All (λ g. length (held_segment g).bytes < 2 ^ 32) segments.items) }
     ensures err { IfErr result (IsLate (D.failed disk.old) (D.failed disk.new)) }
     ensures kept { Kept (D.view disk.old) (D.view disk.new) }
     ensures same { IsTrue (D.view disk.old).is_honest → Same (D.view disk.old) (D.view disk.new) }
     ensures counted { OnOk result (D.failed disk.new ≡ D.failed disk.old) }
-    ensures uncounted { IfErr result (λ fault. fault ≢ Device → D.failed disk.new ≡ D.failed disk.old) }
+    ensures uncounted { IfErr result
+        (λ fault. fault ≢ Device → D.failed disk.new ≡ D.failed disk.old) }
 {
     let mut segments = Vec::with_capacity(alloc, count)?;
     let mut rest = buf;
@@ -103,15 +108,20 @@ fn read_last<'b, D: Disk>(
     requires ends { AreEnds format.now.settings ends.now }
     requires room { format.now.settings.seg_size ≤ length buf.old }
     ensures read { (file : Bytes) → IsReadOf (D.view disk.old) file →
-        (now : Bytes) × IsReadOf (D.view disk.new) now × (take segments_begin now ≡ take segments_begin file) × IfOk result (λ segments.
-        scanned_behind format.now (earlier_segments format.now file ends.now.head (last_segment format.now.settings ends.now.tail - ends.now.head))
-        (map held_segment segments.items) ≡ log_between format.now now ends.now.head ends.now.tail) }
-    ensures short { IfOk result (λ segments. All (λ g. length (held_segment g).bytes < 2 ^ 32) segments.items) }
+        (now : Bytes) × IsReadOf (D.view disk.new) now
+        × (take segments_begin now ≡ take segments_begin file)
+        × IfOk result (λ segments. scanned_behind format.now (earlier_segments format.now file
+        ends.now.head (last_segment format.now.settings ends.now.tail - ends.now.head))
+        (map held_segment segments.items)
+        ≡ log_between format.now now ends.now.head ends.now.tail) }
+    ensures short { IfOk result
+        (λ segments. All (λ g. length (held_segment g).bytes < 2 ^ 32) segments.items) }
     ensures err { IfErr result (IsLate (D.failed disk.old) (D.failed disk.new)) }
     ensures kept { Kept (D.view disk.old) (D.view disk.new) }
     ensures same { IsTrue (D.view disk.old).is_honest → Same (D.view disk.old) (D.view disk.new) }
     ensures counted { OnOk result (D.failed disk.new ≡ D.failed disk.old) }
-    ensures uncounted { IfErr result (λ fault. fault ≢ Device → D.failed disk.new ≡ D.failed disk.old) }
+    ensures uncounted { IfErr result
+        (λ fault. fault ≢ Device → D.failed disk.new ≡ D.failed disk.old) }
 {
     let number = last_segment(&format.settings, ends.tail);
     let bytes = &mut buf[..bytes_in_use(format, ends)];
@@ -139,15 +149,19 @@ fn read_earlier<D: Disk>(
     requires within { disk_size format.now.settings ≤ (D.view disk.old).size }
     requires ends { AreEnds format.now.settings ends.now }
     requires room { format.now.settings.seg_size ≤ length buffer.old.items }
-    ensures read { (w : declared.Wanted) (file : Bytes) → IsReadOf (D.view disk.old) file → IsSoFar w so_far.old.gathering so_far.old.fault (Ok []) →
-        (now : Bytes) × IsReadOf (D.view disk.new) now × (take segments_begin now ≡ take segments_begin file)
-        × OnOk result (IsSoFar w so_far.new.gathering so_far.new.fault (earlier_segments format.now now ends.now.head (last_segment format.now.settings ends.now.tail - ends.now.head))) }
+    ensures read { (w : declared.Wanted) (file : Bytes) → IsReadOf (D.view disk.old) file →
+        IsSoFar w so_far.old.gathering so_far.old.fault (Ok []) →
+        (now : Bytes) × IsReadOf (D.view disk.new) now
+        × (take segments_begin now ≡ take segments_begin file)
+        × OnOk result (IsSoFar w so_far.new.gathering so_far.new.fault (earlier_segments format.now
+        now ends.now.head (last_segment format.now.settings ends.now.tail - ends.now.head))) }
     ensures room { length buffer.new.items ≡ length buffer.old.items }
     ensures err { IfErr result (IsLate (D.failed disk.old) (D.failed disk.new)) }
     ensures kept { Kept (D.view disk.old) (D.view disk.new) }
     ensures same { IsTrue (D.view disk.old).is_honest → Same (D.view disk.old) (D.view disk.new) }
     ensures counted { OnOk result (D.failed disk.new ≡ D.failed disk.old) }
-    ensures uncounted { IfErr result (λ fault. fault ≢ Device → D.failed disk.new ≡ D.failed disk.old) }
+    ensures uncounted { IfErr result
+        (λ fault. fault ≢ Device → D.failed disk.new ≡ D.failed disk.old) }
 {
     let alloc = *buffer.allocator();
     let size = format.settings.seg_size as usize;
@@ -178,14 +192,18 @@ fn read_segments<D: Disk>(
     requires within { disk_size format.now.settings ≤ (D.view disk.old).size }
     requires ends { AreEnds format.now.settings ends.now }
     requires room { format.now.settings.seg_size ≤ length buffer.old.items }
-    ensures read { (w : declared.Wanted) (file : Bytes) → IsReadOf (D.view disk.old) file → IsSoFar w so_far.old.gathering so_far.old.fault (Ok []) →
-        (now : Bytes) × IsReadOf (D.view disk.new) now × (take segments_begin now ≡ take segments_begin file)
-        × OnOk result (IsSoFar w so_far.new.gathering so_far.new.fault (log_between format.now now ends.now.head ends.now.tail)) }
+    ensures read { (w : declared.Wanted) (file : Bytes) → IsReadOf (D.view disk.old) file →
+        IsSoFar w so_far.old.gathering so_far.old.fault (Ok []) →
+        (now : Bytes) × IsReadOf (D.view disk.new) now
+        × (take segments_begin now ≡ take segments_begin file)
+        × OnOk result (IsSoFar w so_far.new.gathering so_far.new.fault
+        (log_between format.now now ends.now.head ends.now.tail)) }
     ensures err { IfErr result (IsLate (D.failed disk.old) (D.failed disk.new)) }
     ensures kept { Kept (D.view disk.old) (D.view disk.new) }
     ensures same { IsTrue (D.view disk.old).is_honest → Same (D.view disk.old) (D.view disk.new) }
     ensures counted { OnOk result (D.failed disk.new ≡ D.failed disk.old) }
-    ensures uncounted { IfErr result (λ fault. fault ≢ Device → D.failed disk.new ≡ D.failed disk.old) }
+    ensures uncounted { IfErr result
+        (λ fault. fault ≢ Device → D.failed disk.new ≡ D.failed disk.old) }
 {
     let alloc = *buffer.allocator();
     read_earlier(rt, crew, disk, format, ends, buffer, so_far)?;
@@ -214,13 +232,19 @@ pub fn read_log<D: Disk>(
     requires ends { AreEnds format.now.settings ends.now }
     // Of bytes that were read, which are those from before in front of the segments, and on an honest disk what a read gives.
     ensures read { (file : Bytes) → IsReadOf (D.view disk.old) file →
-        (now : Bytes) × IsReadOf (D.view disk.new) now × (take segments_begin now ≡ take segments_begin file) × MatchResult result
-        (λ g. (found : List Found) × (log_between format.now now ends.now.head ends.now.tail ≡ Ok found) × AreGathered format.now wanted g found)
-        (λ fault. (log_between format.now now ends.now.head ends.now.tail ≡ Err fault) ⊎ IsLate (D.failed disk.old) (D.failed disk.new) fault) }
+        (now : Bytes) × IsReadOf (D.view disk.new) now
+        × (take segments_begin now ≡ take segments_begin file)
+        × MatchResult result
+        (λ g. (found : List Found) ×
+        (log_between format.now now ends.now.head ends.now.tail ≡ Ok found)
+        × AreGathered format.now wanted g found)
+        (λ fault. (log_between format.now now ends.now.head ends.now.tail ≡ Err fault)
+        ⊎ IsLate (D.failed disk.old) (D.failed disk.new) fault) }
     ensures kept { Kept (D.view disk.old) (D.view disk.new) }
     ensures same { IsTrue (D.view disk.old).is_honest → Same (D.view disk.old) (D.view disk.new) }
     ensures counted { OnOk result (D.failed disk.new ≡ D.failed disk.old) }
-    ensures uncounted { IfErr result (λ fault. fault ≢ Device → D.failed disk.new ≡ D.failed disk.old) }
+    ensures uncounted { IfErr result
+        (λ fault. fault ≢ Device → D.failed disk.new ≡ D.failed disk.old) }
 {
     let mut so_far = LogSoFar::new(alloc, wanted);
     let at_once = segments_at_once(format, ends);

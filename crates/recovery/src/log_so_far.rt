@@ -33,7 +33,8 @@ fn add_all(
     number: u64,
     frames: Vec<ScannedFrame<'_>>,
 ) -> Result<(), Fault>
-    ensures ok { (w : declared.Wanted) (found more : List Found) → map said_of_frame more ≡ map (held_frame number) frames.entry.items →
+    ensures ok { (w : declared.Wanted) (found more : List Found) →
+        map said_of_frame more ≡ map (held_frame number) frames.entry.items →
         AreLive w gathering.old found → OnOk result (AreLive w gathering.new (found ++ more)) }
     ensures err { IfErr result (λ fault. fault ≡ NoMemory) }
 {
@@ -57,8 +58,11 @@ impl LogSoFar {
 
     /// The frames, or the first fault.
     pub(crate) fn into_gathering(self) -> Result<Gathering, Fault>
-        ensures { (w : declared.Wanted) (told : Result (List Found) faults.Fault) → IsSoFar w self.gathering self.fault told → MatchResult result
-            (λ g. (found : List Found) × (told ≡ Ok found) × AreLive w g found) (λ fault. told ≡ Err fault) }
+        ensures { (w : declared.Wanted) (told : Result (List Found) faults.Fault) →
+            IsSoFar w self.gathering self.fault told →
+            MatchResult result
+            (λ g. (found : List Found) × (told ≡ Ok found) × AreLive w g found)
+            (λ fault. told ≡ Err fault) }
     {
         let LogSoFar {
             alloc: _alloc,
@@ -74,8 +78,10 @@ impl LogSoFar {
     // Takes what scans of segments gave, in their order, up to the first fault.
     fn gather(&mut self, scans: Vec<ScanDone<'_>>) -> Result<(), Fault>
         requires { self.old.fault ≡ None }
-        ensures ok { (w : declared.Wanted) (told : Result (List Found) faults.Fault) (read : List (Result (List Found) faults.Fault)) →
-            map said_of read ≡ map said_by_scan scans.entry.items → IsSoFar w self.old.gathering self.old.fault told →
+        ensures ok { (w : declared.Wanted) (told : Result (List Found) faults.Fault)
+            (read : List (Result (List Found) faults.Fault)) →
+            map said_of read ≡ map said_by_scan scans.entry.items →
+            IsSoFar w self.old.gathering self.old.fault told →
             OnOk result (IsSoFar w self.new.gathering self.new.fault (fold followed_by told read)) }
         ensures err { IfErr result (λ fault. fault ≡ NoMemory) }
     {
@@ -103,8 +109,10 @@ impl LogSoFar {
     ) -> Result<(), Fault>
         requires sync { IsSync R.row }
         requires short { All (λ g. length (held_segment g).bytes < 2 ^ 32) segments.items }
-        ensures ok { (w : declared.Wanted) (told : Result (List Found) faults.Fault) → IsSoFar w self.old.gathering self.old.fault told →
-            OnOk result (IsSoFar w self.new.gathering self.new.fault (scanned_behind format.now told (map held_segment segments.entry.items))) }
+        ensures ok { (w : declared.Wanted) (told : Result (List Found) faults.Fault) →
+            IsSoFar w self.old.gathering self.old.fault told →
+            OnOk result (IsSoFar w self.new.gathering self.new.fault
+            (scanned_behind format.now told (map held_segment segments.entry.items))) }
         ensures err { IfErr result (λ fault. fault ≡ NoMemory) }
     {
         if self.fault.is_some() {

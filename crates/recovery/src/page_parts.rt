@@ -22,7 +22,8 @@ pub(crate) enum PageParts {
 impl PageParts {
     /// The page that a frame is by itself, where it is a base.
     pub(crate) fn of_base(frame: Frame) -> Option<Self>
-        ensures { MatchOption result (base_in (content_of frame) ≡ None) (λ page. base_in (content_of frame) ≡ Some (page_of_parts page)) }
+        ensures { MatchOption result (base_in (content_of frame) ≡ None)
+            (λ page. base_in (content_of frame) ≡ Some (page_of_parts page)) }
     {
         match frame {
             Frame::FullLeaf { low, base, .. } => Some(PageParts::Leaf(low, Chain::of_base(base))),

@@ -17,9 +17,11 @@ pub fn read<D: Disk>(disk: &mut D, at: u64, buf: &mut [u8]) -> Result<(), Fault>
     ensures kept { Kept (D.view disk.old) (D.view disk.new) }
     ensures same { IsTrue (D.view disk.old).is_honest → Same (D.view disk.old) (D.view disk.new) }
     ensures counted { OnOk result (D.failed disk.new ≡ D.failed disk.old) }
-    ensures uncounted { IfErr result (λ fault. fault ≢ Device → D.failed disk.new ≡ D.failed disk.old) }
+    ensures uncounted { IfErr result
+        (λ fault. fault ≢ Device → D.failed disk.new ≡ D.failed disk.old) }
     ensures device { IfErr result (IsLate (D.failed disk.old) (D.failed disk.new)) }
-    ensures stays { (file : Bytes) → IsReadOf (D.view disk.old) file → IsReadOf (D.view disk.new) file }
+    ensures stays { (file : Bytes) → IsReadOf (D.view disk.old) file →
+        IsReadOf (D.view disk.new) file }
     ensures bytes { (file : Bytes) → IsReadOf (D.view disk.old) file →
         OnOk result (IsReadOf (D.view disk.new) (overlay file at buf.new)) }
 {

@@ -20,7 +20,8 @@ const BLOCK_SIZE: usize = 64;
 
 // Decodes the settings block of a disk of this length, where the disk has room for the segments.
 fn settings_in(block: &[u8], len: u64) -> Result<Settings, Fault>
-    ensures read { (file : Bytes) → take settings_block_size file ≡ block.now → length file ≡ len → result ≡ store_settings file }
+    ensures read { (file : Bytes) → take settings_block_size file ≡ block.now → length file ≡ len →
+        result ≡ store_settings file }
     ensures good { IfOk result (λ s. (first_bad_field s ≡ None) × (disk_size s ≤ len)) }
 {
     let Some(settings) = read_block(block) else {
@@ -35,13 +36,18 @@ fn settings_in(block: &[u8], len: u64) -> Result<Settings, Fault>
 /// The settings of the store that the disk holds. A disk too short for its settings block, or for the segments that this calls
 /// for, has none: `Fault::NotAStore`. A read that fails is `Fault::Device`.
 pub(crate) fn read_settings<D: Disk>(disk: &mut D) -> Result<Settings, Fault>
-    ensures read { (file : Bytes) × IsReadOf (D.view disk.new) file × MatchResult result (λ s. store_settings file ≡ Ok s)
-        (λ fault. (store_settings file ≡ Err fault) ⊎ IsLate (D.failed disk.old) (D.failed disk.new) fault) }
-    ensures good { IfOk result (λ s. (first_bad_field s ≡ None) × (disk_size s ≤ (D.view disk.old).size)) }
+    ensures read { (file : Bytes) × IsReadOf (D.view disk.new) file
+        × MatchResult result
+        (λ s. store_settings file ≡ Ok s)
+        (λ fault. (store_settings file ≡ Err fault)
+        ⊎ IsLate (D.failed disk.old) (D.failed disk.new) fault) }
+    ensures good { IfOk result
+        (λ s. (first_bad_field s ≡ None) × (disk_size s ≤ (D.view disk.old).size)) }
     ensures kept { Kept (D.view disk.old) (D.view disk.new) }
     ensures same { IsTrue (D.view disk.old).is_honest → Same (D.view disk.old) (D.view disk.new) }
     ensures counted { OnOk result (D.failed disk.new ≡ D.failed disk.old) }
-    ensures uncounted { IfErr result (λ fault. fault ≢ Device → D.failed disk.new ≡ D.failed disk.old) }
+    ensures uncounted { IfErr result
+        (λ fault. fault ≢ Device → D.failed disk.new ≡ D.failed disk.old) }
 {
     let len = disk.len();
     if len < BLOCK_SIZE as u64 {
@@ -56,7 +62,8 @@ pub(crate) fn read_settings<D: Disk>(disk: &mut D) -> Result<Settings, Fault>
 fn slot_in(settings: &Settings, slots: &[u8]) -> Result<Slot, Fault>
     requires checked { first_bad_field settings.now ≡ None }
     requires length { length slots.now ≡ 128 }
-    ensures read { (disk : Bytes) → take 128 (drop slots_begin disk) ≡ slots.now → result ≡ store_slot settings.now disk }
+    ensures read { (disk : Bytes) → take 128 (drop slots_begin disk) ≡ slots.now →
+        result ≡ store_slot settings.now disk }
     ensures slot { IfOk result (λ t. is_slot settings.now t.sequence t ≡ true) }
 {
     let first = read_slot(settings, 0, &slots[..SLOT_SIZE]);
@@ -69,15 +76,19 @@ fn slot_in(settings: &Settings, slots: &[u8]) -> Result<Slot, Fault>
 pub(crate) fn read_store_slot<D: Disk>(disk: &mut D, settings: &Settings) -> Result<Slot, Fault>
     requires checked { first_bad_field settings.now ≡ None }
     requires within { disk_size settings.now ≤ (D.view disk.old).size }
-    ensures read { (file : Bytes) → IsReadOf (D.view disk.old) file → store_settings file ≡ Ok settings.now →
-        (now : Bytes) × IsReadOf (D.view disk.new) now × (store_settings now ≡ Ok settings.now) × MatchResult result
+    ensures read { (file : Bytes) → IsReadOf (D.view disk.old) file →
+        store_settings file ≡ Ok settings.now →
+        (now : Bytes) × IsReadOf (D.view disk.new) now × (store_settings now ≡ Ok settings.now)
+        × MatchResult result
         (λ t. store_slot settings.now now ≡ Ok t)
-        (λ fault. (store_slot settings.now now ≡ Err fault) ⊎ IsLate (D.failed disk.old) (D.failed disk.new) fault) }
+        (λ fault. (store_slot settings.now now ≡ Err fault)
+        ⊎ IsLate (D.failed disk.old) (D.failed disk.new) fault) }
     ensures slot { IfOk result (λ t. is_slot settings.now t.sequence t ≡ true) }
     ensures kept { Kept (D.view disk.old) (D.view disk.new) }
     ensures same { IsTrue (D.view disk.old).is_honest → Same (D.view disk.old) (D.view disk.new) }
     ensures counted { OnOk result (D.failed disk.new ≡ D.failed disk.old) }
-    ensures uncounted { IfErr result (λ fault. fault ≢ Device → D.failed disk.new ≡ D.failed disk.old) }
+    ensures uncounted { IfErr result
+        (λ fault. fault ≢ Device → D.failed disk.new ≡ D.failed disk.old) }
 {
     let mut slots = [0; 2 * SLOT_SIZE];
     read(disk, SLOTS_BEGIN, &mut slots)?;

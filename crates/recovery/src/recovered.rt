@@ -46,13 +46,17 @@ fn read_parts<D: Disk>(
     alloc: Global,
     disk: &mut D,
 ) -> Result<LogRead, Fault>
-    ensures read { (file : Bytes) × IsReadOf (D.view disk.old) file × MatchResult result (λ read. IsLogRead read file)
-        (λ fault. (store_of_disk file ≡ Err fault) ⊎ IsLate (D.failed disk.old) (D.failed disk.new) fault) }
+    ensures read { (file : Bytes) × IsReadOf (D.view disk.old) file
+        × MatchResult result
+        (λ read. IsLogRead read file)
+        (λ fault. (store_of_disk file ≡ Err fault)
+        ⊎ IsLate (D.failed disk.old) (D.failed disk.new) fault) }
     ensures good { IfOk result (λ read. first_bad_field read.format.settings ≡ None) }
     ensures same { IsTrue (D.view disk.old).is_honest → Same (D.view disk.old) (D.view disk.new) }
     ensures kept { Kept (D.view disk.old) (D.view disk.new) }
     ensures counted { OnOk result (D.failed disk.new ≡ D.failed disk.old) }
-    ensures uncounted { IfErr result (λ fault. fault ≢ Device → D.failed disk.new ≡ D.failed disk.old) }
+    ensures uncounted { IfErr result
+        (λ fault. fault ≢ Device → D.failed disk.new ≡ D.failed disk.old) }
 {
     let settings = read_settings(disk)?;
     let slot = read_store_slot(disk, &settings)?;
@@ -83,14 +87,18 @@ pub fn recover<D: Disk>(
     disk: &mut D,
 ) -> Result<Recovered, Fault>
     // Of what was read, which on an honest disk is what a read gives: its store, or exactly its fault, or a late one.
-    ensures read { (file : Bytes) × IsReadOf (D.view disk.old) file × MatchResult result
-        (λ found. (store_of_disk file ≡ Ok (found.settings, store_recovered found)) × AreAllHome found.tree)
-        (λ fault. (store_of_disk file ≡ Err fault) ⊎ IsLate (D.failed disk.old) (D.failed disk.new) fault) }
+    ensures read { (file : Bytes) × IsReadOf (D.view disk.old) file
+        × MatchResult result
+        (λ found. (store_of_disk file ≡ Ok (found.settings, store_recovered found))
+        × AreAllHome found.tree)
+        (λ fault. (store_of_disk file ≡ Err fault)
+        ⊎ IsLate (D.failed disk.old) (D.failed disk.new) fault) }
     // No byte changed, and nothing of what a crash may leave.
     ensures same { IsTrue (D.view disk.old).is_honest → Same (D.view disk.old) (D.view disk.new) }
     ensures kept { Kept (D.view disk.old) (D.view disk.new) }
     ensures counted { OnOk result (D.failed disk.new ≡ D.failed disk.old) }
-    ensures uncounted { IfErr result (λ fault. fault ≢ Device → D.failed disk.new ≡ D.failed disk.old) }
+    ensures uncounted { IfErr result
+        (λ fault. fault ≢ Device → D.failed disk.new ≡ D.failed disk.old) }
 {
     let LogRead {
         format,

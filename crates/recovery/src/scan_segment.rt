@@ -70,9 +70,10 @@ pub fn scan_segment<'a>(
     segment: Segment<'a>,
 ) -> Result<Vec<ScannedFrame<'a>>, Fault>
     requires { length (held_segment segment).bytes < 2 ^ 32 }
-    ensures ok { IfOk result (λ frames.
-        said_of (scanned format.now (held_segment segment.entry)) ≡ Ok (map (held_frame segment.entry.number) frames.items)) }
-    ensures err { IfErr result (λ fault. (fault ≡ NoMemory) ⊎ (scanned format.now (held_segment segment.entry) ≡ Err fault)) }
+    ensures ok { IfOk result (λ frames. said_of (scanned format.now (held_segment segment.entry))
+        ≡ Ok (map (held_frame segment.entry.number) frames.items)) }
+    ensures err { IfErr result (λ fault. (fault ≡ NoMemory)
+        ⊎ (scanned format.now (held_segment segment.entry) ≡ Err fault)) }
 {
     let Segment { number, end, bytes } = segment;
     let header = segment_header(number);

@@ -15,13 +15,18 @@ ghost use Rattle.flush_log.specs.FlushText.{spelling_of, lacking, pids_to_write,
 /// While all pages are at home, a flush goes over the pids that the table knows. Its text is empty just where the log lacks nothing
 /// of any of them.
 pub fn a_flush_goes_over_the_pids_that_the_table_knows()
-    ensures pids { (t : TreeInMemory) → AreAllHome t → pids_to_write (tree_of t) ≡ pids_in_use_or_old t.table }
-    ensures nothing { (version : Version) (t : Tree) → (flush_text version t ≡ []) ↔
-        AllByRecursion (λ pid. lacking (spelling_of version) (page_at t.pages pid) (logged_of t pid) ≡ []) (pids_to_write t) }
+    ensures pids { (t : TreeInMemory) → AreAllHome t →
+        pids_to_write (tree_of t) ≡ pids_in_use_or_old t.table }
+    ensures nothing { (version : Version) (t : Tree) →
+        (flush_text version t ≡ []) ↔
+        AllByRecursion (λ pid. lacking (spelling_of version) (page_at t.pages pid) (logged_of t pid)
+        ≡ []) (pids_to_write t) }
 {}
 
 /// A table that is marked as written holds the tree that a flush leaves.
 pub fn a_table_marked_as_written_holds_the_flushed_tree()
-    ensures { (s : Settings) (t : TreeInMemory) → first_bad_field s ≡ None → IsProper s (tree_of t) →
-        tree_of (record { table = marked_as_written t.table; root = t.root; height = t.height }) ≡ flushed (tree_of t) }
+    ensures { (s : Settings) (t : TreeInMemory) → first_bad_field s ≡ None →
+        IsProper s (tree_of t) →
+        tree_of (record { table = marked_as_written t.table; root = t.root; height = t.height })
+        ≡ flushed (tree_of t) }
 {}

@@ -16,26 +16,40 @@ use std::alloc::Allocator;
 /// The blanks of a batch with all answers added are the replies: as many as commands, and at each place the reply there. Pieces
 /// that are added page by page are added one after the other.
 pub fn blanks_with_all_answers_are_the_replies<A: Allocator>()
-    ensures count { (cs : List (Command A)) (ps : List (Piece A)) → length (with_pieces cs ps (map blank_of cs)) ≡ length cs }
-    ensures replies { (cs : List (Command A)) (ps : List (Piece A)) → AreAnswers cs ps → (place : ℕ) → slice_get (with_pieces cs ps (map blank_of cs)) place ≡ reply_at cs ps place }
-    ensures pages { (cs : List (Command A)) (ps qs : List (Piece A)) (rs : List (Reply A)) → with_pieces cs (ps ++ qs) rs ≡ with_pieces cs qs (with_pieces cs ps rs) }
+    ensures count { (cs : List (Command A)) (ps : List (Piece A)) →
+        length (with_pieces cs ps (map blank_of cs)) ≡ length cs }
+    ensures replies { (cs : List (Command A)) (ps : List (Piece A)) → AreAnswers cs ps →
+        (place : ℕ) → slice_get (with_pieces cs ps (map blank_of cs)) place ≡ reply_at cs ps place }
+    ensures pages { (cs : List (Command A)) (ps qs : List (Piece A)) (rs : List (Reply A)) →
+        with_pieces cs (ps ++ qs) rs ≡ with_pieces cs qs (with_pieces cs ps rs) }
 {}
 
 /// The reply at the place of a command on one key is that of the place's piece. A scan's is the rows of its pieces, each piece after
 /// the one before it, and of these the first up to the limit; a wipe's is the sum of its pieces' counts, as far as a reply can have
 /// it. A list of as many replies as commands in which all these stand at their places is the list of the replies.
 pub fn each_piece_has_the_reply_at_its_place<A: Allocator>()
-    ensures here { (cs : List (Command A)) (ps : List (Piece A)) → AreAnswers cs ps → All (λ p. is_ranged_at cs p.place ≡ false → reply_at cs ps p.place ≡ Some p.reply) ps }
-    ensures scan { (cs : List (Command A)) (ps : List (Piece A)) (place : ℕ) (lo : Bytes) (hi : Option Bytes) (limit : ℕ) → slice_get cs place ≡ Some (Scan lo hi limit) →
-        reply_at cs ps place ≡ Some (Rows (take limit (flat_map (λ p. rows_of p.reply) (pieces_at ps place)))) }
-    ensures wipe { (cs : List (Command A)) (ps : List (Piece A)) (place : ℕ) (lo : Bytes) (hi : Option Bytes) → slice_get cs place ≡ Some (Wipe lo hi) →
-        reply_at cs ps place ≡ Some (Wiped (min (sum_by (λ p. count_of p.reply) (pieces_at ps place)) most_counted)) }
-    ensures determined { (cs : List (Command A)) (ps : List (Piece A)) (xs rs : List (Reply A)) → AreAnswers cs ps → ((place : ℕ) → slice_get xs place ≡ reply_at cs ps place) →
+    ensures here { (cs : List (Command A)) (ps : List (Piece A)) → AreAnswers cs ps →
+        All (λ p. is_ranged_at cs p.place ≡ false → reply_at cs ps p.place ≡ Some p.reply) ps }
+    ensures scan { (cs : List (Command A)) (ps : List (Piece A)) (place : ℕ) (lo : Bytes)
+        (hi : Option Bytes) (limit : ℕ) →
+        slice_get cs place ≡ Some (Scan lo hi limit) →
+        reply_at cs ps place
+        ≡ Some (Rows (take limit (flat_map (λ p. rows_of p.reply) (pieces_at ps place)))) }
+    ensures wipe { (cs : List (Command A)) (ps : List (Piece A)) (place : ℕ)
+        (lo : Bytes) (hi : Option Bytes) →
+        slice_get cs place ≡ Some (Wipe lo hi) →
+        reply_at cs ps place
+        ≡ Some (Wiped (min (sum_by (λ p. count_of p.reply) (pieces_at ps place)) most_counted)) }
+    ensures determined { (cs : List (Command A)) (ps : List (Piece A)) (xs rs : List (Reply A)) →
+        AreAnswers cs ps → ((place : ℕ) → slice_get xs place ≡ reply_at cs ps place) →
         length rs ≡ length cs →
         All (λ p. is_ranged_at cs p.place ≡ false → slice_get rs p.place ≡ Some p.reply) ps →
-        ((place : ℕ) (lo : Bytes) (hi : Option Bytes) (limit : ℕ) → slice_get cs place ≡ Some (Scan lo hi limit) →
-        slice_get rs place ≡ Some (Rows (take limit (flat_map (λ p. rows_of p.reply) (pieces_at ps place))))) →
+        ((place : ℕ) (lo : Bytes) (hi : Option Bytes) (limit : ℕ) →
+        slice_get cs place ≡ Some (Scan lo hi limit) →
+        slice_get rs place
+        ≡ Some (Rows (take limit (flat_map (λ p. rows_of p.reply) (pieces_at ps place))))) →
         ((place : ℕ) (lo : Bytes) (hi : Option Bytes) → slice_get cs place ≡ Some (Wipe lo hi) →
-        slice_get rs place ≡ Some (Wiped (min (sum_by (λ p. count_of p.reply) (pieces_at ps place)) most_counted))) →
+        slice_get rs place
+        ≡ Some (Wiped (min (sum_by (λ p. count_of p.reply) (pieces_at ps place)) most_counted))) →
         xs ≡ rs }
 {}

@@ -69,7 +69,8 @@ fn add_first(
 ) -> Result<(), AllocError>
     requires count { length replies.old ≡ length commands.now }
     requires within { All (IsPlaceOf commands.now) (option_to_list first) }
-    ensures { OnOk result (replies.new ≡ with_pieces commands.now (option_to_list first) replies.old) }
+    ensures { OnOk result
+        (replies.new ≡ with_pieces commands.now (option_to_list first) replies.old) }
 {
     match first {
         Some(piece) => {

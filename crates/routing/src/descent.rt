@@ -96,7 +96,8 @@ fn runs_below<R: Threads + Sync>(
     requires ready { CanGoDown (tree_of tree.now).pages batch.now levels (lent_shares shares.now) }
     requires keys { AreKeyedShares batch.now shares.now }
     ensures { IfOk result (λ runs. AreInBatchOrder
-        (shares_down (tree_of tree.now).pages batch.now levels (lent_shares shares.now)) runs.items) }
+        (shares_down (tree_of tree.now).pages batch.now levels (lent_shares shares.now))
+        runs.items) }
 {
     if workers > 1 && shares.len() >= LEAST_PAGES {
         let (low, high) = shares.split_at(shares.len() / 2);
@@ -125,22 +126,28 @@ fn runs_of_both<R: Threads + Sync>(
     requires workers { 1 < workers }
     requires home { AreAllHome tree.now }
     requires ranged { ranged ≡ list_any is_ranged batch.now }
-    requires low { CanGoDown (tree_of tree.now).pages batch.now levels (lent_shares low.now) × AreKeyedShares batch.now low.now }
-    requires high { CanGoDown (tree_of tree.now).pages batch.now levels (lent_shares high.now) × AreKeyedShares batch.now high.now }
-    ensures { IfOk result (λ runs. AreInBatchOrder
-        (shares_down (tree_of tree.now).pages batch.now levels (lent_shares low.now ++ lent_shares high.now)) runs.items) }
+    requires low { CanGoDown (tree_of tree.now).pages batch.now levels (lent_shares low.now)
+        × AreKeyedShares batch.now low.now }
+    requires high { CanGoDown (tree_of tree.now).pages batch.now levels (lent_shares high.now)
+        × AreKeyedShares batch.now high.now }
+    ensures { IfOk result (λ runs. AreInBatchOrder (shares_down (tree_of tree.now).pages
+        batch.now levels (lent_shares low.now ++ lent_shares high.now)) runs.items) }
 {
     let few = workers / 2;
     let others = workers - few;
     let front = || -> Result<Vec<PageRun>, AllocError>
-        requires { IsSync R.row × AreAllHome tree.now × (ranged ≡ list_any is_ranged batch.now) × CanGoDown (tree_of tree.now).pages batch.now levels (lent_shares low.now) × AreKeyedShares batch.now low.now }
-        ensures { IfOk result (λ runs. AreInBatchOrder
-            (shares_down (tree_of tree.entry.now).pages batch.entry.now levels (lent_shares low.entry.now)) runs.items) }
+        requires { IsSync R.row × AreAllHome tree.now × (ranged ≡ list_any is_ranged batch.now)
+            × CanGoDown (tree_of tree.now).pages batch.now levels (lent_shares low.now)
+            × AreKeyedShares batch.now low.now }
+        ensures { IfOk result (λ runs. AreInBatchOrder (shares_down (tree_of tree.entry.now).pages
+            batch.entry.now levels (lent_shares low.entry.now)) runs.items) }
     { runs_below(rt, few, alloc, tree, batch, ranged, levels, low) };
     let back = || -> Result<Vec<PageRun>, AllocError>
-        requires { IsSync R.row × AreAllHome tree.now × (ranged ≡ list_any is_ranged batch.now) × CanGoDown (tree_of tree.now).pages batch.now levels (lent_shares high.now) × AreKeyedShares batch.now high.now }
-        ensures { IfOk result (λ runs. AreInBatchOrder
-            (shares_down (tree_of tree.entry.now).pages batch.entry.now levels (lent_shares high.entry.now)) runs.items) }
+        requires { IsSync R.row × AreAllHome tree.now × (ranged ≡ list_any is_ranged batch.now)
+            × CanGoDown (tree_of tree.now).pages batch.now levels (lent_shares high.now)
+            × AreKeyedShares batch.now high.now }
+        ensures { IfOk result (λ runs. AreInBatchOrder (shares_down (tree_of tree.entry.now).pages
+            batch.entry.now levels (lent_shares high.entry.now)) runs.items) }
     { runs_below(rt, others, alloc, tree, batch, ranged, levels, high) };
     let (low, high) = join(rt, front, back);
     let mut runs = low?;
@@ -155,7 +162,8 @@ fn root_share<'a, 'k>(
     root: Pid,
     keyed: &'a [Keyed<'k>],
 ) -> Result<Vec<Share<'a, 'k>>, AllocError>
-    ensures shares { IfOk result (λ shares. lent_shares shares.items ≡ root_shares root (places_of keyed.now)) }
+    ensures shares { IfOk result
+        (λ shares. lent_shares shares.items ≡ root_shares root (places_of keyed.now)) }
     ensures keys { IfOk result (λ shares. (cs : List (Command Global)) → AreKeyed cs keyed.now →
         AreKeyedShares cs shares.items) }
 {
@@ -230,8 +238,10 @@ fn hand_down_points<'a, 'k>(
     below: &mut Vec<Share<'a, 'k>>,
 ) -> Result<(), AllocError>
     requires { (cs : List (Command Global)) × CanHandDownKeyed cs page.now keyed.now }
-    ensures shares { OnOk result ((cs : List (Command Global)) → ArePoints cs (places_of keyed.now) → CanHandDownKeyed cs page.now keyed.now →
-        lent_shares below.new.items ≡ lent_shares below.old.items ++ shares_below cs page.now (places_of keyed.now)) }
+    ensures shares { OnOk result ((cs : List (Command Global)) →
+        ArePoints cs (places_of keyed.now) → CanHandDownKeyed cs page.now keyed.now →
+        lent_shares below.new.items ≡
+        lent_shares below.old.items ++ shares_below cs page.now (places_of keyed.now)) }
     ensures keys { OnOk result ((cs : List (Command Global)) → AreKeyed cs keyed.now →
         AreKeyedShares cs below.old.items → AreKeyedShares cs below.new.items) }
 {
@@ -252,7 +262,8 @@ fn first_child(page: &Page<Global>, keyed: &[Keyed<'_>]) -> (Pid, usize)
     requires ready { (cs : List (Command Global)) × CanHandDownKeyed cs page.now keyed.now }
     ensures some { 0 < result.1 }
     ensures most { result.1 ≤ length keyed.now }
-    ensures first { (cs : List (Command Global)) → ArePoints cs (places_of keyed.now) → CanHandDownKeyed cs page.now keyed.now →
+    ensures first { (cs : List (Command Global)) → ArePoints cs (places_of keyed.now) →
+        CanHandDownKeyed cs page.now keyed.now →
         shares_below cs page.now (places_of keyed.now) ≡
         record { pid = result.0; own = places_of (take result.1 keyed.now); reaching = [] } ∷
         shares_below cs page.now (places_of (drop result.1 keyed.now)) }

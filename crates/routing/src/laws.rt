@@ -27,9 +27,11 @@ use std::alloc::Allocator;
 pub fn each_command_goes_to_its_pages<V, A: Allocator>()
     ensures within { (level : List (Placed V)) (cs : List (Command A)) →
         AllByRecursion (λ place. place < length cs) (flat_map (λ r. r.places) (routes level cs)) }
-    ensures some { (level : List (Placed V)) (cs : List (Command A)) (place : ℕ) → next_low level None ≡ Some [] → Tiled level None →
+    ensures some { (level : List (Placed V)) (cs : List (Command A)) (place : ℕ) →
+        next_low level None ≡ Some [] → Tiled level None →
         place < length cs → is_among place (flat_map (λ r. r.places) (routes level cs)) ≡ true }
-    ensures once { (level : List (Placed V)) (cs : List (Command A)) (place : ℕ) → next_low level None ≡ Some [] → Tiled level None →
+    ensures once { (level : List (Placed V)) (cs : List (Command A)) (place : ℕ) →
+        next_low level None ≡ Some [] → Tiled level None →
         place < length cs → is_ranged_at cs place ≡ false →
         count_by (λ other. other == place) (flat_map (λ r. r.places) (routes level cs)) ≡ 1 }
 {}
@@ -52,38 +54,43 @@ pub fn each_command_is_in_the_runs_of_its_pages<V, A: Allocator>()
 /// A page's run lacks a command that goes to the page only where it reaches the page from the left, a wipe at a lower place,
 /// which the run has, takes all keys of the page, and no command of the batch gives a key of the page a value.
 pub fn only_what_finds_nothing_is_left_out<A: Allocator>()
-    ensures reaches { (cs : List (Command A)) (at : Place) (r : Route) (place : ℕ) → IsRunOf cs at r →
-        goes_at cs at.low at.end place ≡ true → is_among place r.places ≡ false →
+    ensures reaches { (cs : List (Command A)) (at : Place) (r : Route) (place : ℕ) →
+        IsRunOf cs at r → goes_at cs at.low at.end place ≡ true → is_among place r.places ≡ false →
         reaches_at cs at.low place ≡ true }
     ensures wiped { (cs : List (Command A)) (at : Place) (r : Route) (place : ℕ) → IsRunOf cs at r →
         goes_at cs at.low at.end place ≡ true → is_among place r.places ≡ false →
         (earlier : ℕ) × (earlier < place) × (is_among earlier r.places ≡ true) ×
         ((lo : Bytes) × (hi : Option Bytes) × (slice_get cs earlier ≡ Some (Wipe lo hi)) ×
         ((key : Bytes) → is_within at.low at.end key ≡ true → is_within lo hi key ≡ true)) }
-    ensures unput { (cs : List (Command A)) (at : Place) (r : Route) (place other : ℕ) (c : Command A) →
+    ensures unput { (cs : List (Command A)) (at : Place) (r : Route)
+        (place other : ℕ) (c : Command A) →
         IsRunOf cs at r → goes_at cs at.low at.end place ≡ true → is_among place r.places ≡ false →
         slice_get cs other ≡ Some c → gives c ≡ true → is_within at.low at.end (key_of c) ≡ false }
 {}
 
 /// A scan goes to just those pages whose ranges meet its bounds: from the lower one on, and before the upper one.
 pub fn a_scan_goes_to_the_pages_that_it_meets<A: Allocator>()
-    ensures { (lo : Bytes) (hi : Option Bytes) (limit : ℕ) (at : Place) → goes_to {A = A} at.low at.end (Scan lo hi limit) ≡ meets lo hi at }
+    ensures { (lo : Bytes) (hi : Option Bytes) (limit : ℕ) (at : Place) →
+        goes_to {A = A} at.low at.end (Scan lo hi limit) ≡ meets lo hi at }
 {}
 
 /// A wipe goes to just those pages too: it is cut by page like a scan.
 pub fn a_wipe_goes_to_the_pages_that_it_meets<A: Allocator>()
-    ensures { (lo : Bytes) (hi : Option Bytes) (at : Place) → goes_to {A = A} at.low at.end (Wipe lo hi) ≡ meets lo hi at }
+    ensures { (lo : Bytes) (hi : Option Bytes) (at : Place) →
+        goes_to {A = A} at.low at.end (Wipe lo hi) ≡ meets lo hi at }
 {}
 
 /// The routes of a level are to its pages, from left to right, and each has what goes to its page: some places of the
 /// batch, which rise, each of a command that goes to the page.
 pub fn routes_are_in_the_order_of_the_pages<V, A: Allocator>()
-    ensures { (level : List (Placed V)) (cs : List (Command A)) → AreRoutesTo cs (ranges level) (routes level cs) }
+    ensures { (level : List (Placed V)) (cs : List (Command A)) →
+        AreRoutesTo cs (ranges level) (routes level cs) }
 {}
 
 /// The sorted places of a batch are one list and no other.
 pub fn sorted_places_are_determined<A: Allocator>()
-    ensures { (cs : List (Command A)) (ps qs : List ℕ) → AreSortedPlaces cs ps → AreSortedPlaces cs qs → ps ≡ qs }
+    ensures { (cs : List (Command A)) (ps qs : List ℕ) → AreSortedPlaces cs ps →
+        AreSortedPlaces cs qs → ps ≡ qs }
 {}
 
 /// How sorted places are handed down the tree: those of the batch are those of the range of all keys; those that begin in a
@@ -91,9 +98,11 @@ pub fn sorted_places_are_determined<A: Allocator>()
 /// those that begin in it, some reach the next one, and no others do; and those that reach a page and those that begin in
 /// it, in the order of the batch, are the places of the commands that go to the page.
 pub fn sorted_places_are_handed_down<A: Allocator>()
-    ensures all { (cs : List (Command A)) (ps : List ℕ) → AreSortedPlaces cs ps → AreSortedWithin [] None cs ps }
+    ensures all { (cs : List (Command A)) (ps : List ℕ) → AreSortedPlaces cs ps →
+        AreSortedWithin [] None cs ps }
     ensures none { (cs : List (Command A)) → AreSortedReaching [] cs [] }
-    ensures parted { (cs : List (Command A)) (low mid : Bytes) (end : Option Bytes) (ps : List ℕ) (n : ℕ) →
+    ensures parted { (cs : List (Command A)) (low mid : Bytes)
+        (end : Option Bytes) (ps : List ℕ) (n : ℕ) →
         AreSortedWithin low end cs ps → order low mid ≡ Less → IsBefore end mid →
         AllByRecursion (λ place. is_below (key_at cs place) mid ≡ true) (take n ps) →
         AllByRecursion (λ place. is_below (key_at cs place) mid ≡ false) (drop n ps) →
@@ -101,7 +110,8 @@ pub fn sorted_places_are_handed_down<A: Allocator>()
     ensures onward { (cs : List (Command A)) (low mid : Bytes) (rs ps : List ℕ) →
         AreSortedReaching low cs rs → AreSortedWithin low (Some mid) cs ps → order low mid ≡ Less →
         AreSortedReaching mid cs (filter (reaches_at cs mid) (rs ++ ps)) }
-    ensures in_batch_order { (cs : List (Command A)) (low : Bytes) (end : Option Bytes) (rs ps qs : List ℕ) →
-        AreSortedReaching low cs rs → AreSortedWithin low end cs ps → IsPermutation (rs ++ ps) qs → IsNonDecreasing qs →
-        qs ≡ places_within low end cs }
+    ensures in_batch_order { (cs : List (Command A)) (low : Bytes)
+        (end : Option Bytes) (rs ps qs : List ℕ) →
+        AreSortedReaching low cs rs → AreSortedWithin low end cs ps → IsPermutation (rs ++ ps) qs →
+        IsNonDecreasing qs → qs ≡ places_within low end cs }
 {}

@@ -27,7 +27,8 @@ impl<'a, 'k> Model for Share<'a, 'k> {
 impl<'a, 'k> Share<'a, 'k> {
     /// The share of the page with this id.
     pub(crate) fn new(pid: Pid, keyed: &'a [Keyed<'k>], reaching: Vec<usize>) -> Share<'a, 'k>
-        ensures { result ≡ record { pid = pid; keyed = keyed.entry.now; reaching = reaching.items } }
+        ensures { result
+            ≡ record { pid = pid; keyed = keyed.entry.now; reaching = reaching.items } }
     {
         Share {
             pid,

@@ -119,8 +119,10 @@ fn keyed_in_turn<'a>(
 pub(crate) fn count_below(keyed: &[Keyed<'_>], key: &[u8]) -> usize
     requires { IsPartitionedBy (has_key_below key.now) keyed.now }
     ensures most { result ≤ length keyed.now }
-    ensures below { AllByRecursion (λ entry. has_key_below key.now entry ≡ true) (take result keyed.now) }
-    ensures others { AllByRecursion (λ entry. has_key_below key.now entry ≡ false) (drop result keyed.now) }
+    ensures below { AllByRecursion
+        (λ entry. has_key_below key.now entry ≡ true) (take result keyed.now) }
+    ensures others { AllByRecursion
+        (λ entry. has_key_below key.now entry ≡ false) (drop result keyed.now) }
 {
     let bound = KeyRef::new(key);
     let (low, high) = bounds_of_count(keyed, &bound);
@@ -138,8 +140,10 @@ fn bounds_of_count(keyed: &[Keyed<'_>], key: &KeyRef<'_>) -> (usize, usize)
     requires { IsPartitionedBy (has_key_below key.now) keyed.now }
     ensures order { result.0 ≤ result.1 }
     ensures most { result.1 ≤ length keyed.now }
-    ensures below { AllByRecursion (λ entry. has_key_below key.now entry ≡ true) (take result.0 keyed.now) }
-    ensures others { AllByRecursion (λ entry. has_key_below key.now entry ≡ false) (drop result.1 keyed.now) }
+    ensures below { AllByRecursion
+        (λ entry. has_key_below key.now entry ≡ true) (take result.0 keyed.now) }
+    ensures others { AllByRecursion
+        (λ entry. has_key_below key.now entry ≡ false) (drop result.1 keyed.now) }
 {
     let mut low = 0;
     let mut high = 0;
@@ -164,7 +168,8 @@ pub(crate) fn in_batch_order(
     keyed: &[Keyed<'_>],
     reaching: &[usize],
 ) -> Result<Vec<usize>, AllocError>
-    ensures same { IfOk result (λ sorted. IsPermutation (places_of keyed.now ++ reaching.now) sorted.items) }
+    ensures same { IfOk result
+        (λ sorted. IsPermutation (places_of keyed.now ++ reaching.now) sorted.items) }
     ensures rising { IfOk result (λ sorted. IsNonDecreasing sorted.items) }
 {
     let mut sorted: Vec<usize> = keyed.iter().map(|entry| entry.1).collect(alloc)?;

@@ -47,7 +47,8 @@ pub(crate) fn next_change<'a>(runs: &mut Runs<'a>) -> Option<Change<'a>>
 // The change with the least key, and the place of its run; where runs share that key, it is the newest one's.
 fn least<'a>(runs: &[Ahead<'a>]) -> Option<(usize, Change<'a>)>
     requires { AllByRecursion IsRising runs.now }
-    ensures change { option_map (λ f. (f.1.0, option_copied f.1.1)) result ≡ slice_get (said_by runs.now) 0 }
+    ensures change { option_map (λ f. (f.1.0, option_copied f.1.1)) result
+        ≡ slice_get (said_by runs.now) 0 }
     ensures place { IfSome result (λ f. StartsAt f.1.0 (slice_index_or runs.now f.0 [])) }
 {
     let mut least: Option<Change<'a>> = None;

@@ -39,7 +39,8 @@ pub fn scan_ends<'a>(
     requires height { tree.now.height ≤ most_levels }
     requires held { HoldsLevels (tree_of tree.now).pages (levels_of (tree_of tree.now)) }
     requires levels { AreLevels (levels_of (tree_of tree.now)) }
-    ensures { IfOk result (λ ends. MayEndAtAll (keys_of (names (levels_of (tree_of tree.now)).level))
+    ensures { IfOk result
+        (λ ends. MayEndAtAll (keys_of (names (levels_of (tree_of tree.now)).level))
         (contents (tree_of tree.now)) commands.now (map option_copied ends.items)) }
 {
     if !has_scan(commands) {

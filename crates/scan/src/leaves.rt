@@ -61,7 +61,8 @@ impl<'a> Leaves<'a> {
 impl<'a> Iterator for Leaves<'a> {
     type Item = Leaf<'a>;
 
-    ghost next_gives = { YieldsFirstBy (λ item. leaf_with item.0.now (seen item.1.now)) (λ left. left) };
+    ghost next_gives = { YieldsFirstBy
+        (λ item. leaf_with item.0.now (seen item.1.now)) (λ left. left) };
 
     ghost remaining = { item_count (λ left. left) };
 
@@ -103,7 +104,8 @@ fn descend<'a>(tree: &'a Tree<Global>, path: &mut Path<'a>, from: Pid, key: &[u8
 fn next_leaf<'a>(tree: &'a Tree<Global>, path: &mut Path<'a>) -> Option<Leaf<'a>>
     requires { IsWalk tree.now path.old }
     ensures walk { IsWalk tree.now path.new }
-    ensures leaves { MatchOption result ((walk_left tree.now path.old.items ≡ []) × (walk_left tree.now path.new.items ≡ []))
+    ensures leaves { MatchOption result
+        ((walk_left tree.now path.old.items ≡ []) × (walk_left tree.now path.new.items ≡ []))
         (λ leaf. walk_left tree.now path.old.items
         ≡ leaf_with leaf.0.now (seen leaf.1.now) ∷ walk_left tree.now path.new.items) }
 {

@@ -37,9 +37,15 @@ impl<'a> Model for Merge<'a> {
 
     ghost Value = { Merged };
 
-    ghost view = { λ m. record { changes = changes_after (option_map (λ c. (c.0, option_copied c.1)) m.change) (said_by m.runs.items); pairs = drop m.at m.base.now } };
+    ghost view = { λ m. record {
+      changes = changes_after (option_map (λ c. (c.0, option_copied c.1)) m.change)
+          (said_by m.runs.items);
+      pairs = drop m.at m.base.now;
+    } };
 
-    ghost invariant = { λ m. IsMerge (changes_after (option_map (λ c. (c.0, option_copied c.1)) m.change) (said_by m.runs.items)) m.runs.items m.base.now };
+    ghost invariant = { λ m. IsMerge
+        (changes_after (option_map (λ c. (c.0, option_copied c.1)) m.change) (said_by m.runs.items))
+        m.runs.items m.base.now };
 }
 
 impl<'a> Merge<'a> {
@@ -73,8 +79,10 @@ impl<'a> Merge<'a> {
 
     // The next change, unless a pair of the base stands before it. A pair that has its key is passed.
     pub(crate) fn take_change(&mut self) -> Option<Change<'a>>
-        ensures { MatchOption result ((self.new ≡ self.old) × ArePairsNext self.old.changes self.old.pairs)
-            (λ c. (merged self.old ≡ pair_if c.0 (option_copied c.1) ++ merged self.new) × (length self.new.changes < length self.old.changes)) }
+        ensures { MatchOption result
+            ((self.new ≡ self.old) × ArePairsNext self.old.changes self.old.pairs)
+            (λ c. (merged self.old ≡ pair_if c.0 (option_copied c.1) ++ merged self.new)
+            × (length self.new.changes < length self.old.changes)) }
     {
         let at = match &self.change {
             Some(change) => past(self.base, self.at, &change.0)?,
@@ -87,7 +95,8 @@ impl<'a> Merge<'a> {
     // The base's next pair, before which there is no change.
     pub(crate) fn take_pair(&mut self) -> Option<(&'a [u8], &'a Value<Global>)>
         requires { ArePairsNext self.old.changes self.old.pairs }
-        ensures { MatchOption result ((merged self.old ≡ []) × (merged self.new ≡ [])) (λ p. merged self.old ≡ (p.0.now, p.1.now) ∷ merged self.new) }
+        ensures { MatchOption result ((merged self.old ≡ []) × (merged self.new ≡ []))
+            (λ p. merged self.old ≡ (p.0.now, p.1.now) ∷ merged self.new) }
     {
         let base = self.base;
         let at = self.at;
@@ -102,7 +111,8 @@ impl<'a> Merge<'a> {
 
 // The next pair that is there after the changes.
 pub(crate) fn next_pair<'a>(merge: &mut Merge<'a>) -> Option<(&'a [u8], &'a Value<Global>)>
-    ensures { MatchOption result ((merged merge.old ≡ []) × (merged merge.new ≡ [])) (λ p. merged merge.old ≡ (p.0.now, p.1.now) ∷ merged merge.new) }
+    ensures { MatchOption result ((merged merge.old ≡ []) × (merged merge.new ≡ []))
+        (λ p. merged merge.old ≡ (p.0.now, p.1.now) ∷ merged merge.new) }
 {
     loop {
         let Some((key, said)) = merge.take_change() else {
@@ -117,7 +127,8 @@ pub(crate) fn next_pair<'a>(merge: &mut Merge<'a>) -> Option<(&'a [u8], &'a Valu
 // The place after the key, of pairs from this place on; none where the first of these stands before the key.
 fn past(base: &Base<Value<Global>, Global>, at: usize, key: &KeyRef<'_>) -> Option<usize>
     ensures { MatchOption result (first_order (drop at base.now) key.now ≡ Less)
-        (λ next. StartsFrom key.now (drop at base.now) × (drop next base.now ≡ behind key.now (drop at base.now))) }
+        (λ next. StartsFrom key.now (drop at base.now)
+        × (drop next base.now ≡ behind key.now (drop at base.now))) }
 {
     if at >= base.len() {
         return Some(at);

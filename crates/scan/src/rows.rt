@@ -66,7 +66,8 @@ impl<'a> Rows<'a> {
         requires height { tree.now.height ≤ most_levels }
         requires held { HoldsLevels (tree_of tree.now).pages (levels_of (tree_of tree.now)) }
         requires levels { AreLevels (levels_of (tree_of tree.now)) }
-        ensures { result ≡ rows lo.now (option_copied hi.entry) limit (contents (tree_of tree.now)) }
+        ensures { result
+            ≡ rows lo.now (option_copied hi.entry) limit (contents (tree_of tree.now)) }
     {
         let end = end_at(alloc, tree, hi);
         let (leaf, leaves) = walk_from(alloc, tree, lo);
@@ -178,7 +179,8 @@ fn prefix_end<'a>(alloc: Global, tree: &'a Tree<Global>, prefix: &[u8]) -> (End<
     requires held { HoldsLevels (tree_of tree.now).pages (levels_of (tree_of tree.now)) }
     requires levels { AreLevels (levels_of (tree_of tree.now)) }
     ensures { (all : Pairs Bytes) → all ≡ from prefix.now (contents (tree_of tree.now)) →
-        rows_left result.1 (is_inside result.0) all ≡ with_prefix prefix.now (contents (tree_of tree.now)) }
+        rows_left result.1 (is_inside result.0) all
+        ≡ with_prefix prefix.now (contents (tree_of tree.now)) }
 {
     match prefix_of_first(alloc, tree, prefix) {
         Some(own) => (End::Beginning(own), None),
@@ -201,7 +203,8 @@ fn prefix_of_first<'a>(alloc: Global, tree: &'a Tree<Global>, prefix: &[u8]) -> 
 
 // The prefix as a part of the key, or none where the key doesn't begin with it.
 fn beginning<'a>(key: &'a [u8], prefix: &[u8]) -> Option<&'a [u8]>
-    ensures { MatchOption result (begins_with prefix.now key.now ≡ false) (λ own. own.now ≡ prefix.now) }
+    ensures { MatchOption result (begins_with prefix.now key.now ≡ false)
+        (λ own. own.now ≡ prefix.now) }
 {
     if key.starts_with(prefix) {
         Some(&key[..prefix.len()])
@@ -245,7 +248,9 @@ fn next_pair<'a>(
     leaf: &mut LeafPairs<'a>,
     leaves: &mut Leaves<'a>,
 ) -> Option<(&'a [u8], &'a Value<Global>)>
-    ensures { MatchOption result (pairs_left leaf.old leaves.old ≡ []) (λ pair. pairs_left leaf.old leaves.old ≡ (pair.0.now, pair.1.now) ∷ pairs_left leaf.new leaves.new) }
+    ensures { MatchOption result (pairs_left leaf.old leaves.old ≡ [])
+        (λ pair. pairs_left leaf.old leaves.old
+        ≡ (pair.0.now, pair.1.now) ∷ pairs_left leaf.new leaves.new) }
 {
     loop {
         if let Some(pair) = leaf.next() {

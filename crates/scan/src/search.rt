@@ -26,7 +26,8 @@ impl<'a> Model for Search<'a> {
 
     ghost Value = { Pairs Bytes };
 
-    ghost view = { λ l. left_after (option_map (λ e. (e.0.now, e.1.now)) l.next) (entries_of l.chain.now) };
+    ghost view = { λ l. left_after
+        (option_map (λ e. (e.0.now, e.1.now)) l.next) (entries_of l.chain.now) };
 }
 
 impl<'a> Search<'a> {
@@ -71,7 +72,8 @@ fn next_behind<'a>(
     chain: &'a Chain<Value<Global>, Global>,
     key: &[u8],
 ) -> Option<(&'a [u8], &'a Value<Global>)>
-    ensures { left_after (option_map (λ e. (e.0.now, e.1.now)) result) (entries_of chain.now) ≡ behind key.now (entries_of chain.now) }
+    ensures { left_after (option_map (λ e. (e.0.now, e.1.now)) result) (entries_of chain.now)
+        ≡ behind key.now (entries_of chain.now) }
 {
     let _in_order = chain.depth();
     above(chain, key, &mut Probes::new())

@@ -39,7 +39,8 @@ impl<'a> PathStep<'a> {
 
     // The next child, which is none of those to come afterwards.
     pub(crate) fn next(&mut self) -> Option<Pid>
-        ensures { MatchOption result ((self.old ≡ []) × (self.new ≡ [])) (λ pid. self.old ≡ pid ∷ self.new) }
+        ensures { MatchOption result ((self.old ≡ []) × (self.new ≡ []))
+            (λ pid. self.old ≡ pid ∷ self.new) }
     {
         match self.children {
             Some((list, at)) if at < list.len() => {

@@ -19,7 +19,8 @@ pub(crate) fn joined<'a, V: Kind>(
     members: &[&'a PageInMemory<Global>],
 ) -> Result<Vec<(&'a [u8], &'a V)>, AllocError>
     requires { AllByRecursion V.is_of (pages_lent members.now) }
-    ensures { IfOk result (λ entries. pairs_lent entries.items ≡ joined_pages (map V.taken (pages_lent members.now))) }
+    ensures { IfOk result (λ entries. pairs_lent entries.items
+        ≡ joined_pages (map V.taken (pages_lent members.now))) }
 {
     let mut entries = Vec::new(alloc);
     for member in members {
@@ -34,7 +35,8 @@ fn push_pairs<'a, V>(
     entries: &mut Vec<(&'a [u8], &'a V)>,
     pairs: &Pairs<'a, V, Global>,
 ) -> Result<(), AllocError>
-    ensures { OnOk result (pairs_lent entries.new.items ≡ pairs_lent entries.old.items ++ pairs.now) }
+    ensures { OnOk result
+        (pairs_lent entries.new.items ≡ pairs_lent entries.old.items ++ pairs.now) }
 {
     entries.reserve(pairs.len())?;
     for at in 0..pairs.len() {
@@ -52,7 +54,8 @@ pub(crate) fn cut_pages<'a, V: Kind>(
 ) -> Result<Vec<Page<Global>>, AllocError>
     requires fan { 0 < fan }
     requires rising { IsRising (pairs_lent entries.now) }
-    ensures { IfOk result (λ pages. pages.items ≡ map V.made (pages_from low.now (cut fan (pairs_lent entries.now)))) }
+    ensures { IfOk result (λ pages. pages.items
+        ≡ map V.made (pages_from low.now (cut fan (pairs_lent entries.now)))) }
 {
     let count = piece_count(fan, entries.len());
     let mut pages = Vec::with_capacity(alloc, count)?;

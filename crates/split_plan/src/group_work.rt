@@ -124,7 +124,8 @@ fn remade<'a>(
 ) -> Result<Vec<Page<Global>>, AllocError>
     requires fan { 0 < settings.now.fan }
     requires members { CanJoin (pages_lent members.now) }
-    ensures { IfOk result (λ pages. pages.items ≡ group_made settings.now (pages_lent members.now)) }
+    ensures { IfOk result
+        (λ pages. pages.items ≡ group_made settings.now (pages_lent members.now)) }
 {
     match members.first() {
         Some(first) if first.as_leaf().is_some() => remade_as::<Value<Global>>(
@@ -144,7 +145,8 @@ fn remade_as<'a, V: Kind + 'a>(
     requires fan { 0 < settings.now.fan }
     requires kind { AllByRecursion V.is_of (pages_lent members.now) }
     requires rising { IsRising (joined_pages (map V.taken (pages_lent members.now))) }
-    ensures { IfOk result (λ pages. pages.items ≡ map V.made (pages_made settings.now (map V.taken (pages_lent members.now)))) }
+    ensures { IfOk result (λ pages. pages.items
+        ≡ map V.made (pages_made settings.now (map V.taken (pages_lent members.now)))) }
 {
     let Some(first) = members.first() else {
         return Ok(Vec::new(alloc));
@@ -161,7 +163,8 @@ pub fn index_pages(
 ) -> Result<Vec<Page<Global>>, AllocError>
     requires fan { 0 < settings.now.fan }
     requires rising { IsRising names.now }
-    ensures { IfOk result (λ pages. pages.items ≡ map (λ b. Index (bare (first_key b) b)) (cut settings.now.fan names.now)) }
+    ensures { IfOk result (λ pages. pages.items
+        ≡ map (λ b. Index (bare (first_key b) b)) (cut settings.now.fan names.now)) }
 {
     let mut entries = Vec::with_capacity(alloc, names.len())?;
     for name in names {

@@ -11,7 +11,8 @@ use std::alloc::{AllocError, Global};
 /// isn't thin begins a group, a thin one joins the group on its left, and leading thin ones join the first group.
 /// `AllocError` comes only where memory is refused, for more than the 32 groups that are held inline.
 pub fn groups(alloc: Global, classes: &[Class]) -> Result<SmallVec<usize, 32>, AllocError>
-    ensures sizes { IfOk result (λ sizes. sizes.items ≡ map length (groups is_thin_class classes.now)) }
+    ensures sizes { IfOk result
+        (λ sizes. sizes.items ≡ map length (groups is_thin_class classes.now)) }
     ensures inline { length (groups is_thin_class classes.now) ≤ 32 → IsOk result }
 {
     let mut sizes = SmallVec::new(alloc);

@@ -23,42 +23,56 @@ pub fn pieces_are_the_entries<X>()
     ensures joined { (fan : ℕ) (es : List X) → flat (cut fan es) ≡ es }
     ensures count { (fan : ℕ) (es : List X) → length (cut fan es) ≡ piece_count fan (length es) }
     ensures most { (fan : ℕ) (es : List X) → 0 < fan → AllAtMost fan (cut fan es) }
-    ensures least { (fan : ℕ) (es : List X) → 0 < fan → fan < length es → AllAtLeast (fan / 2) (cut fan es) }
+    ensures least { (fan : ℕ) (es : List X) → 0 < fan → fan < length es →
+        AllAtLeast (fan / 2) (cut fan es) }
 {}
 
 /// The groups joined are the children. Where some child isn't thin, each group has just one that isn't, and each group
 /// but the first begins with it; where all are thin, they are one group.
 pub fn groups_are_the_children<X>()
     ensures joined { (thin : X → Bool) (xs : List X) → flat (groups thin xs) ≡ xs }
-    ensures one { (thin : X → Bool) (xs : List X) → 0 < count_kept thin xs → AllByRecursion (λ g. count_kept thin g ≡ 1) (groups thin xs) }
-    ensures later { (thin : X → Bool) (xs : List X) → AllByRecursion (λ g. begins_thin thin g ≡ false) (drop 1 (groups thin xs)) }
-    ensures thin { (thin : X → Bool) (xs : List X) → count_kept thin xs ≡ 0 → 0 < length xs → groups thin xs ≡ xs ∷ [] }
+    ensures one { (thin : X → Bool) (xs : List X) → 0 < count_kept thin xs →
+        AllByRecursion (λ g. count_kept thin g ≡ 1) (groups thin xs) }
+    ensures later { (thin : X → Bool) (xs : List X) →
+        AllByRecursion (λ g. begins_thin thin g ≡ false) (drop 1 (groups thin xs)) }
+    ensures thin { (thin : X → Bool) (xs : List X) → count_kept thin xs ≡ 0 → 0 < length xs →
+        groups thin xs ≡ xs ∷ [] }
 {}
 
 /// The sizes of a family's groups are found by its pages' classes alone, and cut the family into its groups.
 pub fn groups_are_found_by_classes<V>()
-    ensures classes { (f : List (Worked V)) → map length (groups is_thin_class (map (λ w. w.class) f)) ≡ map length (groups is_thin f) }
-    ensures sizes_cut { (f : List (Worked V)) → cut_by (map length (groups is_thin f)) f ≡ groups is_thin f }
+    ensures classes { (f : List (Worked V)) →
+        map length (groups is_thin_class (map (λ w. w.class) f)) ≡ map length (groups is_thin f) }
+    ensures sizes_cut { (f : List (Worked V)) →
+        cut_by (map length (groups is_thin f)) f ≡ groups is_thin f }
 {}
 
 /// A group is rewritten exactly if it has two or more members, or is one fat page.
 pub fn a_group_is_rewritten_for_its_members<V>()
-    ensures { (g : List (Worked V)) → (is_rewritten g ≡ true) ↔ ((1 < length g) ⊎ ((w : Worked V) × (g ≡ w ∷ []) × (is_fat w ≡ true))) }
+    ensures { (g : List (Worked V)) →
+        (is_rewritten g ≡ true)
+        ↔ ((1 < length g) ⊎ ((w : Worked V) × (g ≡ w ∷ []) × (is_fat w ≡ true))) }
 {}
 
 /// Which pids are outdated: of a group those of the members that their run replaced, and where the group is rewritten
 /// those of all members; of a family those of its groups, and of a level those of its families.
 pub fn outdated_pages_were_replaced_or_rewritten<V>()
-    ensures members { (c : Change V) (pid : ℕ) → (is_among pid (outdated c) ≡ true) ↔ IsOutdatedIn c.members pid }
-    ensures family { (s : Settings) (used : List ℕ) (i : ℕ) (gs : List (List (Worked V))) (pid : ℕ) →
-        (is_among pid (flat_map outdated (changes s used i gs)) ≡ true) ↔ Any (λ g. IsOutdatedIn g pid) gs }
+    ensures members { (c : Change V) (pid : ℕ) →
+        (is_among pid (outdated c) ≡ true) ↔ IsOutdatedIn c.members pid }
+    ensures family { (s : Settings) (used : List ℕ) (i : ℕ)
+        (gs : List (List (Worked V))) (pid : ℕ) →
+        (is_among pid (flat_map outdated (changes s used i gs)) ≡ true)
+        ↔ Any (λ g. IsOutdatedIn g pid) gs }
     ensures level { (s : Settings) (used : List ℕ) (i : ℕ) (fs : List (List (Worked V))) (pid : ℕ) →
-        (is_among pid (all_outdated (family_changes s used i fs)) ≡ true) ↔ Any (λ f. Any (λ g. IsOutdatedIn g pid) (groups is_thin f)) fs }
+        (is_among pid (all_outdated (family_changes s used i fs)) ≡ true)
+        ↔ Any (λ f. Any (λ g. IsOutdatedIn g pid) (groups is_thin f)) fs }
 {}
 
 /// Leaves after their parts of a run have, joined, all their entries with the run applied.
 pub fn leaves_share_a_run<V>()
-    ensures { (s : Settings) (run : Changes V) (p : Placed V) (ps : List (Placed V)) (end : Option Bytes) → Tiled (p ∷ ps) end →
+    ensures { (s : Settings) (run : Changes V) (p : Placed V)
+        (ps : List (Placed V)) (end : Option Bytes) →
+        Tiled (p ∷ ps) end →
         joined (placed_of (worked_leaves s run (p ∷ ps))) ≡ with_run (joined (p ∷ ps)) run }
 {}
 
@@ -66,20 +80,31 @@ pub fn leaves_share_a_run<V>()
 pub fn what_is_made_of_groups_has_their_entries<V>()
     ensures entries { (s : Settings) (used : List ℕ) (i : ℕ) (f : List (Worked V)) →
         joined (new_of (changes s used i (groups is_thin f))) ≡ joined (placed_of f) }
-    ensures tiled { (s : Settings) (used : List ℕ) (i : ℕ) (f : List (Worked V)) (end : Option Bytes) → 0 < s.fan → Tiled (placed_of f) end →
+    ensures tiled { (s : Settings) (used : List ℕ) (i : ℕ)
+        (f : List (Worked V)) (end : Option Bytes) →
+        0 < s.fan → Tiled (placed_of f) end →
         Tiled (new_of (changes s used i (groups is_thin f))) end }
-    ensures first { (s : Settings) (used : List ℕ) (i : ℕ) (f : List (Worked V)) (end : Option Bytes) →
+    ensures first { (s : Settings) (used : List ℕ) (i : ℕ)
+        (f : List (Worked V)) (end : Option Bytes) →
         next_low (new_of (changes s used i (groups is_thin f))) end ≡ next_low (placed_of f) end }
 {}
 
 /// The terms of a family rise. They name the low keys of freed members and of new pieces, and no other: a new piece's
 /// has its pid, any other is absent. They turn the names of the family into those of the pages that are made of it.
 pub fn terms_name_the_new_pages<V>()
-    ensures rising { (s : Settings) (used : List ℕ) (i : ℕ) (f : List (Worked V)) (end : Option Bytes) → 0 < s.fan → Tiled (placed_of f) end →
+    ensures rising { (s : Settings) (used : List ℕ) (i : ℕ)
+        (f : List (Worked V)) (end : Option Bytes) →
+        0 < s.fan → Tiled (placed_of f) end →
         IsRising (terms (changes s used i (groups is_thin f))) }
-    ensures said { (s : Settings) (used : List ℕ) (i : ℕ) (f : List (Worked V)) (end : Option Bytes) (k : Bytes) → 0 < s.fan → Tiled (placed_of f) end →
+    ensures said { (s : Settings) (used : List ℕ) (i : ℕ) (f : List (Worked V))
+        (end : Option Bytes) (k : Bytes) →
+        0 < s.fan → Tiled (placed_of f) end →
         value_at k (terms (changes s used i (groups is_thin f)))
-        ≡ term_at (value_at k (names (fresh_of (changes s used i (groups is_thin f))))) (value_at k (names (freed_of (changes s used i (groups is_thin f))))) }
-    ensures names { (s : Settings) (used : List ℕ) (i : ℕ) (f : List (Worked V)) (end : Option Bytes) → 0 < s.fan → Tiled (placed_of f) end →
-        with_run (names (placed_of f)) (terms (changes s used i (groups is_thin f))) ≡ names (new_of (changes s used i (groups is_thin f))) }
+        ≡ term_at (value_at k (names (fresh_of (changes s used i (groups is_thin f)))))
+        (value_at k (names (freed_of (changes s used i (groups is_thin f))))) }
+    ensures names { (s : Settings) (used : List ℕ) (i : ℕ)
+        (f : List (Worked V)) (end : Option Bytes) →
+        0 < s.fan → Tiled (placed_of f) end →
+        with_run (names (placed_of f)) (terms (changes s used i (groups is_thin f)))
+        ≡ names (new_of (changes s used i (groups is_thin f))) }
 {}

@@ -47,8 +47,11 @@ fn next_term(
     ensures fresh { IsRising fresh.new.items }
     ensures terms { MatchOption result
         (with_run (absent freed.old.items) (present fresh.old.items) ≡ [])
-        (λ term. with_run (absent freed.old.items) (present fresh.old.items) ≡ term ∷ with_run (absent freed.new.items) (present fresh.new.items)) }
-    ensures fewer { MatchOption result ⊤ (λ _. length freed.new.items + length fresh.new.items < length freed.old.items + length fresh.old.items) }
+        (λ term. with_run (absent freed.old.items) (present fresh.old.items)
+        ≡ term ∷ with_run (absent freed.new.items) (present fresh.new.items)) }
+    ensures fewer { MatchOption result ⊤
+        (λ _. length freed.new.items + length fresh.new.items
+        < length freed.old.items + length fresh.old.items) }
 {
     match front_order(freed, fresh) {
         Ordering::Less => {

@@ -114,7 +114,8 @@ fn run_within<V, A: Allocator + Copy>(run: &Run<V, A>, low: &[u8], end: Option<&
 
 // The same of a base.
 fn base_within<V, B: BaseList<V>>(base: &B, low: &[u8], end: Option<&[u8]>) -> bool
-    ensures { result ≡ list_all (is_within low.now (option_copied end.entry)) (keys_of (B.entries base.now)) }
+    ensures { result
+        ≡ list_all (is_within low.now (option_copied end.entry)) (keys_of (B.entries base.now)) }
 {
     for at in 0..base.count() {
         if !is_within(low, end, base.key_at(at)) {
@@ -131,7 +132,8 @@ pub(crate) fn names_within<V, A: Allocator + Copy, B: BaseList<V>>(
     low: &[u8],
     end: Option<&[u8]>,
 ) -> bool
-    ensures { result ≡ list_all (is_within low.now (option_copied end.entry)) (keys_of (said_under runs.now.runs (B.entries base.now))) }
+    ensures { result ≡ list_all (is_within low.now (option_copied end.entry))
+        (keys_of (said_under runs.now.runs (B.entries base.now))) }
 {
     let mut next = runs.newest();
     while let Some((run, below)) = next {
@@ -150,7 +152,8 @@ pub(crate) fn fits_sizes<V: CellSize, A: Allocator + Copy, B: BaseList<V>>(
     base: &B,
     settings: &Settings,
 ) -> bool
-    ensures { result ≡ sizes_under settings.now (V.is_short settings.now) runs.now.runs (B.entries base.now) }
+    ensures { result
+        ≡ sizes_under settings.now (V.is_short settings.now) runs.now.runs (B.entries base.now) }
 {
     let mut next = runs.newest();
     while let Some((run, below)) = next {
@@ -165,7 +168,8 @@ pub(crate) fn fits_sizes<V: CellSize, A: Allocator + Copy, B: BaseList<V>>(
 // The same of a base.
 fn fits_base<V: CellSize, B: BaseList<V>>(base: &B, settings: &Settings) -> bool
     ensures { result ≡ (nat_le (length (B.entries base.now)) settings.now.fan
-        && list_all (is_short_change settings.now (V.is_short settings.now)) (as_changes (B.entries base.now))) }
+        && list_all (is_short_change settings.now (V.is_short settings.now))
+        (as_changes (B.entries base.now))) }
 {
     let count = base.count();
     if count > settings.fan as usize {
@@ -181,7 +185,8 @@ fn fits_base<V: CellSize, B: BaseList<V>>(base: &B, settings: &Settings) -> bool
 
 // The same of a run.
 fn fits_run<V: CellSize, A: Allocator + Copy>(run: &Run<V, A>, settings: &Settings) -> bool
-    ensures { result ≡ (is_run_sized settings.now run.now && list_all (is_short_change settings.now (V.is_short settings.now)) run.now) }
+    ensures { result ≡ (is_run_sized settings.now run.now
+        && list_all (is_short_change settings.now (V.is_short settings.now)) run.now) }
 {
     let count = run.len();
     if count == 0 || count > settings.fan as usize {
@@ -197,7 +202,8 @@ fn fits_run<V: CellSize, A: Allocator + Copy>(run: &Run<V, A>, settings: &Settin
 
 // Whether the key, and the cell where there is one, is no longer than the settings allow.
 fn is_short_entry<V: CellSize>(key: &[u8], cell: Option<&V>, settings: &Settings) -> bool
-    ensures { result ≡ (nat_le (length key.now) settings.now.max_key && of_cell (V.is_short settings.now) (option_copied cell.entry)) }
+    ensures { result ≡ (nat_le (length key.now) settings.now.max_key
+        && of_cell (V.is_short settings.now) (option_copied cell.entry)) }
 {
     if key.len() > settings.max_key as usize {
         return false;

@@ -32,11 +32,15 @@ pub(crate) fn pass_level(
     met: &mut Met,
 ) -> Result<u128, Fault>
     requires { AreAllHome tree.now }
-    ensures ok { OnOk result (on_level (broken_at settings.now level (tree_of tree.now).pages) met.old places.now ≡ None) }
-    ensures pairs { IfOk result (λ pairs. pairs ≡ length (joined (map (leaf_at (tree_of tree.now).pages) (map (λ at. at.pid) places.now)))) }
+    ensures ok { OnOk result
+        (on_level (broken_at settings.now level (tree_of tree.now).pages) met.old places.now
+        ≡ None) }
+    ensures pairs { IfOk result (λ pairs. pairs ≡ length
+        (joined (map (leaf_at (tree_of tree.now).pages) (map (λ at. at.pid) places.now)))) }
     ensures met { OnOk result (HaveMetTheSame met.new (all_met met.old places.now)) }
     ensures count { OnOk result (length met.new ≡ length met.old + length places.now) }
-    ensures err { IfErr result (IsFaultOf (on_level (broken_at settings.now level (tree_of tree.now).pages) met.old places.now)) }
+    ensures err { IfErr result (IsFaultOf
+        (on_level (broken_at settings.now level (tree_of tree.now).pages) met.old places.now)) }
 {
     let seen = look_at_all(rt, alloc, tree, settings, level, places)?;
     meet_all(places, &seen, met)
@@ -52,13 +56,16 @@ fn look_at_all(
     places: &[Place<'_>],
 ) -> Result<Vec<Verdict>, AllocError>
     requires { AreAllHome tree.now }
-    ensures { IfOk result (λ seen. seen.items ≡ map (seen_at settings.now level (tree_of tree.now).pages) places.now) }
+    ensures { IfOk result (λ seen. seen.items
+        ≡ map (seen_at settings.now level (tree_of tree.now).pages) places.now) }
 {
     places
         .par_iter()
         .map(
             |at: &Place<'_>| -> Result<Verdict, AllocError>
-                ensures { AreAllHome tree.entry.now → IfOk result (λ seen. seen ≡ seen_at settings.entry.now level (tree_of tree.entry.now).pages at.now) }
+                ensures { AreAllHome tree.entry.now →
+                    IfOk result (λ seen. seen
+                    ≡ seen_at settings.entry.now level (tree_of tree.entry.now).pages at.now) }
             { look(alloc, tree, settings, level, at) },
         )
         .collect::<Result<Vec<Verdict>, AllocError>>(rt, alloc)?
@@ -111,7 +118,8 @@ pub(crate) fn places_below<'a>(
     places: &[Place<'a>],
 ) -> Result<Vec<Place<'a>>, AllocError>
     requires { AreAllHome tree.now }
-    ensures { IfOk result (λ below. below.items ≡ flat_map (children_at (tree_of tree.now).pages) places.now) }
+    ensures { IfOk result
+        (λ below. below.items ≡ flat_map (children_at (tree_of tree.now).pages) places.now) }
 {
     let mut below = Vec::new(alloc);
     for place in places {
@@ -128,7 +136,8 @@ fn push_children<'a>(
     below: &mut Vec<Place<'a>>,
 ) -> Result<(), AllocError>
     requires { AreAllHome tree.now }
-    ensures { OnOk result (below.new.items ≡ below.old.items ++ children_at (tree_of tree.now).pages at.now) }
+    ensures { OnOk result
+        (below.new.items ≡ below.old.items ++ children_at (tree_of tree.now).pages at.now) }
 {
     let Some(page) = tree.page(at.pid) else {
         return Ok(());
@@ -146,7 +155,8 @@ fn push_places<'a>(
     end: Option<&'a [u8]>,
     below: &mut Vec<Place<'a>>,
 ) -> Result<(), AllocError>
-    ensures { OnOk result (below.new.items ≡ below.old.items ++ children entries.now (option_copied end.entry)) }
+    ensures { OnOk result
+        (below.new.items ≡ below.old.items ++ children entries.now (option_copied end.entry)) }
 {
     let count = entries.len();
     for at in 0..count {

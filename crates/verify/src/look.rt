@@ -42,7 +42,8 @@ pub(crate) fn look(
     level: Level,
     at: &Place<'_>,
 ) -> Result<Verdict, AllocError>
-    ensures { AreAllHome tree.now → IfOk result (λ seen. seen ≡ seen_at settings.now level (tree_of tree.now).pages at.now) }
+    ensures { AreAllHome tree.now →
+        IfOk result (λ seen. seen ≡ seen_at settings.now level (tree_of tree.now).pages at.now) }
 {
     let Some(page) = tree.page(at.pid) else {
         return Ok(Verdict::Broken(NO_PAGE));
@@ -67,7 +68,8 @@ fn look_at_leaf(
     low: &[u8],
     chain: &LateChain<Value<Global>, Global>,
 ) -> Result<Verdict, AllocError>
-    ensures { IfOk result (λ verdict. verdict ≡ seen_as (broken_leaf settings.now [] at.now (Some (Leaf (record { low = low.now; layers = seen chain.now }))))
+    ensures { IfOk result (λ verdict. verdict ≡ seen_as (broken_leaf settings.now [] at.now
+        (Some (Leaf (record { low = low.now; layers = seen chain.now }))))
         (length (entries (record { low = low.now; layers = seen chain.now })))) }
 {
     let broken = broken_rule_of_leaf(alloc, settings, at, low, chain)?;
@@ -86,8 +88,8 @@ fn broken_rule_of_leaf(
     low: &[u8],
     chain: &LateChain<Value<Global>, Global>,
 ) -> Result<Option<u32>, AllocError>
-    ensures { IfOk result (λ rule. rule ≡ first_broken (common_rules settings.now (is_short_value settings.now) at.now
-        (record { low = low.now; layers = seen chain.now }))) }
+    ensures { IfOk result (λ rule. rule ≡ first_broken (common_rules settings.now
+        (is_short_value settings.now) at.now (record { low = low.now; layers = seen chain.now }))) }
 {
     // Only for the proof: its keys rise.
     let _depth = chain.depth();
@@ -108,7 +110,8 @@ fn look_at_index(
     low: &[u8],
     chain: &Chain<Pid, Global>,
 ) -> Result<Verdict, AllocError>
-    ensures { IfOk result (λ seen. seen ≡ seen_as (broken_index settings.now least [] at.now (Some (Index (record { low = low.now; layers = chain.now })))) 0) }
+    ensures { IfOk result (λ seen. seen ≡ seen_as (broken_index settings.now least [] at.now
+        (Some (Index (record { low = low.now; layers = chain.now })))) 0) }
 {
     // Only for the proof: its keys rise.
     let _depth = chain.depth();
@@ -124,7 +127,8 @@ fn look_at_index(
 
 // Whether there are at least `least` children, and the first is at the low key.
 fn is_headed(children: &Pairs<'_, Pid, Global>, least: usize, low: &[u8]) -> bool
-    ensures { result ≡ (nat_le least (length children.now) && is_same_key (first_key children.now) low.now) }
+    ensures { result
+        ≡ (nat_le least (length children.now) && is_same_key (first_key children.now) low.now) }
 {
     if children.len() < least {
         return false;

@@ -44,7 +44,8 @@ impl Met {
     pub(crate) fn meet(&mut self, pid: Pid) -> Result<bool, AllocError>
         ensures first { IfOk result (λ first. first ≡ not (is_among pid self.old)) }
         ensures met { OnOk result (self.new ≡ insert_key nat_cmp self.old pid) }
-        ensures count { IfOk result (λ first. length self.new ≡ length self.old + (if first then 1 else 0)) }
+        ensures count { IfOk result
+            (λ first. length self.new ≡ length self.old + (if first then 1 else 0)) }
     {
         let first = self.pids.insert(pid.0)?;
         Ok(first)

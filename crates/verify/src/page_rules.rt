@@ -21,7 +21,10 @@ pub(crate) fn broken_rule<V: CellSize, B: BaseList<V>>(
 ) -> Option<u32>
     requires { IsInOrder (record { runs = runs.now.runs; base = B.entries base.now }) }
     ensures { result ≡ first_broken (common_rules settings.now (V.is_short settings.now) at.now
-        (record { low = low.now; layers = record { runs = runs.now.runs; base = B.entries base.now } })) }
+        (record {
+          low = low.now;
+          layers = record { runs = runs.now.runs; base = B.entries base.now };
+        })) }
 {
     if !compare(low, at.low).is_eq() {
         return Some(LOW_KEY);

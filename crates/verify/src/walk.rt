@@ -54,7 +54,8 @@ fn walk_to_leaves<'a>(
 ) -> Result<Vec<Place<'a>>, Fault>
     requires home { AreAllHome tree.now }
     requires none { met.old ≡ [] }
-    ensures ok { IfOk result (λ places. HasComeTo settings.now (tree_of tree.now) 0 1 met.new places.items) }
+    ensures ok { IfOk result
+        (λ places. HasComeTo settings.now (tree_of tree.now) 0 1 met.new places.items) }
     ensures err { IfErr result (IsFaultOf (finding settings.now (tree_of tree.now))) }
 {
     let mut places = root_place(alloc, tree.root())?;
@@ -70,7 +71,8 @@ fn walk_to_leaves<'a>(
 
 // The root's place: all keys.
 fn root_place<'a>(alloc: Global, root: Pid) -> Result<Vec<Place<'a>>, AllocError>
-    ensures { IfOk result (λ places. places.items ≡ record { pid = root; low = []; end = None } ∷ []) }
+    ensures { IfOk result
+        (λ places. places.items ≡ record { pid = root; low = []; end = None } ∷ []) }
 {
     let mut places = Vec::new(alloc);
     places.push(Place {

@@ -22,7 +22,8 @@ use std::thread::Threads;
 
 // Whether a call of the disk failed.
 fn is_of_disk(fault: &Fault) -> bool
-    ensures { ((fault.now ≡ Fault.Device) × (result ≡ true)) ⊎ ((fault.now ≢ Fault.Device) × (result ≡ false)) }
+    ensures { ((fault.now ≡ Fault.Device) × (result ≡ true))
+        ⊎ ((fault.now ≢ Fault.Device) × (result ≡ false)) }
 {
     matches!(fault, Fault::Device)
 }
@@ -42,30 +43,46 @@ impl<D: Disk> Store<D> {
     /// fault all is as it was.
     pub fn clean(&mut self, rt: &(impl Threads + Sync), crew: Crew) -> Result<u64, Fault>
         // Whatever the disk does, of bytes that were read: the store after it, or why it is refused.
-        ensures read { self.old.has_failed ≡ false → IsTrue (is_crew crew) → (file : Bytes) × IsReadOf (D.view self.old.disk) file × MatchResult result
-            (λ head. (bytes : Bytes) × (after_clean self.old.settings self.old.store file ≡ Ok (self.new.store, bytes)) × (head ≡ self.new.store.head))
-            (IsCleanFault self.old.settings self.old.store file (D.failed self.old.disk) (D.failed self.new.disk)) }
-        ensures rest { (self.new.settings ≡ self.old.settings) × Kept (D.view self.old.disk) (D.view self.new.disk) }
+        ensures read { self.old.has_failed ≡ false → IsTrue (is_crew crew) →
+            (file : Bytes) × IsReadOf (D.view self.old.disk) file
+            × MatchResult result
+            (λ head. (bytes : Bytes) ×
+            (after_clean self.old.settings self.old.store file ≡ Ok (self.new.store, bytes))
+            × (head ≡ self.new.store.head))
+            (IsCleanFault self.old.settings self.old.store file
+            (D.failed self.old.disk) (D.failed self.new.disk)) }
+        ensures rest { (self.new.settings ≡ self.old.settings)
+            × Kept (D.view self.old.disk) (D.view self.new.disk) }
 
         // What a fault leaves: the store, but that it has failed after `Device`; and the disk, but after `Device` in writing.
-        ensures failed { self.old.has_failed ≡ true → (result ≡ Err Fault.Failed) × (self.new ≡ self.old) }
-        ensures bad_crew { self.old.has_failed ≡ false → is_crew crew ≡ false → (result ≡ Err Fault.BadCrew) × (self.new ≡ self.old) }
+        ensures failed { self.old.has_failed ≡ true →
+            (result ≡ Err Fault.Failed) × (self.new ≡ self.old) }
+        ensures bad_crew { self.old.has_failed ≡ false → is_crew crew ≡ false →
+            (result ≡ Err Fault.BadCrew) × (self.new ≡ self.old) }
         ensures unchanged { IfErr result (λ fault. self.new.store ≡ self.old.store) }
         ensures fine { IfErr result (λ fault. fault ≢ Fault.Device →
-            (self.new.has_failed ≡ self.old.has_failed) × (D.failed self.new.disk ≡ D.failed self.old.disk)) }
+            (self.new.has_failed ≡ self.old.has_failed)
+            × (D.failed self.new.disk ≡ D.failed self.old.disk)) }
         ensures device { IfErr result (λ fault. fault ≡ Fault.Device → self.new.has_failed ≡ true) }
-        ensures unwritten { self.old.has_failed ≡ false → IsTrue (D.view self.old.disk).is_honest → IfErr result (λ fault.
-            Same (D.view self.old.disk) (D.view self.new.disk)
-            ⊎ ((fault ≡ Fault.Device) × WouldClean self.old.settings self.old.store (D.view self.old.disk).seen)) }
-        ensures counted { OnOk result ((self.new.has_failed ≡ self.old.has_failed) × (D.failed self.new.disk ≡ D.failed self.old.disk)) }
+        ensures unwritten { self.old.has_failed ≡ false → IsTrue (D.view self.old.disk).is_honest →
+            IfErr result (λ fault. Same (D.view self.old.disk) (D.view self.new.disk)
+            ⊎ ((fault ≡ Fault.Device)
+            × WouldClean self.old.settings self.old.store (D.view self.old.disk).seen)) }
+        ensures counted { OnOk result ((self.new.has_failed ≡ self.old.has_failed)
+            × (D.failed self.new.disk ≡ D.failed self.old.disk)) }
 
         // On an honest disk: these bytes, and settled; a crash at any moment of it leaves the store before, or these bytes.
-        ensures bytes { IsTrue (D.view self.old.disk).is_honest → OnOk result (
-            after_clean self.old.settings self.old.store (D.view self.old.disk).seen ≡ Ok (self.new.store, (D.view self.new.disk).seen)) }
-        ensures settled { IsTrue (D.view self.old.disk).is_honest → OnOk result (IsSettled (D.view self.new.disk)) }
-        ensures crash { self.old.has_failed ≡ false → IsSettled (D.view self.old.disk) → LeavesOnly (D.view self.old.disk) (D.view self.new.disk)
+        ensures bytes { IsTrue (D.view self.old.disk).is_honest →
+            OnOk result (after_clean self.old.settings self.old.store (D.view self.old.disk).seen
+            ≡ Ok (self.new.store, (D.view self.new.disk).seen)) }
+        ensures settled { IsTrue (D.view self.old.disk).is_honest →
+            OnOk result (IsSettled (D.view self.new.disk)) }
+        ensures crash { self.old.has_failed ≡ false → IsSettled (D.view self.old.disk) →
+            LeavesOnly (D.view self.old.disk) (D.view self.new.disk)
             (λ c. (store_of_disk c ≡ store_of_disk (D.view self.old.disk).seen)
-            ⊎ ((now : definitions.Store) × (after_clean self.old.settings self.old.store (D.view self.old.disk).seen ≡ Ok (now, c)))) }
+            ⊎ ((now : definitions.Store) ×
+            (after_clean self.old.settings self.old.store (D.view self.old.disk).seen
+            ≡ Ok (now, c)))) }
 
         // The store was sound, and is so again.
         ensures sound { IsSound D.view self.old × IsSound D.view self.new }

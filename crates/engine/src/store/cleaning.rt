@@ -14,7 +14,8 @@ use std::thread::Threads;
 
 // Whether to go on with a clean where a flush is refused: where the log is full, and some cleans are left.
 fn go_on(fault: Fault, left: u32) -> Result<(), Fault>
-    ensures { ((fault ≡ Fault.Full) × (0 < left) × (result ≡ Ok tt)) ⊎ ((fault ≡ Fault.Full → left ≡ 0) × (result ≡ Err fault)) }
+    ensures { ((fault ≡ Fault.Full) × (0 < left) × (result ≡ Ok tt))
+        ⊎ ((fault ≡ Fault.Full → left ≡ 0) × (result ≡ Err fault)) }
 {
     match fault {
         Fault::Full if left > 0 => Ok(()),
@@ -49,8 +50,10 @@ impl<D: Disk> Store<D> {
         ensures flushed { IfOk result (λ _. IsFlushedCleaning D.view D.failed self.old self.new) }
 
         // Which fault, and what it leaves: some cleans, as a play of them does.
-        ensures failed { self.old.has_failed ≡ true → (result ≡ Err Fault.Failed) × (self.new ≡ self.old) }
-        ensures bad_crew { self.old.has_failed ≡ false → is_crew crew ≡ false → (result ≡ Err Fault.BadCrew) × (self.new ≡ self.old) }
+        ensures failed { self.old.has_failed ≡ true →
+            (result ≡ Err Fault.Failed) × (self.new ≡ self.old) }
+        ensures bad_crew { self.old.has_failed ≡ false → is_crew crew ≡ false →
+            (result ≡ Err Fault.BadCrew) × (self.new ≡ self.old) }
         ensures refused { self.old.has_failed ≡ false → IsTrue (is_crew crew) →
             IfErr result (IsStoppedCleaning D.view D.failed self.old self.new) }
 

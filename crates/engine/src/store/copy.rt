@@ -81,14 +81,16 @@ impl<D: Disk> Store<D> {
             (option_copied last) }
         requires fine { copy.old.has_failed ≡ false }
         requires crew { IsTrue (is_crew crew) }
-        ensures further { IfOk result (λ end. MatchOption end
-            (contents copy.new.store.tree ≡ contents self.now.store.tree)
-            (λ key. IsBegun (contents self.now.store.tree) (contents copy.new.store.tree) (Some key.now)
+        ensures further { IfOk result
+            (λ end. MatchOption end (contents copy.new.store.tree ≡ contents self.now.store.tree)
+            (λ key. IsBegun (contents self.now.store.tree)
+            (contents copy.new.store.tree) (Some key.now)
             × (length (contents copy.old.store.tree) < length (contents copy.new.store.tree)))) }
         ensures log { OnOk result (copy.new.store ≡ with_tree copy.old.store copy.new.store.tree) }
         ensures rest { (copy.new.settings ≡ copy.old.settings) × (copy.new.disk ≡ copy.old.disk)
             × (copy.new.has_failed ≡ copy.old.has_failed) }
-        ensures refused { IfErr result (IsPutFault copy.old.settings (contents self.now.store.tree)) }
+        ensures refused { IfErr result
+            (IsPutFault copy.old.settings (contents self.now.store.tree)) }
     {
         // Only for the proof.
         the_contents_of_a_proper_tree_rise();
@@ -113,11 +115,13 @@ impl<D: Disk> Store<D> {
         requires empty { contents copy.old.store.tree ≡ [] }
         requires fine { copy.old.has_failed ≡ false }
         requires crew { IsTrue (is_crew crew) }
-        ensures contents { OnOk result (contents copy.new.store.tree ≡ contents self.now.store.tree) }
+        ensures contents { OnOk result
+            (contents copy.new.store.tree ≡ contents self.now.store.tree) }
         ensures log { OnOk result (copy.new.store ≡ with_tree copy.old.store copy.new.store.tree) }
         ensures rest { (copy.new.settings ≡ copy.old.settings) × (copy.new.disk ≡ copy.old.disk)
             × (copy.new.has_failed ≡ copy.old.has_failed) }
-        ensures refused { IfErr result (IsPutFault copy.old.settings (contents self.now.store.tree)) }
+        ensures refused { IfErr result
+            (IsPutFault copy.old.settings (contents self.now.store.tree)) }
     {
         let mut last = None;
         'batches: loop {
@@ -139,7 +143,8 @@ impl<D: Disk> Store<D> {
         requires empty { contents copy.old.store.tree ≡ [] }
         requires fine { copy.old.has_failed ≡ false }
         requires crew { IsTrue (is_crew crew) }
-        ensures contents { OnOk result (contents copy.new.store.tree ≡ contents self.now.store.tree) }
+        ensures contents { OnOk result
+            (contents copy.new.store.tree ≡ contents self.now.store.tree) }
         ensures rest { (copy.new.settings ≡ copy.old.settings)
             × Kept (E.view copy.old.disk) (E.view copy.new.disk) }
         ensures counted { OnOk result ((copy.new.has_failed ≡ false)
@@ -149,7 +154,8 @@ impl<D: Disk> Store<D> {
             × IsSettled (E.view copy.new.disk)) }
         ensures refused { IfErr result (IsCopyFault copy.old.settings (contents self.now.store.tree)
             (E.failed copy.old.disk) (E.failed copy.new.disk)) }
-        ensures unchanged { IfErr result (λ fault. fault ≢ Fault.Device → copy.new.disk ≡ copy.old.disk) }
+        ensures unchanged { IfErr result
+            (λ fault. fault ≢ Fault.Device → copy.new.disk ≡ copy.old.disk) }
         ensures sound { OnOk result (IsSound E.view copy.new) }
     {
         // Only for the proof.

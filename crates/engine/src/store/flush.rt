@@ -53,11 +53,14 @@ pub(super) fn plan(
     text: Text,
 ) -> Result<Commit, Fault>
     requires home { AreAllHome tree.now }
-    requires store { (version : versions.Version) × IsStore settings.now (store_in tree.now log version) }
+    requires store { (version : versions.Version) ×
+        IsStore settings.now (store_in tree.now log version) }
     requires some { text_of text (tree_of tree.now) ≢ [] }
-    ensures plan { (version : versions.Version) → IfOk result (IsWriting text settings.now (store_in tree.now log version)) }
+    ensures plan { (version : versions.Version) →
+        IfOk result (IsWriting text settings.now (store_in tree.now log version)) }
     ensures err { IfErr result (λ fault. (fault ≡ NoMemory)
-        ⊎ (next_tail settings.now (slot_of (store_in tree.now log (version_with text))) (text_of text (tree_of tree.now)) ≡ Err fault)) }
+        ⊎ (next_tail settings.now (slot_of (store_in tree.now log (version_with text)))
+        (text_of text (tree_of tree.now)) ≡ Err fault)) }
 {
     let images = images(rt, crew, alloc, tree, text)?;
     let slot = Slot {
@@ -80,28 +83,40 @@ impl<D: Disk> Store<D> {
         requires fine { self.old.has_failed ≡ false }
         requires own { IsOwnText text self.old.store }
         requires due { IsToWrite text self.old.store }
-        ensures store { IfOk result (λ n. (n ≡ self.new.store.sequence) × ((bytes : Bytes)
-            × (after_writing text self.old.settings self.old.store (D.view self.old.disk).seen ≡ Ok (self.new.store, bytes)))) }
+        ensures store { IfOk result (λ n. (n ≡ self.new.store.sequence)
+            × ((bytes : Bytes) ×
+            (after_writing text self.old.settings self.old.store (D.view self.old.disk).seen
+            ≡ Ok (self.new.store, bytes)))) }
         ensures version { OnOk result (self.new.store.version ≡ version_with text) }
-        ensures rest { (self.new.settings ≡ self.old.settings) × Kept (D.view self.old.disk) (D.view self.new.disk) }
+        ensures rest { (self.new.settings ≡ self.old.settings)
+            × Kept (D.view self.old.disk) (D.view self.new.disk) }
 
         // Which fault, and what it leaves.
-        ensures refused { IfErr result (IsWritingFault text self.old.settings self.old.store (D.view self.old.disk).seen
-            (D.failed self.old.disk) (D.failed self.new.disk)) }
+        ensures refused { IfErr result (IsWritingFault text self.old.settings self.old.store
+            (D.view self.old.disk).seen (D.failed self.old.disk) (D.failed self.new.disk)) }
         ensures unchanged { IfErr result (λ fault. fault ≢ Fault.Device → self.new ≡ self.old) }
-        ensures device { IfErr result (λ fault. fault ≡ Fault.Device → (self.new.store ≡ self.old.store) × (self.new.has_failed ≡ true)) }
-        ensures counted { OnOk result ((self.new.has_failed ≡ self.old.has_failed) × (D.failed self.new.disk ≡ D.failed self.old.disk)) }
+        ensures device { IfErr result (λ fault. fault ≡ Fault.Device →
+            (self.new.store ≡ self.old.store) × (self.new.has_failed ≡ true)) }
+        ensures counted { OnOk result ((self.new.has_failed ≡ self.old.has_failed)
+            × (D.failed self.new.disk ≡ D.failed self.old.disk)) }
 
         // On an honest disk: these bytes, and settled; a crash at any moment of it leaves the store before, or these bytes.
-        ensures bytes { IsTrue (D.view self.old.disk).is_honest → OnOk result (
-            after_writing text self.old.settings self.old.store (D.view self.old.disk).seen ≡ Ok (self.new.store, (D.view self.new.disk).seen)) }
-        ensures settled { IsTrue (D.view self.old.disk).is_honest → OnOk result (IsSettled (D.view self.new.disk)) }
-        ensures crash { IsSettled (D.view self.old.disk) → LeavesOnly (D.view self.old.disk) (D.view self.new.disk)
+        ensures bytes { IsTrue (D.view self.old.disk).is_honest →
+            OnOk result
+            (after_writing text self.old.settings self.old.store (D.view self.old.disk).seen
+            ≡ Ok (self.new.store, (D.view self.new.disk).seen)) }
+        ensures settled { IsTrue (D.view self.old.disk).is_honest →
+            OnOk result (IsSettled (D.view self.new.disk)) }
+        ensures crash { IsSettled (D.view self.old.disk) →
+            LeavesOnly (D.view self.old.disk) (D.view self.new.disk)
             (λ c. (store_of_disk c ≡ store_of_disk (D.view self.old.disk).seen)
-            ⊎ ((now : definitions.Store) × (after_writing text self.old.settings self.old.store (D.view self.old.disk).seen ≡ Ok (now, c)))) }
+            ⊎ ((now : definitions.Store) ×
+            (after_writing text self.old.settings self.old.store (D.view self.old.disk).seen
+            ≡ Ok (now, c)))) }
 
         ensures frames { OnOk result (HasFrames self.old.settings text self.old.store.tree) }
-        ensures frames_under_way { IfErr result (λ fault. fault ≡ Fault.Device → HasFrames self.old.settings text self.old.store.tree) }
+        ensures frames_under_way { IfErr result
+            (λ fault. fault ≡ Fault.Device → HasFrames self.old.settings text self.old.store.tree) }
         ensures sound { IsSound D.view self.old × IsSound D.view self.new }
     {
         // Only for the proof.
@@ -140,34 +155,49 @@ impl<D: Disk> Store<D> {
     /// the one that it has; after any other fault all is as it was.
     pub fn flush(&mut self, rt: &(impl Threads + Sync), crew: Crew) -> Result<u64, Fault>
         // Store and number, whatever the disk does.
-        ensures store { IfOk result (λ n. (n ≡ self.new.store.sequence) × ((bytes : Bytes)
-            × (after_flush self.old.settings self.old.store (D.view self.old.disk).seen ≡ Ok (self.new.store, bytes)))) }
-        ensures nothing { self.old.has_failed ≡ false → IsTrue (is_crew crew) → flush_text self.old.store.version self.old.store.tree ≡ [] →
+        ensures store { IfOk result (λ n. (n ≡ self.new.store.sequence)
+            × ((bytes : Bytes) ×
+            (after_flush self.old.settings self.old.store (D.view self.old.disk).seen
+            ≡ Ok (self.new.store, bytes)))) }
+        ensures nothing { self.old.has_failed ≡ false → IsTrue (is_crew crew) →
+            flush_text self.old.store.version self.old.store.tree ≡ [] →
             (result ≡ Ok self.old.store.sequence) × (self.new ≡ self.old) }
-        ensures rest { (self.new.settings ≡ self.old.settings) × Kept (D.view self.old.disk) (D.view self.new.disk) }
+        ensures rest { (self.new.settings ≡ self.old.settings)
+            × Kept (D.view self.old.disk) (D.view self.new.disk) }
 
         // Which fault, and what it leaves.
         ensures failed { self.old.has_failed ≡ true → result ≡ Err Fault.Failed }
-        ensures bad_crew { self.old.has_failed ≡ false → is_crew crew ≡ false → result ≡ Err Fault.BadCrew }
-        ensures refused { self.old.has_failed ≡ false → IsTrue (is_crew crew) → IfErr result (IsFlushFault self.old.settings self.old.store (D.view self.old.disk).seen
+        ensures bad_crew { self.old.has_failed ≡ false → is_crew crew ≡ false →
+            result ≡ Err Fault.BadCrew }
+        ensures refused { self.old.has_failed ≡ false → IsTrue (is_crew crew) →
+            IfErr result (IsFlushFault self.old.settings self.old.store (D.view self.old.disk).seen
             (D.failed self.old.disk) (D.failed self.new.disk)) }
         ensures unchanged { IfErr result (λ fault. fault ≢ Fault.Device → self.new ≡ self.old) }
-        ensures device { IfErr result (λ fault. fault ≡ Fault.Device → (self.new.store ≡ self.old.store) × (self.new.has_failed ≡ true)) }
-        ensures counted { OnOk result ((self.new.has_failed ≡ self.old.has_failed) × (D.failed self.new.disk ≡ D.failed self.old.disk)) }
+        ensures device { IfErr result (λ fault. fault ≡ Fault.Device →
+            (self.new.store ≡ self.old.store) × (self.new.has_failed ≡ true)) }
+        ensures counted { OnOk result ((self.new.has_failed ≡ self.old.has_failed)
+            × (D.failed self.new.disk ≡ D.failed self.old.disk)) }
 
         // On an honest disk: these bytes, and settled; a crash at any moment of it leaves the store before, or these bytes.
-        ensures bytes { IsTrue (D.view self.old.disk).is_honest → OnOk result (
-            after_flush self.old.settings self.old.store (D.view self.old.disk).seen ≡ Ok (self.new.store, (D.view self.new.disk).seen)) }
-        ensures settled { IsTrue (D.view self.old.disk).is_honest → flush_text self.old.store.version self.old.store.tree ≢ [] →
+        ensures bytes { IsTrue (D.view self.old.disk).is_honest →
+            OnOk result (after_flush self.old.settings self.old.store (D.view self.old.disk).seen
+            ≡ Ok (self.new.store, (D.view self.new.disk).seen)) }
+        ensures settled { IsTrue (D.view self.old.disk).is_honest →
+            flush_text self.old.store.version self.old.store.tree ≢ [] →
             OnOk result (IsSettled (D.view self.new.disk)) }
-        ensures crash { self.old.has_failed ≡ false → IsSettled (D.view self.old.disk) → LeavesOnly (D.view self.old.disk) (D.view self.new.disk)
+        ensures crash { self.old.has_failed ≡ false → IsSettled (D.view self.old.disk) →
+            LeavesOnly (D.view self.old.disk) (D.view self.new.disk)
             (λ c. (store_of_disk c ≡ store_of_disk (D.view self.old.disk).seen)
-            ⊎ ((now : definitions.Store) × (after_flush self.old.settings self.old.store (D.view self.old.disk).seen ≡ Ok (now, c)))) }
+            ⊎ ((now : definitions.Store) ×
+            (after_flush self.old.settings self.old.store (D.view self.old.disk).seen
+            ≡ Ok (now, c)))) }
 
         // The frames are such as a store may have, also where a call of the disk failed: the bytes of the flush under way stand for a store.
         // The store was sound, and is so again.
-        ensures frames { OnOk result (HasFrames self.old.settings (texts.Flush self.old.store.version) self.old.store.tree) }
-        ensures frames_under_way { IfErr result (λ fault. fault ≡ Fault.Device → HasFrames self.old.settings (texts.Flush self.old.store.version) self.old.store.tree) }
+        ensures frames { OnOk result
+            (HasFrames self.old.settings (texts.Flush self.old.store.version) self.old.store.tree) }
+        ensures frames_under_way { IfErr result (λ fault. fault ≡ Fault.Device →
+            HasFrames self.old.settings (texts.Flush self.old.store.version) self.old.store.tree) }
         ensures sound { IsSound D.view self.old × IsSound D.view self.new }
     {
         if self.has_failed {

@@ -85,7 +85,8 @@ impl<D: Disk> Store<D> {
     /// How many segments of the log are in use: from the first one to that in which the log ends. Where these are all but one, the next
     /// flush that needs a further segment is `Fault::Full`, and a clean may help, which needs two in use.
     pub fn segments_in_use(&self) -> u64
-        ensures exact { self.now.store.head + result ≡ last_segment self.now.settings self.now.store.tail + 1 }
+        ensures exact { self.now.store.head + result
+            ≡ last_segment self.now.settings self.now.store.tail + 1 }
         ensures least { 1 ≤ result }
         ensures most { result ≤ self.now.settings.segments }
     {
@@ -114,9 +115,11 @@ impl<D: Disk> Store<D> {
 
         // Which fault.
         ensures failed { self.now.has_failed ≡ true → result ≡ Err Fault.Failed }
-        ensures bad_crew { self.now.has_failed ≡ false → is_crew crew ≡ false → result ≡ Err Fault.BadCrew }
-        ensures refused { self.now.has_failed ≡ false → IsTrue (is_crew crew) → IfErr result (λ fault.
-            (fault ≡ NoMemory) ⊎ IsFlushRefused self.now.settings self.now.store fault) }
+        ensures bad_crew { self.now.has_failed ≡ false → is_crew crew ≡ false →
+            result ≡ Err Fault.BadCrew }
+        ensures refused { self.now.has_failed ≡ false → IsTrue (is_crew crew) →
+            IfErr result
+            (λ fault. (fault ≡ NoMemory) ⊎ IsFlushRefused self.now.settings self.now.store fault) }
     {
         if self.has_failed {
             return Err(Fault::Failed);
@@ -141,7 +144,8 @@ impl<D: Disk> Store<D> {
     /// How many pairs there are; 4,294,967,295 where there are more. It takes no memory, and walks over all pairs, as `range` without
     /// bounds does.
     pub fn pairs(&self) -> u64
-        ensures exact { length (contents self.now.store.tree) < 2 ^ 32 → result ≡ length (contents self.now.store.tree) }
+        ensures exact { length (contents self.now.store.tree) < 2 ^ 32 →
+            result ≡ length (contents self.now.store.tree) }
         ensures least { result ≤ length (contents self.now.store.tree) }
     {
         count(Rows::new(self.alloc, &self.tree, b"", None, u32::MAX))

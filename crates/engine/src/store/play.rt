@@ -29,33 +29,47 @@ impl<D: Disk> Store<D> {
         step: Step<'_>,
     ) -> Result<Answer, Fault>
         // On any disk, the step is the defined one on the bytes that reads returned.
-        ensures ok { IfOk result (λ answer. (bytes : Bytes) × IsStepDone (D.view self.old.disk).is_honest
-            self.old.settings self.old.store (D.view self.old.disk).seen (step_of step.entry) answer self.new.store bytes) }
-        ensures rest { (self.new.settings ≡ self.old.settings) × Kept (D.view self.old.disk) (D.view self.new.disk) }
+        ensures ok { IfOk result (λ answer. (bytes : Bytes) ×
+            IsStepDone (D.view self.old.disk).is_honest self.old.settings self.old.store
+            (D.view self.old.disk).seen (step_of step.entry) answer self.new.store bytes) }
+        ensures rest { (self.new.settings ≡ self.old.settings)
+            × Kept (D.view self.old.disk) (D.view self.new.disk) }
 
         // Which fault, and what it leaves.
         ensures failed { self.old.has_failed ≡ true → result ≡ Err Fault.Failed }
         ensures still { self.old.has_failed ≡ true → self.new ≡ self.old }
-        ensures bad_crew { self.old.has_failed ≡ false → is_crew crew ≡ false → result ≡ Err Fault.BadCrew }
-        ensures refused { self.old.has_failed ≡ false → IsTrue (is_crew crew) → IfErr result (λ fault. (file : Bytes)
-            × (IsTrue (D.view self.old.disk).is_honest → file ≡ (D.view self.old.disk).seen)
-            × IsStepFault self.old.settings self.old.store file (D.failed self.old.disk) (D.failed self.new.disk) (step_of step.entry) fault) }
+        ensures bad_crew { self.old.has_failed ≡ false → is_crew crew ≡ false →
+            result ≡ Err Fault.BadCrew }
+        ensures refused { self.old.has_failed ≡ false → IsTrue (is_crew crew) →
+            IfErr result (λ fault. (file : Bytes) ×
+            (IsTrue (D.view self.old.disk).is_honest → file ≡ (D.view self.old.disk).seen)
+            × IsStepFault self.old.settings self.old.store file
+            (D.failed self.old.disk) (D.failed self.new.disk) (step_of step.entry) fault) }
         ensures unchanged { IfErr result (λ fault. self.new.store ≡ self.old.store) }
         ensures fine { IfErr result (λ fault. fault ≢ Fault.Device →
-            (self.new.has_failed ≡ self.old.has_failed) × (D.failed self.new.disk ≡ D.failed self.old.disk)) }
+            (self.new.has_failed ≡ self.old.has_failed)
+            × (D.failed self.new.disk ≡ D.failed self.old.disk)) }
         ensures same { IsTrue (D.view self.old.disk).is_honest →
-            IfErr result (λ fault. fault ≢ Fault.Device → Same (D.view self.old.disk) (D.view self.new.disk)) }
-        ensures device { IfErr result (λ fault. fault ≡ Fault.Device → (self.new.has_failed ≡ true)
-            × HasWords (batching self.old.settings) self.old.settings self.old.store (step_of step.entry)) }
-        ensures counted { OnOk result ((self.new.has_failed ≡ self.old.has_failed) × (D.failed self.new.disk ≡ D.failed self.old.disk)) }
+            IfErr result
+            (λ fault. fault ≢ Fault.Device → Same (D.view self.old.disk) (D.view self.new.disk)) }
+        ensures device { IfErr result (λ fault. fault ≡ Fault.Device →
+            (self.new.has_failed ≡ true)
+            × HasWords (batching self.old.settings) self.old.settings self.old.store
+            (step_of step.entry)) }
+        ensures counted { OnOk result ((self.new.has_failed ≡ self.old.has_failed)
+            × (D.failed self.new.disk ≡ D.failed self.old.disk)) }
 
         // On an honest disk.
-        ensures bytes { IsTrue (D.view self.old.disk).is_honest → IfOk result (λ answer.
-            after_step (batching self.old.settings) self.old.settings self.old.store (D.view self.old.disk).seen (step_of step.entry)
+        ensures bytes { IsTrue (D.view self.old.disk).is_honest →
+            IfOk result (λ answer. after_step (batching self.old.settings)
+            self.old.settings self.old.store (D.view self.old.disk).seen (step_of step.entry)
             ≡ Ok (answer_of answer, (self.new.store, (D.view self.new.disk).seen))) }
-        ensures settled { IsSettled (D.view self.old.disk) → OnOk result (IsSettled (D.view self.new.disk)) }
-        ensures crash { self.old.has_failed ≡ false → IsSettled (D.view self.old.disk) → LeavesOnly (D.view self.old.disk) (D.view self.new.disk)
-            (IsLeftInStep self.old.settings self.old.store (D.view self.old.disk).seen (step_of step.entry)) }
+        ensures settled { IsSettled (D.view self.old.disk) →
+            OnOk result (IsSettled (D.view self.new.disk)) }
+        ensures crash { self.old.has_failed ≡ false → IsSettled (D.view self.old.disk) →
+            LeavesOnly (D.view self.old.disk) (D.view self.new.disk)
+            (IsLeftInStep self.old.settings self.old.store
+            (D.view self.old.disk).seen (step_of step.entry)) }
 
         ensures sound { IsSound D.view self.old × IsSound D.view self.new }
     {
@@ -80,49 +94,75 @@ impl<D: Disk> Store<D> {
     ) -> Result<Vec<Answer>, (usize, Vec<Answer>, Fault)>
         // All are played, or those before one that is refused, whatever the disk does: each answers, and leaves the store, as it should, of
         // bytes that a read gave. On an honest disk these are the bytes that the steps before it left.
-        ensures ok { IfOk result (λ answers. IsPlayed (D.view self.old.disk).is_honest
-            self.old.settings self.old.store (D.view self.old.disk).seen (map step_of steps.now) answers.items self.new.store) }
-        ensures err { IfErr result (λ e. (e.0 < length steps.now) × IsPlayed (D.view self.old.disk).is_honest
-            self.old.settings self.old.store (D.view self.old.disk).seen (played result steps.now) e.1.items self.new.store) }
-        ensures exact { IsTrue (D.view self.old.disk).is_honest → MatchResult result
-            (λ answers. IsPlayedOn self.old.settings self.old.store (D.view self.old.disk).seen (map step_of steps.now) answers.items self.new.store)
-            (λ e. IsPlayedOn self.old.settings self.old.store (D.view self.old.disk).seen (played result steps.now) e.1.items self.new.store) }
-        ensures rest { (self.new.settings ≡ self.old.settings) × Kept (D.view self.old.disk) (D.view self.new.disk) }
+        ensures ok { IfOk result
+            (λ answers. IsPlayed (D.view self.old.disk).is_honest self.old.settings self.old.store
+            (D.view self.old.disk).seen (map step_of steps.now) answers.items self.new.store) }
+        ensures err { IfErr result (λ e. (e.0 < length steps.now)
+            × IsPlayed (D.view self.old.disk).is_honest self.old.settings self.old.store
+            (D.view self.old.disk).seen (played result steps.now) e.1.items self.new.store) }
+        ensures exact { IsTrue (D.view self.old.disk).is_honest →
+            MatchResult result
+            (λ answers. IsPlayedOn self.old.settings self.old.store (D.view self.old.disk).seen
+            (map step_of steps.now) answers.items self.new.store)
+            (λ e. IsPlayedOn self.old.settings self.old.store (D.view self.old.disk).seen
+            (played result steps.now) e.1.items self.new.store) }
+        ensures rest { (self.new.settings ≡ self.old.settings)
+            × Kept (D.view self.old.disk) (D.view self.new.disk) }
 
         // On an honest disk, these bytes; and so: the replies are those of an ordered map, and the disk stands for the store of the last flush.
-        ensures bytes { IsTrue (D.view self.old.disk).is_honest → UnlessDevice result ((D.view self.new.disk).seen
-            ≡ (plays (batching self.old.settings) self.old.settings self.old.store (D.view self.old.disk).seen (played result steps.now)).bytes) }
+        ensures bytes { IsTrue (D.view self.old.disk).is_honest →
+            UnlessDevice result ((D.view self.new.disk).seen
+            ≡ (plays (batching self.old.settings) self.old.settings self.old.store
+            (D.view self.old.disk).seen (played result steps.now)).bytes) }
         ensures headline { self.old.has_failed ≡ false → IsTrue (D.view self.old.disk).is_honest →
-            (on_disk : definitions.Store) → store_of_disk (D.view self.old.disk).seen ≡ Ok (self.old.settings, on_disk) →
-            ArePlayed (batching self.old.settings) self.old.settings self.old.store.tree on_disk.tree (played result steps.now)
-            (plays (batching self.old.settings) self.old.settings self.old.store (D.view self.old.disk).seen (played result steps.now)) }
+            (on_disk : definitions.Store) →
+            store_of_disk (D.view self.old.disk).seen ≡ Ok (self.old.settings, on_disk) →
+            ArePlayed (batching self.old.settings)
+            self.old.settings self.old.store.tree on_disk.tree (played result steps.now)
+            (plays (batching self.old.settings) self.old.settings self.old.store
+            (D.view self.old.disk).seen (played result steps.now)) }
 
         // Which fault, and what it leaves.
         ensures failed { self.old.has_failed ≡ true → OnOk result (steps.now ≡ []) }
         ensures still { self.old.has_failed ≡ true → self.new ≡ self.old }
-        ensures still_failed { self.old.has_failed ≡ true → IfErr result (λ e. (e.0 ≡ 0) × ((e.2 ≡ Fault.Failed) ⊎ (e.2 ≡ Fault.NoMemory))) }
-        ensures bad_crew { self.old.has_failed ≡ false → is_crew crew ≡ false → OnOk result (steps.now ≡ [])
+        ensures still_failed { self.old.has_failed ≡ true →
+            IfErr result (λ e. (e.0 ≡ 0) × ((e.2 ≡ Fault.Failed) ⊎ (e.2 ≡ Fault.NoMemory))) }
+        ensures bad_crew { self.old.has_failed ≡ false → is_crew crew ≡ false →
+            OnOk result (steps.now ≡ [])
             × IfErr result (λ e. (e.0 ≡ 0) × ((e.2 ≡ Fault.BadCrew) ⊎ (e.2 ≡ Fault.NoMemory))) }
-        ensures refused { self.old.has_failed ≡ false → IsTrue (is_crew crew) → IfErr result (λ e. (file : Bytes) × (IsTrue (D.view self.old.disk).is_honest → file
-            ≡ (plays (batching self.old.settings) self.old.settings self.old.store (D.view self.old.disk).seen (played result steps.now)).bytes)
-            × IsPlayFault self.old.settings self.new.store file (D.failed self.old.disk) (D.failed self.new.disk) steps.now e.0 e.2) }
+        ensures refused { self.old.has_failed ≡ false → IsTrue (is_crew crew) →
+            IfErr result (λ e. (file : Bytes) ×
+            (IsTrue (D.view self.old.disk).is_honest →
+            file ≡ (plays (batching self.old.settings) self.old.settings self.old.store
+            (D.view self.old.disk).seen (played result steps.now)).bytes)
+            × IsPlayFault self.old.settings self.new.store file
+            (D.failed self.old.disk) (D.failed self.new.disk) steps.now e.0 e.2) }
         ensures device { IfErr result (λ e. e.2 ≡ Fault.Device → self.new.has_failed ≡ true) }
-        ensures counted { UnlessDevice result ((self.new.has_failed ≡ self.old.has_failed) × (D.failed self.new.disk ≡ D.failed self.old.disk)) }
+        ensures counted { UnlessDevice result ((self.new.has_failed ≡ self.old.has_failed)
+            × (D.failed self.new.disk ≡ D.failed self.old.disk)) }
 
         // From a settled disk, a crash at any moment leaves the store after some of these steps; and once it has answered, after all of them. Where
         // a call of the disk failed, that is so of the step before it or of the one in which it failed.
-        ensures crash { self.old.has_failed ≡ false → IsSettled (D.view self.old.disk) → LeavesOnly (D.view self.old.disk) (D.view self.new.disk)
-            (StandsAfterSome (batching self.old.settings) self.old.settings self.old.store (D.view self.old.disk).seen (reached result steps.now)) }
-        ensures settled { IsSettled (D.view self.old.disk) → UnlessDevice result (IsSettled (D.view self.new.disk)) }
-        ensures behind { self.old.has_failed ≡ false → IsSettled (D.view self.old.disk) → IfErr result (λ e. e.2 ≡ Fault.Device →
-            (c : Bytes) → (D.view self.new.disk).may_leave c → IsLeftBehind self.old.settings self.old.store (D.view self.old.disk).seen steps.now e.0 c) }
+        ensures crash { self.old.has_failed ≡ false → IsSettled (D.view self.old.disk) →
+            LeavesOnly (D.view self.old.disk) (D.view self.new.disk)
+            (StandsAfterSome (batching self.old.settings) self.old.settings self.old.store
+            (D.view self.old.disk).seen (reached result steps.now)) }
+        ensures settled { IsSettled (D.view self.old.disk) →
+            UnlessDevice result (IsSettled (D.view self.new.disk)) }
+        ensures behind { self.old.has_failed ≡ false → IsSettled (D.view self.old.disk) →
+            IfErr result (λ e. e.2 ≡ Fault.Device →
+            (c : Bytes) → (D.view self.new.disk).may_leave c →
+            IsLeftBehind self.old.settings self.old.store
+            (D.view self.old.disk).seen steps.now e.0 c) }
 
         // The numbers on the way have 64 bits, on any disk as `IsPlayed` says, and those of a step in which a call of the disk failed too.
         // The store was sound, and is so again.
         ensures words { IsTrue (D.view self.old.disk).is_honest →
-            HaveWords (batching self.old.settings) self.old.settings self.old.store (D.view self.old.disk).seen (played result steps.now) }
+            HaveWords (batching self.old.settings) self.old.settings self.old.store
+            (D.view self.old.disk).seen (played result steps.now) }
         ensures words_reached { IsTrue (D.view self.old.disk).is_honest →
-            HaveWords (batching self.old.settings) self.old.settings self.old.store (D.view self.old.disk).seen (reached result steps.now) }
+            HaveWords (batching self.old.settings) self.old.settings self.old.store
+            (D.view self.old.disk).seen (reached result steps.now) }
         ensures sound { IsSound D.view self.old × IsSound D.view self.new }
     {
         // Only for the proof.

@@ -38,7 +38,8 @@ impl<D: Disk> Store<D> {
     /// that deletes have emptied there. A store that has failed answers too.
     pub fn range(&self, lo: &[u8], hi: Option<&[u8]>, limit: u32) -> Result<Rows<'_>, Fault>
         ensures succeeds { IsOk result }
-        ensures rows { IfOk result (λ left. left ≡ rows lo.now (option_copied hi.entry) limit (contents self.now.store.tree)) }
+        ensures rows { IfOk result (λ left. left
+            ≡ rows lo.now (option_copied hi.entry) limit (contents self.now.store.tree)) }
     {
         Ok(Rows::new(self.alloc, &self.tree, lo, hi, limit))
     }
@@ -47,7 +48,8 @@ impl<D: Disk> Store<D> {
     /// lent as those of `range` are, and the bounds are only looked at in this call. It costs one way down, and one more where `lo`
     /// isn't empty. A store that has failed answers too.
     pub fn range_back(&self, lo: &[u8], hi: Option<&[u8]>, limit: u32) -> RowsBack<'_>
-        ensures { result ≡ rows_back lo.now (option_copied hi.entry) limit (contents self.now.store.tree) }
+        ensures { result
+            ≡ rows_back lo.now (option_copied hi.entry) limit (contents self.now.store.tree) }
     {
         RowsBack::new(self.alloc, &self.tree, lo, hi, limit)
     }
@@ -79,7 +81,8 @@ fn chain_for<'a>(tree: &'a Tree<Global>, key: &[u8]) -> &'a Chain<Value<Global>,
     requires home { AreAllHome tree.now }
     requires held { HoldsLevels (tree_of tree.now).pages (levels_of (tree_of tree.now)) }
     requires levels { AreLevels (levels_of (tree_of tree.now)) }
-    ensures { value_at key.now (entries_of result.now) ≡ value_at key.now (contents (tree_of tree.now)) }
+    ensures { value_at key.now (entries_of result.now)
+        ≡ value_at key.now (contents (tree_of tree.now)) }
 {
     leaf_under(tree, leaf_for(tree, key))
 }
@@ -104,8 +107,10 @@ fn leaf_for(tree: &Tree<Global>, key: &[u8]) -> Pid
 // What the leaf under this page id holds, as it lies in memory.
 fn leaf_under<'a>(tree: &'a Tree<Global>, pid: Pid) -> &'a Chain<Value<Global>, Global>
     requires home { AreAllHome tree.now }
-    requires leaf { (page : Page Bytes) × (page_at (tree_of tree.now).pages pid ≡ Some (Leaf page)) }
-    ensures { (page : Page Bytes) × (page_at (tree_of tree.now).pages pid ≡ Some (Leaf page)) × (entries_of page.layers ≡ entries_of result.now) }
+    requires leaf { (page : Page Bytes) ×
+        (page_at (tree_of tree.now).pages pid ≡ Some (Leaf page)) }
+    ensures { (page : Page Bytes) × (page_at (tree_of tree.now).pages pid ≡ Some (Leaf page))
+        × (entries_of page.layers ≡ entries_of result.now) }
 {
     let Some(page) = tree.page(pid) else {
         unreachable!()

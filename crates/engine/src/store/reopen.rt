@@ -21,9 +21,12 @@ use std::thread::Threads;
 fn settle<D: Disk>(disk: &mut D) -> Result<(), DiskFault>
     ensures kept { Kept (D.view disk.old) (D.view disk.new) }
     ensures failed { CountsFailure result (D.failed disk.old) (D.failed disk.new) }
-    ensures settled { IsTrue (D.view disk.old).is_honest → OnOk result (IsSettled (D.view disk.new)) }
-    ensures seen { IsTrue (D.view disk.old).is_honest → (D.view disk.new).seen ≡ (D.view disk.old).seen }
-    ensures crash { IsTrue (D.view disk.old).is_honest → Leaves (D.view disk.old) (D.view disk.new) (λ before c. c ≡ before) }
+    ensures settled { IsTrue (D.view disk.old).is_honest →
+        OnOk result (IsSettled (D.view disk.new)) }
+    ensures seen { IsTrue (D.view disk.old).is_honest →
+        (D.view disk.new).seen ≡ (D.view disk.old).seen }
+    ensures crash { IsTrue (D.view disk.old).is_honest →
+        Leaves (D.view disk.old) (D.view disk.new) (λ before c. c ≡ before) }
 {
     disk.sync()
 }
@@ -48,12 +51,16 @@ impl<D: Disk> Store<D> {
         // The crew comes before the disk is called.
         ensures bad_crew { is_crew crew ≡ false → result ≡ Err (Fault.BadCrew, disk) }
         // Of bytes that were read, whatever the disk does; on an honest one these are what a read gives.
-        ensures read { IsTrue (is_crew crew) → (file : Bytes) × IsReadOf (D.view disk) file × IsOpened D.failed file (D.failed disk) result }
-        ensures honest { IsTrue (is_crew crew) → IsTrue (D.view disk).is_honest → IsOpened D.failed (D.view disk).seen (D.failed disk) result }
+        ensures read { IsTrue (is_crew crew) →
+            (file : Bytes) × IsReadOf (D.view disk) file
+            × IsOpened D.failed file (D.failed disk) result }
+        ensures honest { IsTrue (is_crew crew) → IsTrue (D.view disk).is_honest →
+            IsOpened D.failed (D.view disk).seen (D.failed disk) result }
         ensures fine { IfOk result (λ opened. opened.has_failed ≡ false) }
 
         // No byte changed, and nothing of what a crash may leave.
-        ensures same { IsTrue (D.view disk).is_honest → Same (D.view disk) (D.view (disk_left result)) }
+        ensures same { IsTrue (D.view disk).is_honest →
+            Same (D.view disk) (D.view (disk_left result)) }
         ensures kept { Kept (D.view disk) (D.view (disk_left result)) }
         ensures counted { IfOk result (λ opened. D.failed opened.disk ≡ D.failed disk) }
         ensures uncounted { IfErr result (λ e. e.0 ≢ Fault.Device → D.failed e.1 ≡ D.failed disk) }
@@ -95,14 +102,20 @@ impl<D: Disk> Store<D> {
     ) -> Result<Store<D>, (Fault, D)>
         // The crew comes before the disk is called.
         ensures bad_crew { is_crew crew ≡ false → result ≡ Err (Fault.BadCrew, disk) }
-        ensures read { IsTrue (is_crew crew) → (file : Bytes) × IsReadOf (D.view disk) file × IsOpened D.failed file (D.failed disk) result }
-        ensures honest { IsTrue (is_crew crew) → IsTrue (D.view disk).is_honest → IsOpened D.failed (D.view disk).seen (D.failed disk) result }
+        ensures read { IsTrue (is_crew crew) →
+            (file : Bytes) × IsReadOf (D.view disk) file
+            × IsOpened D.failed file (D.failed disk) result }
+        ensures honest { IsTrue (is_crew crew) → IsTrue (D.view disk).is_honest →
+            IsOpened D.failed (D.view disk).seen (D.failed disk) result }
         ensures fine { IfOk result (λ opened. opened.has_failed ≡ false) }
 
         // What a read gives stays; the disk is settled where it is Ok, and a crash meanwhile leaves what it might have left before.
-        ensures seen { IsTrue (D.view disk).is_honest → (D.view (disk_left result)).seen ≡ (D.view disk).seen }
-        ensures settled { IsTrue (D.view disk).is_honest → IfOk result (λ opened. IsSettled (D.view opened.disk)) }
-        ensures crash { IsTrue (D.view disk).is_honest → Leaves (D.view disk) (D.view (disk_left result)) (λ before c. c ≡ before) }
+        ensures seen { IsTrue (D.view disk).is_honest →
+            (D.view (disk_left result)).seen ≡ (D.view disk).seen }
+        ensures settled { IsTrue (D.view disk).is_honest →
+            IfOk result (λ opened. IsSettled (D.view opened.disk)) }
+        ensures crash { IsTrue (D.view disk).is_honest →
+            Leaves (D.view disk) (D.view (disk_left result)) (λ before c. c ≡ before) }
         ensures kept { Kept (D.view disk) (D.view (disk_left result)) }
         ensures counted { IfOk result (λ opened. D.failed opened.disk ≡ D.failed disk) }
         ensures uncounted { IfErr result (λ e. e.0 ≢ Fault.Device → D.failed e.1 ≡ D.failed disk) }
@@ -123,17 +136,24 @@ impl<D: Disk> Store<D> {
     pub fn reopen(self, rt: &(impl Threads + Sync), crew: Crew) -> Result<Store<D>, (Fault, D)>
         // The crew comes before the disk is called.
         ensures bad_crew { is_crew crew ≡ false → result ≡ Err (Fault.BadCrew, self.disk) }
-        ensures read { IsTrue (is_crew crew) → (file : Bytes) × IsReadOf (D.view self.disk) file × IsOpened D.failed file (D.failed self.disk) result }
-        ensures honest { IsTrue (is_crew crew) → IsTrue (D.view self.disk).is_honest → IsOpened D.failed (D.view self.disk).seen (D.failed self.disk) result }
+        ensures read { IsTrue (is_crew crew) →
+            (file : Bytes) × IsReadOf (D.view self.disk) file
+            × IsOpened D.failed file (D.failed self.disk) result }
+        ensures honest { IsTrue (is_crew crew) → IsTrue (D.view self.disk).is_honest →
+            IsOpened D.failed (D.view self.disk).seen (D.failed self.disk) result }
         ensures fine { IfOk result (λ opened. opened.has_failed ≡ false) }
 
         // What a read gives stays; the disk is settled where it is Ok, and a crash meanwhile leaves what it might have left before.
-        ensures seen { IsTrue (D.view self.disk).is_honest → (D.view (disk_left result)).seen ≡ (D.view self.disk).seen }
-        ensures settled { IsTrue (D.view self.disk).is_honest → IfOk result (λ opened. IsSettled (D.view opened.disk)) }
-        ensures crash { IsTrue (D.view self.disk).is_honest → Leaves (D.view self.disk) (D.view (disk_left result)) (λ before c. c ≡ before) }
+        ensures seen { IsTrue (D.view self.disk).is_honest →
+            (D.view (disk_left result)).seen ≡ (D.view self.disk).seen }
+        ensures settled { IsTrue (D.view self.disk).is_honest →
+            IfOk result (λ opened. IsSettled (D.view opened.disk)) }
+        ensures crash { IsTrue (D.view self.disk).is_honest →
+            Leaves (D.view self.disk) (D.view (disk_left result)) (λ before c. c ≡ before) }
         ensures kept { Kept (D.view self.disk) (D.view (disk_left result)) }
         ensures counted { IfOk result (λ opened. D.failed opened.disk ≡ D.failed self.disk) }
-        ensures uncounted { IfErr result (λ e. e.0 ≢ Fault.Device → D.failed e.1 ≡ D.failed self.disk) }
+        ensures uncounted { IfErr result
+            (λ e. e.0 ≢ Fault.Device → D.failed e.1 ≡ D.failed self.disk) }
         ensures sound { IfOk result (λ opened. IsSound D.view opened) }
     {
         let alloc = self.alloc;

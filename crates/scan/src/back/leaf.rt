@@ -72,7 +72,8 @@ impl<'a> LeafBack<'a> {
 
     // The last pair, which is none of those to come afterwards.
     pub(crate) fn next_back(&mut self) -> Option<(&'a [u8], &'a Value<Global>)>
-        ensures { MatchOption result ((self.old ≡ []) × (self.new ≡ [])) (λ p. self.old ≡ self.new ++ (p.0.now, p.1.now) ∷ []) }
+        ensures { MatchOption result ((self.old ≡ []) × (self.new ≡ []))
+            (λ p. self.old ≡ self.new ++ (p.0.now, p.1.now) ∷ []) }
     {
         match &mut self.way {
             WayBack::Merging(merge) => last_pair(merge),

@@ -103,7 +103,8 @@ fn descend<'a>(
 fn last_leaf<'a>(tree: &'a Tree<Global>, path: &mut PathBack<'a>) -> Option<Leaf<'a>>
     requires { IsWalk tree.now path.old }
     ensures walk { IsWalk tree.now path.new }
-    ensures leaves { MatchOption result ((walk_before tree.now path.old.items ≡ []) × (walk_before tree.now path.new.items ≡ []))
+    ensures leaves { MatchOption result
+        ((walk_before tree.now path.old.items ≡ []) × (walk_before tree.now path.new.items ≡ []))
         (λ leaf. walk_before tree.now path.old.items
         ≡ walk_before tree.now path.new.items ++ leaf_with leaf.0.now (seen leaf.1.now) ∷ []) }
 {

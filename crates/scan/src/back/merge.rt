@@ -44,9 +44,15 @@ impl<'a> Model for MergeBack<'a> {
 
     ghost Value = { Merged };
 
-    ghost view = { λ m. record { changes = changes_before (option_map (λ c. (c.0, option_copied c.1)) m.change) (said_by m.runs.items); pairs = take m.left m.base.now } };
+    ghost view = { λ m. record {
+      changes = changes_before (option_map (λ c. (c.0, option_copied c.1)) m.change)
+          (said_by m.runs.items);
+      pairs = take m.left m.base.now;
+    } };
 
-    ghost invariant = { λ m. IsMerge (changes_before (option_map (λ c. (c.0, option_copied c.1)) m.change) (said_by m.runs.items)) m.runs.items m.base.now };
+    ghost invariant = { λ m. IsMerge (changes_before
+        (option_map (λ c. (c.0, option_copied c.1)) m.change) (said_by m.runs.items))
+        m.runs.items m.base.now };
 }
 
 impl<'a> MergeBack<'a> {
@@ -84,8 +90,10 @@ impl<'a> MergeBack<'a> {
 
     // The last change, unless a pair of the base stands after it. A pair that has its key is passed.
     pub(crate) fn take_change(&mut self) -> Option<Change<'a>>
-        ensures { MatchOption result ((self.new ≡ self.old) × ArePairsLast self.old.changes self.old.pairs)
-            (λ c. (merged self.old ≡ merged self.new ++ pair_if c.0 (option_copied c.1)) × (length self.new.changes < length self.old.changes)) }
+        ensures { MatchOption result
+            ((self.new ≡ self.old) × ArePairsLast self.old.changes self.old.pairs)
+            (λ c. (merged self.old ≡ merged self.new ++ pair_if c.0 (option_copied c.1))
+            × (length self.new.changes < length self.old.changes)) }
     {
         let left = match &self.change {
             Some(change) => short_of(self.base, self.left, &change.0)?,
@@ -98,7 +106,8 @@ impl<'a> MergeBack<'a> {
     // The base's last pair, after which there is no change.
     pub(crate) fn take_pair(&mut self) -> Option<(&'a [u8], &'a Value<Global>)>
         requires { ArePairsLast self.old.changes self.old.pairs }
-        ensures { MatchOption result ((merged self.old ≡ []) × (merged self.new ≡ [])) (λ p. merged self.old ≡ merged self.new ++ (p.0.now, p.1.now) ∷ []) }
+        ensures { MatchOption result ((merged self.old ≡ []) × (merged self.new ≡ []))
+            (λ p. merged self.old ≡ merged self.new ++ (p.0.now, p.1.now) ∷ []) }
     {
         let base = self.base;
         let at = self.left.min(base.len()).checked_sub(1)?;
@@ -109,7 +118,8 @@ impl<'a> MergeBack<'a> {
 
 // The last pair that is there after the changes.
 pub(crate) fn last_pair<'a>(merge: &mut MergeBack<'a>) -> Option<(&'a [u8], &'a Value<Global>)>
-    ensures { MatchOption result ((merged merge.old ≡ []) × (merged merge.new ≡ [])) (λ p. merged merge.old ≡ merged merge.new ++ (p.0.now, p.1.now) ∷ []) }
+    ensures { MatchOption result ((merged merge.old ≡ []) × (merged merge.new ≡ []))
+        (λ p. merged merge.old ≡ merged merge.new ++ (p.0.now, p.1.now) ∷ []) }
 {
     loop {
         let Some((key, said)) = merge.take_change() else {
@@ -124,7 +134,8 @@ pub(crate) fn last_pair<'a>(merge: &mut MergeBack<'a>) -> Option<(&'a [u8], &'a 
 // How many of the base's first pairs are below the key; none where the last of these stands after the key.
 fn short_of(base: &Base<Value<Global>, Global>, count: usize, key: &KeyRef<'_>) -> Option<usize>
     ensures { MatchOption result (HasBehind key.now (take count base.now))
-        (λ left. (behind key.now (take count base.now) ≡ []) × (take left base.now ≡ before (Some key.now) (take count base.now))) }
+        (λ left. (behind key.now (take count base.now) ≡ [])
+        × (take left base.now ≡ before (Some key.now) (take count base.now))) }
 {
     let count = count.min(base.len());
     if count == 0 {
@@ -167,7 +178,8 @@ fn last_change<'a>(runs: &mut RunsBack<'a>) -> Option<Change<'a>>
 // The change with the greatest key; where runs share that key, it is the newest one's.
 fn greatest<'a>(runs: &[RunBack<'a>]) -> Option<Change<'a>>
     requires { AllByRecursion IsRising runs.now }
-    ensures { MatchOption result (AllByRecursion (λ run. run ≡ []) runs.now) (λ c. IsLastSaid (c.0, option_copied c.1) runs.now) }
+    ensures { MatchOption result (AllByRecursion (λ run. run ≡ []) runs.now)
+        (λ c. IsLastSaid (c.0, option_copied c.1) runs.now) }
 {
     let mut greatest: Option<Change<'a>> = None;
     let mut at = runs.len();

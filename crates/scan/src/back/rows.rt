@@ -36,7 +36,8 @@ impl<'a> Model for RowsBack<'a> {
 
     ghost Value = { Pairs Bytes };
 
-    ghost view = { λ r. rows_left_back r.left (option_copied r.start) (pairs_before r.leaves r.leaf) };
+    ghost view = { λ r. rows_left_back r.left (option_copied r.start)
+        (pairs_before r.leaves r.leaf) };
 }
 
 impl<'a> RowsBack<'a> {
@@ -53,7 +54,8 @@ impl<'a> RowsBack<'a> {
         requires height { tree.now.height ≤ most_levels }
         requires held { HoldsLevels (tree_of tree.now).pages (levels_of (tree_of tree.now)) }
         requires levels { AreLevels (levels_of (tree_of tree.now)) }
-        ensures { result ≡ rows_back lo.now (option_copied hi.entry) limit (contents (tree_of tree.now)) }
+        ensures { result
+            ≡ rows_back lo.now (option_copied hi.entry) limit (contents (tree_of tree.now)) }
     {
         let (start, left) = start_of(alloc, tree, lo, limit);
         let (last, leaves) = LeavesBack::new(alloc, tree, hi);
@@ -114,7 +116,8 @@ fn start_of<'a>(
     requires height { tree.now.height ≤ most_levels }
     requires held { HoldsLevels (tree_of tree.now).pages (levels_of (tree_of tree.now)) }
     requires levels { AreLevels (levels_of (tree_of tree.now)) }
-    ensures { (hi : Option Bytes) → rows_left_back result.1 (option_copied result.0) (before hi (contents (tree_of tree.now)))
+    ensures { (hi : Option Bytes) →
+        rows_left_back result.1 (option_copied result.0) (before hi (contents (tree_of tree.now)))
         ≡ rows_back lo.now hi limit (contents (tree_of tree.now)) }
 {
     if lo.is_empty() {
@@ -132,7 +135,9 @@ fn last_pair<'a>(
     leaf: &mut LeafBack<'a>,
     leaves: &mut LeavesBack<'a>,
 ) -> Option<(&'a [u8], &'a Value<Global>)>
-    ensures { MatchOption result (pairs_before leaves.old leaf.old ≡ []) (λ pair. pairs_before leaves.old leaf.old ≡ pairs_before leaves.new leaf.new ++ (pair.0.now, pair.1.now) ∷ []) }
+    ensures { MatchOption result (pairs_before leaves.old leaf.old ≡ [])
+        (λ pair. pairs_before leaves.old leaf.old
+        ≡ pairs_before leaves.new leaf.new ++ (pair.0.now, pair.1.now) ∷ []) }
 {
     loop {
         if let Some(pair) = leaf.next_back() {

@@ -51,7 +51,8 @@ impl<'a> RunBack<'a> {
 
     // The last change, if there is one.
     pub(crate) fn last(&self) -> Option<Change<'a>>
-        ensures { MatchOption result (self.now ≡ []) (λ c. EndsWith (c.0, option_copied c.1) self.now) }
+        ensures { MatchOption result (self.now ≡ [])
+            (λ c. EndsWith (c.0, option_copied c.1) self.now) }
     {
         match &self.tail {
             Some(tail) => Some((tail.key.again(), tail.said)),

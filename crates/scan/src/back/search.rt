@@ -28,7 +28,8 @@ impl<'a> Model for SearchBack<'a> {
 
     ghost Value = { Pairs Bytes };
 
-    ghost view = { λ l. until_last (option_map (λ e. (e.0.now, e.1.now)) l.last) (entries_of l.chain.now) };
+    ghost view = { λ l. until_last
+        (option_map (λ e. (e.0.now, e.1.now)) l.last) (entries_of l.chain.now) };
 }
 
 impl<'a> SearchBack<'a> {
@@ -44,7 +45,8 @@ impl<'a> SearchBack<'a> {
 
     // The last pair, which is none of those to come afterwards.
     pub(crate) fn next_back(&mut self) -> Option<(&'a [u8], &'a Value<Global>)>
-        ensures { MatchOption result ((self.old ≡ []) × (self.new ≡ [])) (λ p. self.old ≡ self.new ++ (p.0.now, p.1.now) ∷ []) }
+        ensures { MatchOption result ((self.old ≡ []) × (self.new ≡ []))
+            (λ p. self.old ≡ self.new ++ (p.0.now, p.1.now) ∷ []) }
     {
         match self.last {
             Some((key, value)) => {
@@ -61,7 +63,8 @@ fn last_before<'a>(
     chain: &'a Chain<Value<Global>, Global>,
     hi: Option<&[u8]>,
 ) -> Option<(&'a [u8], &'a Value<Global>)>
-    ensures { until_last (option_map (λ e. (e.0.now, e.1.now)) result) (entries_of chain.now) ≡ before (option_copied hi.entry) (entries_of chain.now) }
+    ensures { until_last (option_map (λ e. (e.0.now, e.1.now)) result) (entries_of chain.now)
+        ≡ before (option_copied hi.entry) (entries_of chain.now) }
 {
     let _in_order = chain.depth();
     let key = greatest_named(&chain.lent(), hi)?;
@@ -74,7 +77,8 @@ fn greatest_named<'a>(
     hi: Option<&[u8]>,
 ) -> Option<KeyRef<'a>>
     requires { IsInOrder lists.now }
-    ensures { MatchOption result (NamesNone (option_copied hi.entry) lists.now) (λ key. AreNamedUpTo key (option_copied hi.entry) lists.now) }
+    ensures { MatchOption result (NamesNone (option_copied hi.entry) lists.now)
+        (λ key. AreNamedUpTo key (option_copied hi.entry) lists.now) }
 {
     let Some((run, below)) = lists.newest() else {
         let base = lists.base();

@@ -40,7 +40,8 @@ impl<'a> StepBack<'a> {
 
     // The last child, which is none of those to come afterwards.
     pub(crate) fn next_back(&mut self) -> Option<Pid>
-        ensures { MatchOption result ((self.old ≡ []) × (self.new ≡ [])) (λ pid. self.old ≡ self.new ++ pid ∷ []) }
+        ensures { MatchOption result ((self.old ≡ []) × (self.new ≡ []))
+            (λ pid. self.old ≡ self.new ++ pid ∷ []) }
     {
         let (list, left) = self.children?;
         let at = left.min(list.len()).checked_sub(1)?;
