@@ -1,5 +1,5 @@
 -- Lemmas on the cleans that make room for flushes.
-use Rattle.std.proofs.Common.{◌≡◌, ◌≢◌, ◌⊎◌, ◌&&◌, not, inl, inr, ℕ, zero, suc, Bool, true, false, List, [], ◌∷◌, ◌++◌, Option, Some, None, Result, Ok, Err, refl, sym, ap, ◌∙◌, subst, append-nil}
+use Rattle.std.proofs.Common.{◌≡◌, ◌≢◌, ◌⊎◌, ◌&&◌, ◌-◌, not, inl, inr, ℕ, zero, suc, Bool, true, false, List, [], ◌∷◌, ◌++◌, Option, Some, None, Result, Ok, Err, refl, sym, ap, ◌∙◌, subst, append-nil, arith}
 use Rattle.std.specs.Prelude.{filter, IsTrue}
 use Rattle.std.specs.Io.KnownBytes.{Appends}
 use Rattle.std.specs.List.{AllByRecursion, flat_map}
@@ -19,7 +19,7 @@ use Rattle.bwsh.specs.declared.session.Ending.TheVariants.{Device}
 use Rattle.bwsh.specs.declared.session.Ending.TheVariants as endings
 use Rattle.bwsh.specs.Session.{BeginsWith, Prints, Reads, Runs, RunsFirst, RunsOn, RunsOrder, behind, flush_with_room, is_clean, is_full, later, own_lines, refusal_of, wants_clean, with_cleans}
 use Rattle.bwsh.proofs.BytesLemmas.{behind-same}
-use Rattle.bwsh.proofs.FirstLemmas.{Leavable, RunsBy, RunsBy-asked, RunsBy-cut, RunsBy-goes_on, RunsBy-stops, leave, leave_flush}
+use Rattle.bwsh.proofs.FirstLemmas.{Leavable, RunsBy, RunsBy-asked, RunsBy-cut, RunsBy-goes_on, RunsBy-stops, RunsOrder-same, leave, leave_flush}
 use Rattle.bwsh.proofs.RunLemmas.{IsCut, first_shown}
 
 -- what is so of what is next is so behind the cleans of a flush
@@ -272,6 +272,62 @@ module _ (honest : Bool) (settings : Settings) (first : Store) (file : List ℕ)
           (flush_stops rest (wants_by settings st at (Some Full) (Some NothingToClean) full_here (is_r ∙ some ∙ ap (λ (f : Fault). Some f) same)) a)
       by rest r is_r (by_right fault some e a) (inr (other, same)) =
           as_is rest same (stops rest (wants_by settings st at (Some Full) (Some fault) full_here (is_r ∙ some) ∙ wanted fault (λ (is_none : fault ≡ NothingToClean). other (e ∙ ap (λ (f : Fault). endings.Fault f) is_none))))
+
+-- an order's run is one of a disk that shows the same if it is honest, and of the same store
+RunsOrder-from : (honest : Bool) (settings : Settings) (st was : Store) (seen left : List ℕ) → was ≡ st → (IsTrue honest → left ≡ seen) → (order : Order) (old new : Option (List ℕ))
+    (end : Result (Unit {0}) Ending) (now : Store) (bytes : List ℕ) → RunsOrder honest settings was left order old new end now bytes → RunsOrder honest settings st seen order old new end now bytes
+RunsOrder-from honest settings st was seen left same shows order old new end now bytes (file, is, runs, leaves) =
+    subst (λ (s : Store). RunsOrder honest settings s seen order old new end now bytes) same (file, λ h. is h ∙ shows h, runs, leaves)
+
+-- a number that is not 0 is one more than another
+one_more : (n : ℕ) → n ≢ 0 → n ≡ suc (n - 1)
+one_more zero some = absurd (some refl)
+one_more (suc n) some = omega arith
+
+-- a turn of the cleans: the flush, and a clean where the log is full for it
+module _ (honest : Bool) (settings : Settings) (first : Store) (file : List ℕ) (old : Option (List ℕ)) (left : ℕ) (st : Store) (seen : List ℕ) (now : Option (List ℕ))
+    (leads : LeadsRoom honest settings first file old left st seen now) (b : Bool) (b_is : b ≡ honest) (s : Settings) (s_is : s ≡ settings)
+    (mid : Option (List ℕ)) (end : Result (Unit {0}) Ending) (tried : Store) (shows : List ℕ) (flushed : RunsOrder b s st seen Flush now mid end tried shows) where
+  pub Room-ends : (left ≡ 0) ⊎ (end ≢ Err (endings.Fault Full)) → RunsFirst true honest settings first file (Flush ∷ []) old mid end tried shows
+  Room-ends why =
+      LeadsRoom-ends honest settings first file old left st seen now leads mid end tried shows why (RunsOrder-same b honest s settings b_is s_is st seen Flush now mid end tried shows flushed)
+
+  module _ (some : left ≢ 0) (full : end ≡ Err (endings.Fault Full)) (same : tried ≡ st) (unwritten : IsTrue b → shows ≡ seen) (c : Bool) (c_is : c ≡ b) (t : Settings) (t_is : t ≡ s)
+      (new : Option (List ℕ)) (ended : Result (Unit {0}) Ending) (after : Store) (bytes : List ℕ) (cleaned : RunsOrder c t tried shows Clean mid new ended after bytes) where
+    lower : LeadsRoom honest settings first file old (suc (left - 1)) st seen now
+    lower = subst (λ (n : ℕ). LeadsRoom honest settings first file old n st seen now) (one_more left some) leads
+
+    own_flush : RunsOrder honest settings st seen Flush now mid (Err (endings.Fault Full)) tried shows
+    own_flush = subst (λ (e : Result (Unit {0}) Ending). RunsOrder honest settings st seen Flush now mid e tried shows) full
+        (RunsOrder-same b honest s settings b_is s_is st seen Flush now mid end tried shows flushed)
+
+    own_clean : RunsOrder honest settings st seen Clean mid new ended after bytes
+    own_clean = RunsOrder-same b honest s settings b_is s_is st seen Clean mid new ended after bytes
+        (RunsOrder-from b s st tried seen shows same unwritten Clean mid new ended after bytes (RunsOrder-same c b t s c_is t_is tried shows Clean mid new ended after bytes cleaned))
+
+    pub Room-cleaned : (done : Unit {0}) → ended ≡ Ok done → LeadsRoom honest settings first file old (left - 1) after bytes new
+    Room-cleaned done e =
+        let (refused, nothing) = is_refused_full honest settings st seen now mid tried shows own_flush in
+        LeadsRoom-cleaned honest settings first file old (left - 1) st seen now mid lower nothing own_flush.0 refused new after bytes done
+        (subst (λ (r : Result (Unit {0}) Ending). RunsOrder honest settings st seen Clean mid new r after bytes) e own_clean)
+
+    pub Room-refused : (early result : Ending) → ended ≡ Err early
+        → ((early ≡ endings.Fault NothingToClean) × (result ≡ endings.Fault Full)) ⊎ ((early ≢ endings.Fault NothingToClean) × (result ≡ early))
+        → RunsFirst true honest settings first file (Flush ∷ []) old new (Err result) after bytes
+    Room-refused early result e want =
+        let (refused, nothing) = is_refused_full honest settings st seen now mid tried shows own_flush in
+        LeadsRoom-refused honest settings first file old (left - 1) st seen now mid lower nothing own_flush.0 refused new after bytes early result want
+        (subst (λ (r : Result (Unit {0}) Ending). RunsOrder honest settings st seen Clean mid new r after bytes) e own_clean)
+
+-- what two tests say together
+pub both_so : (a b : Bool) → a ≡ true → b ≡ true → (a && b) ≡ true
+both_so true b e f = f
+both_so false b e f = e
+
+pub not_both : (a b : Bool) → (a ≡ false) ⊎ (b ≡ false) → (a && b) ≡ false
+not_both true b (inl e) = absurd (cc)
+not_both true b (inr e) = e
+not_both false b either = refl
 
 -- an order that is a flush, where flushes make themselves room
 pub RunsFirst-roomy : (cleans honest : Bool) (settings : Settings) (st : Store) (left : List ℕ) (order : Order) (old new : Option (List ℕ)) (end : Result (Unit {0}) Ending) (now : Store)

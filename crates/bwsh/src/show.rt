@@ -172,8 +172,7 @@ pub fn show_numbers(numbers: &StoreNumbers, out: &mut Vec<u8>) -> Result<(), All
         pages,
         pairs,
     } = *numbers;
-    let line = format!(in *out.allocator();
-        "stat sequence {sequence} head {head} tail {tail} segments {in_use} of {segments} pages {pages} pairs {pairs}\n"
-    )?;
+    let mut line = format!(in *out.allocator(); "stat sequence {sequence} head {head} tail {tail}")?;
+    write!(line, " segments {in_use} of {segments} pages {pages} pairs {pairs}\n")?;
     out.extend_from_slice(line.as_bytes())
 }
