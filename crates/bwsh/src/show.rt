@@ -172,7 +172,12 @@ pub fn show_numbers(numbers: &StoreNumbers, out: &mut Vec<u8>) -> Result<(), All
         pages,
         pairs,
     } = *numbers;
-    let mut line = format!(in *out.allocator(); "stat sequence {sequence} head {head} tail {tail}")?;
-    write!(line, " segments {in_use} of {segments} pages {pages} pairs {pairs}\n")?;
+    let mut line = format!(in *out.allocator();
+        "stat sequence {sequence} head {head} tail {tail}"
+    )?;
+    write!(
+        line,
+        " segments {in_use} of {segments} pages {pages} pairs {pairs}\n"
+    )?;
     out.extend_from_slice(line.as_bytes())
 }
