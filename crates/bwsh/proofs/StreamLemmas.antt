@@ -1,6 +1,6 @@
 -- Lemmas on streams: lines that are read one after the other, and what they end.
-use Rattle.std.proofs.Common.{◌≡◌, ◌≢◌, ◌≤◌, ◌<◌, ◌+◌, ◌==◌, ◌⊎◌, inl, inr, ℕ, zero, suc, length, take, drop, Bool, true, false, cond, List, [], ◌∷◌, ◌++◌, map, Option, Some, None, IfSome, Result, Ok, Err, IfOk, refl, sym, ap, ◌∙◌, subst, append_assoc, append-nil, arith}
-use Rattle.std.specs.Prelude.{◌&&◌, IsTrue, OnOk, nat_lt, if◌then◌else◌}
+use Rattle.std.proofs.Common.{◌≡◌, ◌≢◌, ◌≤◌, ◌+◌, ◌==◌, ◌⊎◌, inl, inr, ℕ, zero, suc, length, take, drop, Bool, true, false, cond, List, [], ◌∷◌, ◌++◌, map, Option, Some, None, IfSome, Result, Ok, Err, IfOk, refl, sym, ap, ◌∙◌, subst, append_assoc, append-nil, arith}
+use Rattle.std.specs.Prelude.{IsTrue, OnOk, nat_lt, if◌then◌else◌}
 use Rattle.std.specs.Bool.{MatchBool}
 use Rattle.std.specs.Option.{option_map, option_or}
 use Rattle.std.specs.Io.BufRead.{DropsThrough, drop_through, take_through}
@@ -29,12 +29,12 @@ use Rattle.bwsh.specs.declared.options.asked.Ways.{Ways}
 use Rattle.bwsh.specs.declared.session.Ending.{Ending}
 use Rattle.bwsh.specs.declared.session.Ending.TheVariants.{Device}
 use Rattle.bwsh.specs.declared.session.Ending.TheVariants as endings
-use Rattle.bwsh.specs.BatchFile.{IsNextLine, ended_by, first_bad, last_order, lines, streamed, text_says, unended, with_numbers}
+use Rattle.bwsh.specs.BatchFile.{IsNextLine, ended_by, first_bad, last_order, streamed, text_says, unended, with_numbers}
 use Rattle.bwsh.specs.Line.{bad_of, line_says}
 use Rattle.bwsh.specs.Options.{Told}
-use Rattle.bwsh.specs.Session.{AreLeft, IsHonestStore, IsStart, IsStartBy, IsUnopened, Opens, Prints, Reads, Runs, RunsFirst, RunsOn, RunsOrder, Start, Streams, StreamsFrom, StreamsOn, bad_ending, end_streamed, first_refusal, lines_after, orders_end, run_from, run_of, stopped_by, stream_end, stream_ended, stream_lines, without_value}
+use Rattle.bwsh.specs.Session.{AreLeft, IsHonestStore, IsStart, IsStartBy, IsUnopened, Opens, Prints, Reads, Runs, RunsFirst, RunsOn, RunsOrder, Start, Streams, StreamsFrom, StreamsOn, bad_ending, end_streamed, first_refusal, lines_after, run_from, run_of, stopped_by, stream_end, stream_ended, stream_lines, without_value}
 use Rattle.bwsh.proofs.EndLemmas.{Prints-cut, leave_from, start_of, start_without_crew}
-use Rattle.bwsh.proofs.FirstLemmas.{MakesNone, RunsFirst-cut, RunsFirst-early, RunsFirst-flushed, RunsFirst-joined, RunsFirst-none, RunsFirst-one, RunsFirst-same, RunsOn-cut, RunsOn-none}
+use Rattle.bwsh.proofs.FirstLemmas.{MakesNone, RunsFirst-early, RunsFirst-flushed, RunsFirst-joined, RunsFirst-none, RunsFirst-one, RunsFirst-same, RunsOn-cut, RunsOn-none}
 use Rattle.bwsh.proofs.Prints.{Prints-asked, Prints-flushed}
 use Rattle.bwsh.proofs.RunLemmas.{IsCut}
 
@@ -107,12 +107,16 @@ pub IsNextLine-read : (known left : Option (List ℕ)) (line : List ℕ) (n : �
     → (n ≡ 0 → IsAtEnd known) → length line ≡ n → (b : Bool) → nat_lt 0 n ≡ b → IsNextLine known left line b
 IsNextLine-read None left line n is rest at_end counted b some = tt
 IsNextLine-read (Some xs) left line n is rest at_end counted true some =
-    (λ none. let no_line : line ≡ [] = is ∙ ap (take_through 10) none in let zero_read : 0 ≡ n = sym (ap length no_line) ∙ counted in absurd (omega (arith, ltb-true 0 n some, zero_read)), is, rest)
+    let never : xs ≢ [] = λ none.
+    let no_line : line ≡ [] = is ∙ ap (take_through 10) none in
+    let zero_read : 0 ≡ n = sym (ap length no_line) ∙ counted in
+    absurd (omega (arith, ltb-true 0 n some, zero_read)) in
+    (never, is, rest)
 IsNextLine-read (Some xs) left line n is rest at_end counted false none = at_end (omega (arith, ltb-false 0 n none))
 
 -- after what there was, which is nothing
-pub IsNextLine-got : (known left : Option (List ℕ)) (before line : List ℕ) (n : ℕ) → before ≡ [] → IfSome known (λ xs. line ≡ before ++ take_through 10 xs) → DropsThrough known left 10
-    → (n ≡ 0 → IsAtEnd known) → length line ≡ length before + n → IsNextLine known left line (nat_lt 0 n)
+pub IsNextLine-got : (known left : Option (List ℕ)) (before line : List ℕ) (n : ℕ) → before ≡ [] → IfSome known (λ xs. line ≡ before ++ take_through 10 xs)
+    → DropsThrough known left 10 → (n ≡ 0 → IsAtEnd known) → length line ≡ length before + n → IsNextLine known left line (nat_lt 0 n)
 IsNextLine-got known left before line n none is rest at_end counted =
     let whole : length line ≡ 0 + n = subst (λ (b : List ℕ). length line ≡ length b + n) none counted in
     IsNextLine-read known left line n (subst (λ (b : List ℕ). IfSome known (λ xs. line ≡ b ++ take_through 10 xs)) none is) rest at_end (omega (arith, whole)) (nat_lt 0 n) refl
@@ -239,7 +243,8 @@ module _ (cleans honest : Bool) (settings : Settings) (st : Store) (left : List 
 
 -- What lines that are left say, of which the next has the number n, prints after what stands there is, after what stood there first, what all lines
 -- of the stream say.
-abbrev pub LeadsOn : Ways → Bool → Settings → Store → List ℕ → Option (List ℕ) → Option (List ℕ) → Settings → Store → List ℕ → List (Command Global) → ℕ → Option (List ℕ) → Option (List ℕ) → Type 0
+abbrev pub LeadsOn : Ways → Bool → Settings → Store → List ℕ → Option (List ℕ) → Option (List ℕ)
+    → Settings → Store → List ℕ → List (Command Global) → ℕ → Option (List ℕ) → Option (List ℕ) → Type 0
 LeadsOn ways honest settings first file known old s st seen pending n left now =
     (rest : List Says) → IfSome left (λ text. rest ≡ text_says text) → (new : Option (List ℕ)) (end : Result (Option (ℕ × Why)) Ending)
     → RunsOn ways.clean_when_full honest s st seen (streamed ways.stat pending rest) now new (without_value end) → IfOk end (λ bad. bad ≡ first_bad n rest)
@@ -413,8 +418,8 @@ module _ (told : Told) (known old : Option (List ℕ)) where
       (said, is_known, start, start_without_crew told out_of_range, λ i. [], λ memory. tt, inl (refl, Appends-nil old))
 
 -- it is run from a right start
-pub Streams-run : (told : Told) (known old new : Option (List ℕ)) (end : Result (Unit {0}) Ending) (start : Start) → IsStart told start → (IsHonest : Type 0) → (told.disk ≡ None → IsHonest)
-    → StreamsFrom told.ways IsHonest start known old new end → Streams told known old new end
+pub Streams-run : (told : Told) (known old new : Option (List ℕ)) (end : Result (Unit {0}) Ending) (start : Start) → IsStart told start → (IsHonest : Type 0)
+    → (told.disk ≡ None → IsHonest) → StreamsFrom told.ways IsHonest start known old new end → Streams told known old new end
 unfolding Streams StreamsFrom
 Streams-run told known old new end start is IsHonest honest (said, is_known, shown, are, p) = (said, is_known, start, is, shown, λ memory. are (honest memory), p)
 
