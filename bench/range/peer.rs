@@ -1,4 +1,4 @@
-//! The peer of `main.rt`: the same ranges, read out of std's `BTreeMap`.
+//! The peer of `main.rt`: the same ranges and keys, read out of std's `BTreeMap`; a copy is a map of the pairs in key order.
 
 use std::collections::BTreeMap;
 use std::ops::Bound;
@@ -18,8 +18,14 @@ fn key(number: u64) -> [u8; 16] {
     u128::from(number).rotate_left(64).to_be_bytes()
 }
 
+fn sum_of((key, value): (&Vec<u8>, &Vec<u8>)) -> u64 {
+    u64::from(key[0]) + u64::from(value[0])
+}
+
 fn main() {
-    let ranges = std::env::args().last().and_then(|word| word.parse().ok()).unwrap_or(0u64);
+    let words: Vec<String> = std::env::args().skip(1).collect();
+    let reads = words.iter().filter_map(|word| word.parse().ok()).last().unwrap_or(0u64);
+    let what = words.iter().find(|word| word.parse::<u64>().is_err()).map_or("range", |word| word.as_str());
     let mut map: BTreeMap<Vec<u8>, Vec<u8>> = BTreeMap::new();
     let mut state = SEED;
     for _ in 0..PAIRS {
@@ -28,11 +34,15 @@ fn main() {
     println!("loaded");
     let mut sum = 0u64;
     let mut state = SEED;
-    for _ in 0..ranges {
-        let lo = key(next(&mut state));
-        for (key, value) in map.range::<[u8], _>((Bound::Included(&lo[..]), Bound::Unbounded)).take(ROWS) {
-            sum = sum.wrapping_add(u64::from(key[0])).wrapping_add(u64::from(value[0]));
-        }
+    for _ in 0..reads {
+        let at = key(next(&mut state));
+        let rows: u64 = match what {
+            "back" => map.range::<[u8], _>((Bound::Unbounded, Bound::Excluded(&at[..]))).rev().take(ROWS).map(sum_of).sum(),
+            "get" | "batch" => map.get(&at[..]).map_or(0, |value| u64::from(at[0]) + u64::from(value[0])),
+            "copy" => map.iter().map(|(key, value)| (key.clone(), value.clone())).collect::<BTreeMap<_, _>>().len() as u64,
+            _ => map.range::<[u8], _>((Bound::Included(&at[..]), Bound::Unbounded)).take(ROWS).map(sum_of).sum(),
+        };
+        sum = sum.wrapping_add(rows);
     }
     println!("{sum}");
 }
