@@ -1,5 +1,5 @@
 -- Lemmas on the orders of a batch file.
-use Rattle.std.proofs.Common.{◌≡◌, ◌+◌, ℕ, Bool, true, false, length, Option, Some, None, arith, List, [], ◌∷◌, ◌++◌, map, refl, sym, ap, ◌∙◌, append_assoc, append-nil}
+use Rattle.std.proofs.Common.{◌≡◌, ◌+◌, ℕ, suc, Bool, true, false, length, Option, Some, None, arith, List, [], ◌∷◌, ◌++◌, map, refl, sym, ap, ◌∙◌, append_assoc, append-nil}
 use Rattle.std.specs.List.{AllByRecursion, flat_map}
 use Rattle.std.specs.declared.alloc.Global.{Global}
 use Rattle.keys.specs.declared.command.Command.{Command}
@@ -117,10 +117,10 @@ streamed-before numbers n pending (Nothing ∷ front) good why rest = streamed-b
 streamed-before numbers n pending (Bad other ∷ front) good why rest = absurd (cc)
 
 -- and this bad line is the first
-counted_on : (n k : ℕ) → n + 1 + k ≡ n + (k + 1)
+counted_on : (n k : ℕ) → n + 1 + k ≡ n + suc k
 counted_on n k = omega arith
 
-found_on : (n k : ℕ) (why : Why) (o : Option (ℕ × Why)) → o ≡ Some (n + 1 + k, why) → o ≡ Some (n + (k + 1), why)
+found_on : (n k : ℕ) (why : Why) (o : Option (ℕ × Why)) → o ≡ Some (n + 1 + k, why) → o ≡ Some (n + suc k, why)
 found_on n k why o e = e ∙ ap (λ (m : ℕ). Some (m, why)) (counted_on n k)
 
 pub first_bad-behind : (n : ℕ) (front : List Says) → first_bad n front ≡ None → (why : Why) (rest : List Says) → first_bad n (front ++ Bad why ∷ rest) ≡ Some (n + length front, why)

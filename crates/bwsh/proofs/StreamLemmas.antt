@@ -1,6 +1,7 @@
 -- Lemmas on streams: lines that are read one after the other, and what they end.
-use Rattle.std.proofs.Common.{◌≡◌, ◌≢◌, ◌≤◌, ◌<◌, ◌+◌, ◌==◌, ◌⊎◌, inl, inr, ℕ, zero, suc, length, take, drop, Bool, true, false, cond, List, [], ◌∷◌, ◌++◌, map, Option, Some, None, IfSome, Result, Ok, Err, IfOk, refl, sym, ap, ◌∙◌, subst, append_assoc, append-nil, arith}
-use Rattle.std.specs.Prelude.{◌&&◌, IsTrue, OnOk, nat_lt, if◌then◌else◌}
+use Rattle.std.proofs.Common.{◌≡◌, ◌≢◌, ◌≤◌, ◌+◌, ◌==◌, ◌⊎◌, inl, inr, ℕ, zero, suc, length, take, drop, Bool, true, false, cond, List, [], ◌∷◌, ◌++◌, map, Option, Some, None, IfSome, Result, Ok, Err, IfOk, refl, sym, ap, ◌∙◌, subst, append_assoc, append-nil, arith}
+use Rattle.std.specs.Prelude.{IsTrue, OnOk, nat_lt, if◌then◌else◌}
+use Rattle.std.specs.Bool.{MatchBool}
 use Rattle.std.specs.Option.{option_map, option_or}
 use Rattle.std.specs.Io.BufRead.{DropsThrough, drop_through, take_through}
 use Rattle.std.specs.Io.KnownBytes.{Appends, IsAtEnd, Keeps, prepend_known}
@@ -11,6 +12,7 @@ use Rattle.bstr.specs.Text.{line_len, lines_from, lines_of, without_terminator}
 use Rattle.keys.specs.Lists.{flat}
 use Rattle.keys.specs.declared.command.Command.{Command}
 use Rattle.crew.specs.Crew.{is_crew}
+use Rattle.crew.specs.declared.limits.Crew.{Crew}
 use Rattle.keys.specs.declared.fault.Fault.{Fault}
 use Rattle.keys.specs.declared.fault.Fault.TheVariants.{BadCrew}
 use Rattle.keys.specs.declared.settings.Settings.{Settings}
@@ -27,12 +29,12 @@ use Rattle.bwsh.specs.declared.options.asked.Ways.{Ways}
 use Rattle.bwsh.specs.declared.session.Ending.{Ending}
 use Rattle.bwsh.specs.declared.session.Ending.TheVariants.{Device}
 use Rattle.bwsh.specs.declared.session.Ending.TheVariants as endings
-use Rattle.bwsh.specs.BatchFile.{IsNextLine, ended_by, first_bad, last_order, lines, streamed, text_says, unended, with_numbers}
+use Rattle.bwsh.specs.BatchFile.{IsNextLine, ended_by, first_bad, last_order, streamed, text_says, unended, with_numbers}
 use Rattle.bwsh.specs.Line.{bad_of, line_says}
 use Rattle.bwsh.specs.Options.{Told}
-use Rattle.bwsh.specs.Session.{AreLeft, IsHonestStore, IsStart, IsUnopened, Opens, Prints, Reads, Runs, RunsFirst, RunsOn, RunsOrder, Start, Streams, StreamsFrom, StreamsOn, bad_ending, end_streamed, first_refusal, lines_after, orders_end, run_from, run_of, stopped_by, stream_end, stream_ended, stream_lines, without_value}
+use Rattle.bwsh.specs.Session.{AreLeft, IsHonestStore, IsStart, IsStartBy, IsUnopened, Opens, Prints, Reads, Runs, RunsFirst, RunsOn, RunsOrder, Start, Streams, StreamsFrom, StreamsOn, bad_ending, end_streamed, first_refusal, lines_after, run_from, run_of, stopped_by, stream_end, stream_ended, stream_lines, without_value}
 use Rattle.bwsh.proofs.EndLemmas.{Prints-cut, leave_from, start_of, start_without_crew}
-use Rattle.bwsh.proofs.FirstLemmas.{MakesNone, RunsFirst-cut, RunsFirst-early, RunsFirst-flushed, RunsFirst-joined, RunsFirst-none, RunsFirst-one, RunsFirst-same, RunsOn-cut, RunsOn-none}
+use Rattle.bwsh.proofs.FirstLemmas.{MakesNone, RunsFirst-early, RunsFirst-flushed, RunsFirst-joined, RunsFirst-none, RunsFirst-one, RunsFirst-same, RunsOn-cut, RunsOn-none}
 use Rattle.bwsh.proofs.Prints.{Prints-asked, Prints-flushed}
 use Rattle.bwsh.proofs.RunLemmas.{IsCut}
 
@@ -105,12 +107,16 @@ pub IsNextLine-read : (known left : Option (List ℕ)) (line : List ℕ) (n : �
     → (n ≡ 0 → IsAtEnd known) → length line ≡ n → (b : Bool) → nat_lt 0 n ≡ b → IsNextLine known left line b
 IsNextLine-read None left line n is rest at_end counted b some = tt
 IsNextLine-read (Some xs) left line n is rest at_end counted true some =
-    (λ none. let no_line : line ≡ [] = is ∙ ap (take_through 10) none in let zero_read : 0 ≡ n = sym (ap length no_line) ∙ counted in absurd (omega (arith, ltb-true 0 n some, zero_read)), is, rest)
+    let never : xs ≢ [] = λ none.
+    let no_line : line ≡ [] = is ∙ ap (take_through 10) none in
+    let zero_read : 0 ≡ n = sym (ap length no_line) ∙ counted in
+    absurd (omega (arith, ltb-true 0 n some, zero_read)) in
+    (never, is, rest)
 IsNextLine-read (Some xs) left line n is rest at_end counted false none = at_end (omega (arith, ltb-false 0 n none))
 
 -- after what there was, which is nothing
-pub IsNextLine-got : (known left : Option (List ℕ)) (before line : List ℕ) (n : ℕ) → before ≡ [] → IfSome known (λ xs. line ≡ before ++ take_through 10 xs) → DropsThrough known left 10
-    → (n ≡ 0 → IsAtEnd known) → length line ≡ length before + n → IsNextLine known left line (nat_lt 0 n)
+pub IsNextLine-got : (known left : Option (List ℕ)) (before line : List ℕ) (n : ℕ) → before ≡ [] → IfSome known (λ xs. line ≡ before ++ take_through 10 xs)
+    → DropsThrough known left 10 → (n ≡ 0 → IsAtEnd known) → length line ≡ length before + n → IsNextLine known left line (nat_lt 0 n)
 IsNextLine-got known left before line n none is rest at_end counted =
     let whole : length line ≡ 0 + n = subst (λ (b : List ℕ). length line ≡ length b + n) none counted in
     IsNextLine-read known left line n (subst (λ (b : List ℕ). IfSome known (λ xs. line ≡ b ++ take_through 10 xs)) none is) rest at_end (omega (arith, whole)) (nat_lt 0 n) refl
@@ -237,7 +243,8 @@ module _ (cleans honest : Bool) (settings : Settings) (st : Store) (left : List 
 
 -- What lines that are left say, of which the next has the number n, prints after what stands there is, after what stood there first, what all lines
 -- of the stream say.
-abbrev pub LeadsOn : Ways → Bool → Settings → Store → List ℕ → Option (List ℕ) → Option (List ℕ) → Settings → Store → List ℕ → List (Command Global) → ℕ → Option (List ℕ) → Option (List ℕ) → Type 0
+abbrev pub LeadsOn : Ways → Bool → Settings → Store → List ℕ → Option (List ℕ) → Option (List ℕ)
+    → Settings → Store → List ℕ → List (Command Global) → ℕ → Option (List ℕ) → Option (List ℕ) → Type 0
 LeadsOn ways honest settings first file known old s st seen pending n left now =
     (rest : List Says) → IfSome left (λ text. rest ≡ text_says text) → (new : Option (List ℕ)) (end : Result (Option (ℕ × Why)) Ending)
     → RunsOn ways.clean_when_full honest s st seen (streamed ways.stat pending rest) now new (without_value end) → IfOk end (λ bad. bad ≡ first_bad n rest)
@@ -260,19 +267,29 @@ module _ (ways : Ways) (honest : Bool) (settings : Settings) (first : Store) (fi
       let (rest, is) = some_said left in
       leads rest is now (Err early) (RunsOn-cut cleans honest s st seen (streamed ways.stat pending rest) now early cut) tt
 
-  -- there is no line more: what is left is run
-  pub LeadsOn-rest : (more : Option (List ℕ)) (line : List ℕ) → IsNextLine left more line false → (new : Option (List ℕ)) (end : Result (Unit {0}) Ending) (after : Store) (bytes : List ℕ)
-      → RunsFirst cleans honest s st seen (with_numbers ways.stat (last_order pending)) now new end after bytes → (told : Result (Option (ℕ × Why)) Ending) → without_value told ≡ end
-      → IfOk told (λ bad. bad ≡ None) → StreamsOn ways honest settings first file known old new told
-  LeadsOn-rest more line none new (Ok done) after bytes runs told is bad =
-      let all = runs [] new (Ok tt) (RunsOn-none cleans honest s after bytes new) in
-      leads [] (said_none left more line none) new told
-      (subst (λ (r : Result (Unit {0}) Ending). RunsOn cleans honest s st seen (with_numbers ways.stat (last_order pending)) now new r) (sym is)
-      (subst (λ (os : List Order). RunsOn cleans honest s st seen os now new (Ok tt)) (append-nil (with_numbers ways.stat (last_order pending))) all)) bad
-  LeadsOn-rest more line none new (Err early) after bytes runs told is bad =
-      leads [] (said_none left more line none) new told
-      (subst (λ (r : Result (Unit {0}) Ending). RunsOn cleans honest s st seen (with_numbers ways.stat (last_order pending)) now new r) (sym is)
-      (subst (λ (os : List Order). RunsOn cleans honest s st seen os now new (Err early)) (append-nil (with_numbers ways.stat (last_order pending))) (runs []))) bad
+  -- what is run on a disk that is as honest, and on a store with the same settings
+  module _ (b : Bool) (b_is : b ≡ honest) (t : Settings) (t_is : t ≡ s) (new : Option (List ℕ)) (after : Store) (bytes : List ℕ) where
+    same_run : (orders : List Order) (end : Result (Unit {0}) Ending) → RunsFirst cleans b t st seen orders now new end after bytes
+        → RunsFirst cleans honest s st seen orders now new end after bytes
+    same_run orders end p = RunsFirst-same cleans b honest t s b_is t_is st seen orders now new end after bytes p
+
+    -- there is no line more: what is left is run
+    module _ (more : Option (List ℕ)) (line : List ℕ) (none : IsNextLine left more line false) where
+      abbrev left_over : List Order
+      left_over = with_numbers ways.stat (last_order pending)
+
+      without_more : (end : Result (Unit {0}) Ending) → RunsOn cleans honest s st seen (left_over ++ []) now new end → RunsOn cleans honest s st seen left_over now new end
+      without_more end p = subst (λ (os : List Order). RunsOn cleans honest s st seen os now new end) (append-nil left_over) p
+
+      pub LeadsOn-end : (done : Unit {0}) → RunsFirst cleans b t st seen left_over now new (Ok done) after bytes → StreamsOn ways honest settings first file known old new (Ok None)
+      LeadsOn-end done runs =
+          let all = same_run left_over (Ok done) runs [] new (Ok tt) (RunsOn-none cleans honest s after bytes new) in
+          leads [] (said_none left more line none) new (Ok None) (without_more (Ok tt) all) refl
+
+      pub LeadsOn-unended : (early : Ending) → RunsFirst cleans b t st seen left_over now new (Err early) after bytes
+          → StreamsOn ways honest settings first file known old new (Err early)
+      LeadsOn-unended early runs =
+          let all = same_run left_over (Err early) runs [] in leads [] (said_none left more line none) new (Err early) (without_more (Err early) all) tt
 
   module _ (more : Option (List ℕ)) (line : List ℕ) (next : IsNextLine left more line true) (said : Says) (said_is : said ≡ line_says (without_terminator line)) where
     -- the line is bad
@@ -282,29 +299,34 @@ module _ (ways : Ways) (honest : Bool) (settings : Settings) (first : Store) (fi
         let (rest, is) = some_said more in
         leads (Bad why ∷ rest) (said_first left more line (Bad why) rest next (sym bad ∙ said_is) is) now (Ok (Some (n, why))) (RunsOn-none cleans honest s st seen now) refl
 
-    module _ (good : bad_of said ≡ None) (new : Option (List ℕ)) (after : Store) (bytes : List ℕ) where
+    -- it isn't
+    module _ (good : bad_of said ≡ None) (b : Bool) (b_is : b ≡ honest) (t : Settings) (t_is : t ≡ s) (new : Option (List ℕ)) (after : Store) (bytes : List ℕ) where
+      abbrev later_on : List Says → List Order
+      later_on rest = streamed ways.stat (unended pending (said ∷ [])) rest
+
+      as_streamed : (rest : List Says) (last : Option (List ℕ)) (end : Result (Unit {0}) Ending) → RunsOn cleans honest s st seen (ended_by pending said ++ later_on rest) now last end
+          → RunsOn cleans honest s st seen (streamed ways.stat pending (said ∷ rest)) now last end
+      as_streamed rest last end p = subst (λ (os : List Order). RunsOn cleans honest s st seen os now last end) (sym (streamed-first ways.stat pending said rest good)) p
+
+      numbered : (rest : List Says) (end : Result (Option (ℕ × Why)) Ending) → IfOk end (λ bad. bad ≡ first_bad (n + 1) rest) → IfOk end (λ bad. bad ≡ first_bad n (said ∷ rest))
+      numbered rest (Ok bad) is_bad = is_bad ∙ sym (first_bad-next n said rest good)
+      numbered rest (Err early) is_bad = tt
+
       -- what it ends is not all done
-      pub LeadsOn-stops : (early : Ending) → RunsFirst cleans honest s st seen (ended_by pending said) now new (Err early) after bytes
+      pub LeadsOn-stops : (early : Ending) → RunsFirst cleans b t st seen (ended_by pending said) now new (Err early) after bytes
           → StreamsOn ways honest settings first file known old new (Err early)
       LeadsOn-stops early runs =
           let (rest, is) = some_said more in
-          leads (said ∷ rest) (said_first left more line said rest next said_is is) new (Err early)
-          (subst (λ (os : List Order). RunsOn cleans honest s st seen os now new (Err early)) (sym (streamed-first ways.stat pending said rest good))
-          (runs (streamed ways.stat (unended pending (said ∷ [])) rest))) tt
+          let all = same_run b b_is t t_is new after bytes (ended_by pending said) (Err early) runs (later_on rest) in
+          leads (said ∷ rest) (said_first left more line said rest next said_is is) new (Err early) (as_streamed rest new (Err early) all) tt
 
       -- what it ends is done
-      pub LeadsOn-next : (done : Unit {0}) → RunsFirst cleans honest s st seen (ended_by pending said) now new (Ok done) after bytes → (behind : List (Command Global)) → behind ≡ unended pending (said ∷ [])
-          → LeadsOn ways honest settings first file known old s after bytes behind (n + 1) more new
+      pub LeadsOn-next : (done : Unit {0}) → RunsFirst cleans b t st seen (ended_by pending said) now new (Ok done) after bytes → (behind : List (Command Global))
+          → behind ≡ unended pending (said ∷ []) → LeadsOn ways honest settings first file known old s after bytes behind (n + 1) more new
       LeadsOn-next done runs behind behind_is rest is last end further bad =
           let on = subst (λ (p : List (Command Global)). RunsOn cleans honest s after bytes (streamed ways.stat p rest) new last (without_value end)) behind_is further in
-          leads (said ∷ rest) (said_first left more line said rest next said_is is) last end
-          (subst (λ (os : List Order). RunsOn cleans honest s st seen os now last (without_value end)) (sym (streamed-first ways.stat pending said rest good))
-          (runs (streamed ways.stat (unended pending (said ∷ [])) rest) last (without_value end) on))
-          (counted end bad)
-        where
-          counted : (e : Result (Option (ℕ × Why)) Ending) → IfOk e (λ b. b ≡ first_bad (n + 1) rest) → IfOk e (λ b. b ≡ first_bad n (said ∷ rest))
-          counted (Ok b) is_bad = is_bad ∙ sym (first_bad-next n said rest good)
-          counted (Err early) is_bad = tt
+          let all = same_run b b_is t t_is new after bytes (ended_by pending said) (Ok done) runs (later_on rest) last (without_value end) on in
+          leads (said ∷ rest) (said_first left more line said rest next said_is is) last end (as_streamed rest last (without_value end) all) (numbered rest end bad)
 
 -- ---- the whole stream
 
@@ -396,10 +418,18 @@ module _ (told : Told) (known old : Option (List ℕ)) where
       (said, is_known, start, start_without_crew told out_of_range, λ i. [], λ memory. tt, inl (refl, Appends-nil old))
 
 -- it is run from a right start
-pub Streams-run : (told : Told) (known old new : Option (List ℕ)) (end : Result (Unit {0}) Ending) (start : Start) → IsStart told start → (IsHonest : Type 0) → (told.disk ≡ None → IsHonest)
-    → StreamsFrom told.ways IsHonest start known old new end → Streams told known old new end
+pub Streams-run : (told : Told) (known old new : Option (List ℕ)) (end : Result (Unit {0}) Ending) (start : Start) → IsStart told start → (IsHonest : Type 0)
+    → (told.disk ≡ None → IsHonest) → StreamsFrom told.ways IsHonest start known old new end → Streams told known old new end
 unfolding Streams StreamsFrom
 Streams-run told known old new end start is IsHonest honest (said, is_known, shown, are, p) = (said, is_known, start, is, shown, λ memory. are (honest memory), p)
+
+-- another crew that is in range where this one is
+pub Streams-crew : (told : Told) (crew : Crew) → is_crew crew ≡ is_crew told.crew → (known old new : Option (List ℕ)) (end : Result (Unit {0}) Ending)
+    → Streams told known old new end → Streams (record told { crew = crew }) known old new end
+unfolding Streams
+Streams-crew told crew same known old new end (said, is_known, start, is, shown, is_shown, printed_so) =
+    let is_right : Bool → Type 0 = λ b. MatchBool b (IsStartBy told.settings told.disk told.create start) (start ≡ Err BadCrew) in
+    (said, is_known, start, subst is_right (sym same) is, shown, is_shown, printed_so)
 
 -- nothing was appended first
 pub Streams-asked : (old mid new : Option (List ℕ)) → Appends old mid [] → (told : Told) (known : Option (List ℕ)) (end : Result (Unit {0}) Ending) → Streams told known mid new end

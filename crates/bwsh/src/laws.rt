@@ -19,7 +19,7 @@ ghost use Rattle.bwsh.specs.declared.line.Why.{Why};
 ghost use Rattle.bwsh.specs.declared.session.Ending.{Ending};
 ghost use Rattle.bwsh.specs.BatchFile.{orders_of, commands_of, commands_said, batch_lines, IsBatch, IsForBatches, IsNoClean, cleans_nothing, first_bad, last_order, streamed, unended, with_numbers};
 ghost use Rattle.bwsh.specs.Options.{Told};
-ghost use Rattle.bwsh.specs.Session.{Answers, AreLeft, IsStart, Reads, Start, accepted, answer_lines, behind, end_after, end_streamed, later, numbers_of, orders_end, printed, with_cleans};
+ghost use Rattle.bwsh.specs.Session.{Answers, AreLeft, IsStart, Reads, Start, Streams, accepted, answer_lines, behind, end_after, end_streamed, later, numbers_of, orders_end, printed, with_cleans};
 ghost use Rattle.bwsh.specs.Shown.{shown_reply, shown_flushed, shown_cleaned, shown_upgraded, shown_report, shown_numbers};
 ghost use Rattle.bwsh.specs.Token.{token_bytes, shown_token};
 ghost use Rattle.bwsh.specs.Words.{words_of};
@@ -161,6 +161,9 @@ pub fn the_crew_does_not_matter()
     ensures same { (told : Told) → (crew : Crew) → is_crew crew ≡ is_crew told.crew →
         (known old new : Option Bytes) → (end : Result (Unit {0}) Ending) →
         Answers told known old new end → Answers (record told { crew = crew }) known old new end }
+    ensures streams { (told : Told) → (crew : Crew) → is_crew crew ≡ is_crew told.crew →
+        (known old new : Option Bytes) → (end : Result (Unit {0}) Ending) →
+        Streams told known old new end → Streams (record told { crew = crew }) known old new end }
     ensures refused { (told : Told) → is_crew told.crew ≡ false → (start : Start) →
         IsStart told start → start ≡ Err BadCrew }
 {}

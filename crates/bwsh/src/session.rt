@@ -1,5 +1,5 @@
 //! A session: the batch file is read, and run by a crew on the store that the command line names: a new one in memory, or one in a file.
-ghost use Rattle.std.specs.Prelude.{false, true, replicate, ◌≡◌, ◌≢◌, ◌↔◌, ◌⊎◌, [], ◌∷◌, ◌++◌, map, None, IfSome, Result, Ok, Err, IsOk, IfOk, OnOk, OnErr, MatchResult};
+ghost use Rattle.std.specs.Prelude.{false, true, ◌≡◌, ◌≢◌, ◌↔◌, ◌⊎◌, [], ◌∷◌, ◌++◌, map, None, IfSome, Result, Ok, Err, IsOk, IfOk, OnOk, OnErr, MatchResult};
 ghost use Rattle.std.specs.List.{list_any};
 ghost use Rattle.std.specs.String.{string_bytes};
 ghost use Rattle.std.specs.IoError.{error_kind};

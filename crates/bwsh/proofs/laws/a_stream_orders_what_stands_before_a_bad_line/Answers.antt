@@ -1,4 +1,4 @@
-use Rattle.std.proofs.Common.{◌∙◌, []}
+use Rattle.std.proofs.Common.{[]}
 use Rattle.bwsh.proofs.EndLemmas.{ends-alike}
 use Rattle.bwsh.proofs.OrderLemmas.{first_bad-from_one, streamed-all, streamed-before}
 use Rattle.bwsh.proofs.laws.a_stream_orders_what_stands_before_a_bad_line.Goals as goal

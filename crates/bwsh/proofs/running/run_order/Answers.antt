@@ -1,4 +1,4 @@
-use Rattle.std.proofs.Common.{◌≡◌, ◌⊎◌, ◌∙◌, inl, inr, sym, true, false}
+use Rattle.std.proofs.Common.{◌≡◌, ◌⊎◌, ◌∙◌, inl, inr, sym, false}
 use Rattle.bwsh.specs.BatchFile.{is_flush}
 use Rattle.bwsh.proofs.FirstLemmas.{RunsFirst-one}
 use Rattle.bwsh.proofs.RoomLemmas.{RunsFirst-roomy, both_so, not_both}

@@ -20,5 +20,5 @@ returns-clause-runs g c cleans =
     let disk = g.D.Disk.view store.disk in
     let pending = c.args.pending.now in
     let run = c.run_pending in
-    RunsFirst-pending cleans disk.is_honest store.settings store.store disk.seen pending.items _ pending.len pending.ok.0 (sym c.is_empty.ensures ∙ c.if-is_empty.false) _ run.result run.new.store.store
-    (g.D.Disk.view run.new.store.disk).seen (run.ensures.runs cleans)
+    RunsFirst-pending cleans disk.is_honest store.settings store.store disk.seen pending.items _ pending.len pending.ok.0 (sym c.is_empty.ensures ∙ c.if-is_empty.false) _ run.result
+    run.new.store.store (g.D.Disk.view run.new.store.disk).seen (run.ensures.runs cleans)

@@ -1,83 +1,98 @@
-use Rattle.std.proofs.Common.{◌∙◌, inl, inr, refl, sym, ap, None, Ok, Err}
+use Rattle.std.proofs.Common.{◌∙◌, inl, inr, refl, sym, ap}
 use Rattle.std.proofs.lemmas.Result.{err_from_is_err_and}
 use Rattle.bstr.specs.Text.{without_terminator}
-use Rattle.bwsh.specs.BatchFile.{ended_by, last_order, with_numbers}
 use Rattle.bwsh.specs.Line.{line_says}
 use Rattle.bwsh.specs.declared.session.Ending.TheVariants.{Device}
-use Rattle.bwsh.proofs.FirstLemmas.{RunsFirst-same}
-use Rattle.bwsh.proofs.StreamLemmas.{LeadsOn-bad, LeadsOn-cut, LeadsOn-first, LeadsOn-next, LeadsOn-rest, LeadsOn-stops}
+use Rattle.bwsh.proofs.StreamLemmas.{LeadsOn-bad, LeadsOn-cut, LeadsOn-end, LeadsOn-first, LeadsOn-next, LeadsOn-stops, LeadsOn-unended}
 use Rattle.bwsh.proofs.stream.run_lines.Goals as goal
 
 pub loop-line-init : goal.loop-line-init
 loop-line-init g c =
     let store = c.args.store.now in
     let disk = g.D.Disk.view store.disk in
-    record { settings = refl; honest = refl; fine = c.requires.fine; leads = LeadsOn-first c.args.ways disk.is_honest store.settings store.store disk.seen _ _ c.new-pending.result.items c.new-pending.ensures.items }
+    let pending = c.new-pending in
+    record {
+      settings = refl;
+      honest = refl;
+      fine = c.requires.fine;
+      leads = LeadsOn-first c.args.ways disk.is_honest store.settings store.store disk.seen _ _ pending.result.items pending.ensures.items;
+    }
 
 pub returns-in_err-more : goal.returns-in_err-more
 returns-in_err-more g c =
     let store = c.args.store.now in
     let disk = g.D.Disk.view store.disk in
     let at = c.loop-line in
+    let inv = at.invariant in
     let seen = (g.D.Disk.view at.store.disk).seen in
     let known = g.I.Read.remaining c.args.input.now in
     let old = g.O.Write.contents c.args.out.now in
     let left = g.I.Read.remaining at.input in
     let now = g.O.Write.contents at.out in
     let p = err_from_is_err_and c.from_residual.result c.from_residual.ensures.1 in
-    rw (p.1, p.2) (LeadsOn-cut c.args.ways disk.is_honest store.settings store.store disk.seen known old store.settings at.store.store seen at.pending.items at.line left now at.invariant.leads _ c.in_err-more.ensures.err)
+    rw (p.1, p.2) (LeadsOn-cut c.args.ways disk.is_honest store.settings store.store disk.seen known old store.settings at.store.store seen at.pending.items at.line left now inv.leads
+    _ c.in_err-more.ensures.err)
 
 pub returns-in_err-run_rest : goal.returns-in_err-run_rest
 returns-in_err-run_rest g c =
     let store = c.args.store.now in
     let disk = g.D.Disk.view store.disk in
     let at = c.loop-line in
+    let inv = at.invariant in
     let seen = (g.D.Disk.view at.store.disk).seen in
     let known = g.I.Read.remaining c.args.input.now in
     let old = g.O.Write.contents c.args.out.now in
     let left = g.I.Read.remaining at.input in
     let now = g.O.Write.contents at.out in
-    let run = c.run_rest in
-    let after = run.new.store in
-    let p = err_from_is_err_and c.from_residual-in_err-run_rest.result c.from_residual-in_err-run_rest.ensures.1 in
     let none = rw c.if-not-more.true at c.in_ok-more.ensures.ok in
-    rw (p.1, p.2) (LeadsOn-rest c.args.ways disk.is_honest store.settings store.store disk.seen known old store.settings at.store.store seen at.pending.items at.line left now at.invariant.leads _ c.next_line.new.line.items none (g.O.Write.contents run.new.out) (Err c.in_err-run_rest.field-0.0) after.store (g.D.Disk.view after.disk).seen
-    (RunsFirst-same c.args.ways.clean_when_full _ disk.is_honest _ store.settings at.invariant.honest at.invariant.settings at.store.store seen (with_numbers c.args.ways.stat (last_order at.pending.items)) now (g.O.Write.contents run.new.out) (Err c.in_err-run_rest.field-0.0) after.store (g.D.Disk.view after.disk).seen c.in_err-run_rest.ensures.runs) (Err c.in_err-run_rest.field-0.0) refl tt)
+    let run = c.run_rest.new in
+    let after = run.store in
+    let new = g.O.Write.contents run.out in
+    let bytes = (g.D.Disk.view after.disk).seen in
+    let p = err_from_is_err_and c.from_residual-in_err-run_rest.result c.from_residual-in_err-run_rest.ensures.1 in
+    rw (p.1, p.2) (LeadsOn-unended c.args.ways disk.is_honest store.settings store.store disk.seen known old store.settings at.store.store seen at.pending.items at.line left now inv.leads
+    _ inv.honest _ inv.settings new after.store bytes _ c.next_line.new.line.items none _ c.in_err-run_rest.ensures.runs)
 
 pub returns-then-not-more : goal.returns-then-not-more
 returns-then-not-more g c =
     let store = c.args.store.now in
     let disk = g.D.Disk.view store.disk in
     let at = c.loop-line in
+    let inv = at.invariant in
     let seen = (g.D.Disk.view at.store.disk).seen in
     let known = g.I.Read.remaining c.args.input.now in
     let old = g.O.Write.contents c.args.out.now in
     let left = g.I.Read.remaining at.input in
     let now = g.O.Write.contents at.out in
-    let run = c.run_rest in
-    let after = run.new.store in
     let none = rw c.if-not-more.true at c.in_ok-more.ensures.ok in
-    LeadsOn-rest c.args.ways disk.is_honest store.settings store.store disk.seen known old store.settings at.store.store seen at.pending.items at.line left now at.invariant.leads _ c.next_line.new.line.items none (g.O.Write.contents run.new.out) (Ok tt) after.store (g.D.Disk.view after.disk).seen
-    (RunsFirst-same c.args.ways.clean_when_full _ disk.is_honest _ store.settings at.invariant.honest at.invariant.settings at.store.store seen (with_numbers c.args.ways.stat (last_order at.pending.items)) now (g.O.Write.contents run.new.out) (Ok tt) after.store (g.D.Disk.view after.disk).seen c.in_ok-run_rest.ensures.runs) (Ok None) refl refl
+    let run = c.run_rest.new in
+    let after = run.store in
+    let new = g.O.Write.contents run.out in
+    let bytes = (g.D.Disk.view after.disk).seen in
+    LeadsOn-end c.args.ways disk.is_honest store.settings store.store disk.seen known old store.settings at.store.store seen at.pending.items at.line left now inv.leads
+    _ inv.honest _ inv.settings new after.store bytes _ c.next_line.new.line.items none tt c.in_ok-run_rest.ensures.runs
 
 pub returns-in_err-says : goal.returns-in_err-says
 returns-in_err-says g c =
     let store = c.args.store.now in
     let disk = g.D.Disk.view store.disk in
     let at = c.loop-line in
+    let inv = at.invariant in
     let seen = (g.D.Disk.view at.store.disk).seen in
     let known = g.I.Read.remaining c.args.input.now in
     let old = g.O.Write.contents c.args.out.now in
     let left = g.I.Read.remaining at.input in
     let now = g.O.Write.contents at.out in
     let p = err_from_is_err_and c.from_residual-in_err-says.result c.from_residual-in_err-says.ensures.1 in
-    rw (p.1, p.2) (LeadsOn-cut c.args.ways disk.is_honest store.settings store.store disk.seen known old store.settings at.store.store seen at.pending.items at.line left now at.invariant.leads _ (inl refl))
+    rw (p.1, p.2) (LeadsOn-cut c.args.ways disk.is_honest store.settings store.store disk.seen known old store.settings at.store.store seen at.pending.items at.line left now inv.leads
+    _ (inl refl))
 
 pub returns-in-Some : goal.returns-in-Some
 returns-in-Some g c =
     let store = c.args.store.now in
     let disk = g.D.Disk.view store.disk in
     let at = c.loop-line in
+    let inv = at.invariant in
     let seen = (g.D.Disk.view at.store.disk).seen in
     let known = g.I.Read.remaining c.args.input.now in
     let old = g.O.Write.contents c.args.out.now in
@@ -85,13 +100,15 @@ returns-in-Some g c =
     let now = g.O.Write.contents at.out in
     let said = c.in_ok-says.ensures ∙ ap line_says (c.without_end.ensures ∙ ap without_terminator c.deref.ensures.value) in
     let next = rw c.if-not-more.false at c.in_ok-more.ensures.ok in
-    LeadsOn-bad c.args.ways disk.is_honest store.settings store.store disk.seen known old store.settings at.store.store seen at.pending.items at.line left now at.invariant.leads _ c.next_line.new.line.items next c.in_ok-says.says said c.in-Some.why (sym c.in-Some.ensures)
+    LeadsOn-bad c.args.ways disk.is_honest store.settings store.store disk.seen known old store.settings at.store.store seen at.pending.items at.line left now inv.leads
+    _ c.next_line.new.line.items next c.in_ok-says.says said c.in-Some.why (sym c.in-Some.ensures)
 
 pub returns-in_err-run_said : goal.returns-in_err-run_said
 returns-in_err-run_said g c =
     let store = c.args.store.now in
     let disk = g.D.Disk.view store.disk in
     let at = c.loop-line in
+    let inv = at.invariant in
     let seen = (g.D.Disk.view at.store.disk).seen in
     let known = g.I.Read.remaining c.args.input.now in
     let old = g.O.Write.contents c.args.out.now in
@@ -99,17 +116,20 @@ returns-in_err-run_said g c =
     let now = g.O.Write.contents at.out in
     let said = c.in_ok-says.ensures ∙ ap line_says (c.without_end.ensures ∙ ap without_terminator c.deref.ensures.value) in
     let next = rw c.if-not-more.false at c.in_ok-more.ensures.ok in
-    let run = c.run_said in
-    let after = run.new.store in
+    let run = c.run_said.new in
+    let after = run.store in
+    let new = g.O.Write.contents run.out in
+    let bytes = (g.D.Disk.view after.disk).seen in
     let p = err_from_is_err_and c.from_residual-in_err-run_said.result c.from_residual-in_err-run_said.ensures.1 in
-    rw (p.1, p.2) (LeadsOn-stops c.args.ways disk.is_honest store.settings store.store disk.seen known old store.settings at.store.store seen at.pending.items at.line left now at.invariant.leads _ c.next_line.new.line.items next c.in_ok-says.says said (sym c.in_default.ensures) (g.O.Write.contents run.new.out) after.store (g.D.Disk.view after.disk).seen c.in_err-run_said.field-0.0
-    (RunsFirst-same c.args.ways.clean_when_full _ disk.is_honest _ store.settings at.invariant.honest at.invariant.settings at.store.store seen (ended_by at.pending.items c.in_ok-says.says) now (g.O.Write.contents run.new.out) (Err c.in_err-run_said.field-0.0) after.store (g.D.Disk.view after.disk).seen c.in_err-run_said.ensures.runs))
+    rw (p.1, p.2) (LeadsOn-stops c.args.ways disk.is_honest store.settings store.store disk.seen known old store.settings at.store.store seen at.pending.items at.line left now inv.leads
+    _ c.next_line.new.line.items next c.in_ok-says.says said (sym c.in_default.ensures) _ inv.honest _ inv.settings new after.store bytes _ c.in_err-run_said.ensures.runs)
 
 pub loop-line-preserved : goal.loop-line-preserved
 loop-line-preserved g c =
     let store = c.args.store.now in
     let disk = g.D.Disk.view store.disk in
     let at = c.loop-line in
+    let inv = at.invariant in
     let seen = (g.D.Disk.view at.store.disk).seen in
     let known = g.I.Read.remaining c.args.input.now in
     let old = g.O.Write.contents c.args.out.now in
@@ -117,15 +137,17 @@ loop-line-preserved g c =
     let now = g.O.Write.contents at.out in
     let said = c.in_ok-says.ensures ∙ ap line_says (c.without_end.ensures ∙ ap without_terminator c.deref.ensures.value) in
     let next = rw c.if-not-more.false at c.in_ok-more.ensures.ok in
-    let run = c.run_said in
-    let after = run.new.store in
+    let run = c.run_said.new in
+    let after = run.store in
+    let new = g.O.Write.contents run.out in
+    let bytes = (g.D.Disk.view after.disk).seen in
     let ok = c.in_ok-run_said.ensures in
     record {
-      settings = ok.settings ∙ at.invariant.settings;
-      honest = ok.honest ∙ at.invariant.honest;
-      fine = ok.failed ∙ at.invariant.fine;
-      leads = LeadsOn-next c.args.ways disk.is_honest store.settings store.store disk.seen known old store.settings at.store.store seen at.pending.items at.line left now at.invariant.leads _ c.next_line.new.line.items next c.in_ok-says.says said (sym c.in_default.ensures) (g.O.Write.contents run.new.out) after.store (g.D.Disk.view after.disk).seen tt
-          (RunsFirst-same c.args.ways.clean_when_full _ disk.is_honest _ store.settings at.invariant.honest at.invariant.settings at.store.store seen (ended_by at.pending.items c.in_ok-says.says) now (g.O.Write.contents run.new.out) (Ok tt) after.store (g.D.Disk.view after.disk).seen ok.runs) _ ok.pending;
+      settings = ok.settings ∙ inv.settings;
+      honest = ok.honest ∙ inv.honest;
+      fine = ok.failed ∙ inv.fine;
+      leads = LeadsOn-next c.args.ways disk.is_honest store.settings store.store disk.seen known old store.settings at.store.store seen at.pending.items at.line left now inv.leads
+          _ c.next_line.new.line.items next c.in_ok-says.says said (sym c.in_default.ensures) _ inv.honest _ inv.settings new after.store bytes tt ok.runs _ ok.pending;
     }
 
 pub returns : goal.returns
@@ -133,9 +155,11 @@ returns g c =
     let store = c.args.store.now in
     let disk = g.D.Disk.view store.disk in
     let at = c.loop-line in
+    let inv = at.invariant in
     let seen = (g.D.Disk.view at.store.disk).seen in
     let known = g.I.Read.remaining c.args.input.now in
     let old = g.O.Write.contents c.args.out.now in
     let left = g.I.Read.remaining at.input in
     let now = g.O.Write.contents at.out in
-    LeadsOn-cut c.args.ways disk.is_honest store.settings store.store disk.seen known old store.settings at.store.store seen at.pending.items at.line left now at.invariant.leads Device (inr refl)
+    LeadsOn-cut c.args.ways disk.is_honest store.settings store.store disk.seen known old store.settings at.store.store seen at.pending.items at.line left now inv.leads
+    Device (inr refl)

@@ -10,9 +10,13 @@ use Rattle.bwsh.proofs.stream.run_told.Goals as goal
 pub returns-in-None : goal.returns-in-None
 returns-in-None g c =
     let told = c.args.told.now in
+    let run = c.run_opened in
+    let known = g.I.Read.remaining c.args.input.now in
+    let old = g.O.Write.contents c.args.out.now in
+    let new = g.O.Write.contents run.new.out in
     let start = new_start told.settings (replicate (disk_size told.settings) 0) in
-    Streams-run (told_of told) _ _ _ _ start (IsStart-in_memory told c.requires c.in-None.is) _ (λ memory. c.store_in_memory-opened.ensures.honest)
-    (c.run_opened.ensures start c.store_in_memory-opened.ensures.opens)
+    Streams-run (told_of told) known old new run.result start (IsStart-in_memory told c.requires c.in-None.is) _ (λ memory. c.store_in_memory-opened.ensures.honest)
+    (run.ensures start c.store_in_memory-opened.ensures.opens)
 
 pub returns-in-Some : goal.returns-in-Some
 returns-in-Some g c =
