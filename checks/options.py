@@ -78,7 +78,7 @@ EXPLAINED = [
         b"put a\n",
         b"",
         b"line 1: wrong number of words\n",
-        b"nothing was run: --help lists the words that a command takes\n",
+        b"nothing was run: --help lists the words that a command takes, and %20 is a blank in one\n",
     ),
     (
         (),

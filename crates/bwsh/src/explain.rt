@@ -128,7 +128,7 @@ fn of_fault(
 fn rule(why: Why) -> &'static str {
     match why {
         Why::UnknownCommand => "a line begins with a command that --help lists, or with #",
-        Why::WordCount => "--help lists the words that a command takes",
+        Why::WordCount => "--help lists the words that a command takes, and %20 is a blank in one",
         Why::BadToken =>
             "words are of printed ASCII, and %XX is the byte of two hexadecimal digits",
         Why::BadNumber => "a limit is a number from 0 to 4294967295",
