@@ -13,7 +13,7 @@ import unproved
 HERE = Path(__file__).resolve().parent
 TOP = HERE.parent
 BUILT = HERE / "out"  # where the programs are kept
-NAMES = ["crew", "range", "cleaning"]  # the folders of their sources
+NAMES = ["crew", "range", "cleaning", "queue"]  # the folders of their sources
 
 
 def copy_repository(folder, is_proved):
