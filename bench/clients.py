@@ -236,7 +236,7 @@ def main() -> None:
     parser = argparse.ArgumentParser(description=__doc__)
     parser.add_argument("--program", type=Path, default=PROGRAM, help="the built program")
     parser.add_argument("--pairs", type=int, default=PAIRS, help=f"with batches of one {CALLS} at the most")
-    parser.add_argument("--repeats", type=int, default=3, help="of which each figure is the median")
+    parser.add_argument("--repeats", type=int, default=3, help="each figure is their median")
     parser.add_argument("--folder", type=Path, help="where the stores stand, on the disk that is to be measured")
     parser.add_argument("--figures", type=Path, help="where the figures are written too, as JSON")
     options = parser.parse_args()

@@ -107,7 +107,7 @@ def whole_lines(printed):
     return printed.split("\n")[:-1]
 
 
-def told(printed):
+def reported(printed):
     """How many flushes were reported."""
     return sum(line.startswith("flushed") for line in whole_lines(printed))
 
@@ -157,7 +157,7 @@ class Store:
         lines = whole_lines(printed)
         if lines != due[: len(lines)]:
             return f"printed is {difference(lines, due)}"
-        last = self.done + told(printed)
+        last = self.done + reported(printed)
         back = self.look()
         for self.done in range(last, min(last + 1, self.done + batches) + 1):
             if back == look_of(self.done):
@@ -198,13 +198,13 @@ def kill_often(program, options, folder):
             continue
         kill += 1
         store.kills += 1
-        said = wrong or f"{told(printed)} flushes told, {store.done - before} came back"
+        said = wrong or f"{reported(printed)} flushes reported, {store.done - before} came back"
         print(f"kill {kill} after {delay:.3f} s, {store.path.name} with {before} flushes before: {said}", file=sys.stderr)
         if wrong:
             wrongs.append(f"kill {kill}, {store.path.name}: {wrong}")
             store = None
         else:
-            further[store.done - before - told(printed)] += 1
+            further[store.done - before - reported(printed)] += 1
     return wrongs, further
 
 
@@ -233,7 +233,7 @@ def main():
         shutil.rmtree(folder)
     for wrong in wrongs:
         print(wrong)
-    print(f"{further[0]} came back at the last flush that was told, {further[1]} one further")
+    print(f"{further[0]} came back at the last flush that was reported, {further[1]} one further")
     print(f"{options.kills - len(wrongs)} passed, {len(wrongs)} failed")
     sys.exit(1 if wrongs else 0)
 

@@ -29,7 +29,7 @@ enum Order {
 // The log: its file, if there is one, and what is to be written there.
 struct Log {
     file: Option<File>,
-    behind: Vec<u8>,
+    pending: Vec<u8>,
     sequence: u64,
     is_changed: bool,
 }
@@ -39,10 +39,10 @@ impl Log {
     // the same of its bounds, and nothing for the upper one where there is none: below the empty key there is nothing to be wiped.
     fn push(&mut self, kind: u8, parts: &[&[u8]]) {
         let length = 1 + parts.iter().map(|part| part.len()).sum::<usize>();
-        self.behind.extend_from_slice(&(length as u32).to_be_bytes());
-        self.behind.push(kind);
+        self.pending.extend_from_slice(&(length as u32).to_be_bytes());
+        self.pending.push(kind);
         for part in parts {
-            self.behind.extend_from_slice(part);
+            self.pending.extend_from_slice(part);
         }
     }
 
@@ -64,11 +64,11 @@ impl Log {
 
     // Writes what is there, if it is so long.
     fn write(&mut self, least: usize) -> io::Result<()> {
-        if self.behind.len() >= least {
+        if self.pending.len() >= least {
             if let Some(file) = &mut self.file {
-                file.write_all(&self.behind)?;
+                file.write_all(&self.pending)?;
             }
-            self.behind.clear();
+            self.pending.clear();
         }
         Ok(())
     }
@@ -117,8 +117,8 @@ fn replay(map: &mut Map, record: &[u8]) -> Option<()> {
 fn flushed(text: &[u8]) -> (usize, u64) {
     let (mut length, mut sequence) = (0, 1);
     let mut rest = text;
-    while let Some((record, behind)) = record(rest) {
-        rest = behind;
+    while let Some((record, after)) = record(rest) {
+        rest = after;
         if record == [FLUSH] {
             (length, sequence) = (text.len() - rest.len(), sequence + 1);
         }
@@ -132,9 +132,9 @@ fn recover(path: &str) -> io::Result<(Map, Log)> {
     let (length, sequence) = flushed(&text);
     let mut map = Map::new();
     let mut rest = &text[..length];
-    while let Some((record, behind)) = record(rest) {
+    while let Some((record, after)) = record(rest) {
         replay(&mut map, record).ok_or(io::ErrorKind::InvalidData)?;
-        rest = behind;
+        rest = after;
     }
     let mut file = File::options().write(true).open(path)?;
     file.set_len(length as u64)?;
@@ -143,7 +143,7 @@ fn recover(path: &str) -> io::Result<(Map, Log)> {
 }
 
 fn log(file: Option<File>, sequence: u64) -> Log {
-    Log { file, behind: Vec::new(), sequence, is_changed: false }
+    Log { file, pending: Vec::new(), sequence, is_changed: false }
 }
 
 // An empty map on a new file.

@@ -123,10 +123,10 @@ fn token(word: &[u8]) -> Option<Vec<u8>> {
     }
     let mut bytes = Vec::with_capacity(word.len());
     let mut rest = word;
-    while let Some((&byte, behind)) = rest.split_first() {
+    while let Some((&byte, after)) = rest.split_first() {
         if byte != b'%' {
             bytes.push(byte);
-            rest = behind;
+            rest = after;
         } else {
             bytes.push(16 * hex(*rest.get(1)?)? + hex(*rest.get(2)?)?);
             rest = &rest[3..];
@@ -169,9 +169,9 @@ fn parse(text: &[u8]) -> Option<Vec<Vec<Command>>> {
 }
 
 // The replies to the commands, each at its command's place. They are run in the order of their keys, those of one key in the order of
-// their places; but where a batch has changes, and scans or wipes, all in the order of their places. `told` is called with each when
+// their places; but where a batch has changes, and scans or wipes, all in the order of their places. `note` is called with each when
 // it has been run.
-pub fn run_batch(map: &mut Map, commands: &[Command], mut told: impl FnMut(&Command, &Reply)) -> Vec<Reply> {
+pub fn run_batch(map: &mut Map, commands: &[Command], mut note: impl FnMut(&Command, &Reply)) -> Vec<Reply> {
     let mut keyed: Vec<_> = commands.iter().map(Command::key).zip(0..).collect();
     if !commands.iter().any(Command::is_ranged) || !commands.iter().any(Command::is_change) {
         keyed.sort_unstable();
@@ -179,7 +179,7 @@ pub fn run_batch(map: &mut Map, commands: &[Command], mut told: impl FnMut(&Comm
     let mut replies = vec![Reply::Word(""); commands.len()];
     for (_, place) in keyed {
         replies[place] = commands[place].run(map);
-        told(&commands[place], &replies[place]);
+        note(&commands[place], &replies[place]);
     }
     replies
 }

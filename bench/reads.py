@@ -45,7 +45,7 @@ def seconds(command):
 def main():
     parser = argparse.ArgumentParser(description=__doc__.splitlines()[0])
     parser.add_argument("--library", type=Path, default=library.BUILT, help="where range_bench is, and is built if it is missing")
-    parser.add_argument("--repeats", type=int, default=3, help="of which the least is taken")
+    parser.add_argument("--repeats", type=int, default=3, help="and the least is taken")
     parser.add_argument("--reads", nargs="*", default=list(READS), choices=list(READS))
     chosen = parser.parse_args()
     program = chosen.library / "range_bench"

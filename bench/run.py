@@ -100,8 +100,8 @@ class Work:
         rising = sorted(self.keys)
         for key in keys:
             start = bisect.bisect_left(rising, key)
-            behind = rising[start + rows : start + rows + 1] or ["*"]
-            yield key, behind[0], min(rows, len(rising) - start)
+            upper = rising[start + rows : start + rows + 1] or ["*"]
+            yield key, upper[0], min(rows, len(rising) - start)
 
     def scans(self, keys, rows):
         return (f"scan {lo} {hi} {rows}" for lo, hi, _ in self.ranges(keys, rows))
@@ -184,16 +184,16 @@ class Running:
         self.command = command
         with open(text, "rb") as file:
             self.child = subprocess.Popen(command, stdin=file, stdout=subprocess.PIPE, bufsize=0, pipesize=pipe_bytes)
-        self.behind = b""  # what was read and belongs to later lines
+        self.unread = b""  # what was read and belongs to later lines
 
     def take(self, lines, digest):
         """Reads this many lines."""
         while lines:
-            chunk = self.behind or self.child.stdout.read(1 << 16)
+            chunk = self.unread or self.child.stdout.read(1 << 16)
             if not chunk:
                 sys.exit(f"{self.command}: ended with status {self.child.wait()} before it had answered all")
-            *_, self.behind = chunk.split(b"\n", lines) if chunk.count(b"\n") >= lines else (b"",)
-            read = chunk[: len(chunk) - len(self.behind)]
+            *_, self.unread = chunk.split(b"\n", lines) if chunk.count(b"\n") >= lines else (b"",)
+            read = chunk[: len(chunk) - len(self.unread)]
             lines -= read.count(b"\n")
             digest.update(read)
 
@@ -349,7 +349,7 @@ def print_memory(results, names, raw):
 
 def print_scan_memory(results, names):
     """How much memory is in use after each phase of scans: what the largest batch before took stays in use."""
-    print(f"\n| memory behind, MB | {' | '.join(names)} |\n|---|{'---|' * len(names)}")
+    print(f"\n| memory after, MB | {' | '.join(names)} |\n|---|{'---|' * len(names)}")
     for phase in dict.fromkeys(phase for phase, _ in results.best):
         if "scan" in phase.name:
             cells = " | ".join(f"{results.best[phase, name].resident / 1e6:,.0f}" for name in names)

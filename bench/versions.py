@@ -179,8 +179,8 @@ def print_verdicts(measured):
     for name, (one, two) in ((name, found.values()) for name, found in measured.items()):
         parts = ((one.flush, two.flush), (one.back, two.back), (one.clean, two.clean))
         flush, back, clean = (least(newer).cpu / least(older).cpu for older, newer in parts)
-        told = [verdict(by, most=1.1) if name.startswith(RANDOM) else f"{by:.2f}" for by in (flush, back)]
-        print(f"| {name} | {' | '.join(told)} | {clean:.2f} | {two.flushed / one.flushed:.2f} |")
+        reported = [verdict(by, most=1.1) if name.startswith(RANDOM) else f"{by:.2f}" for by in (flush, back)]
+        print(f"| {name} | {' | '.join(reported)} | {clean:.2f} | {two.flushed / one.flushed:.2f} |")
 
 
 def arguments():

@@ -292,7 +292,7 @@ HELPED = [
 
 
 def helpers(stand: Stand, leaves: int, words: str) -> int:
-    """Counts the threads of a session: of two batches, of which the first makes leaves of four pairs and the other puts them all again."""
+    """Counts the threads of a session of two batches: the first makes leaves of four pairs, and the other puts them all again."""
     puts = b"".join(b"put %06d v\n" % number for number in range(4 * leaves))
     for first in range(EVER):
         ran = stand.run(Fails("thread", first, error=ENDED), puts + b"go\n" + puts, *SMALL, *words.split())

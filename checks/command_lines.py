@@ -167,7 +167,7 @@ def file(programs: Programs, line: str, path: str | None, is_made: bool) -> Outc
 def refused_words(ran: Ran, error: bytes) -> str | None:
     """Says what is wrong with how a session ended whose words are refused with this error. Nothing was read."""
     is_right = ran.status == 2 and not ran.out and ran.err.startswith(error) and not ran.read
-    return None if is_right else f"{ran.told()}, and read {ran.read} bytes, where {error!r} was due"
+    return None if is_right else f"{ran.reported()}, and read {ran.read} bytes, where {error!r} was due"
 
 
 def refused(programs: Programs) -> Outcome:
@@ -196,7 +196,7 @@ def shown_help(programs: Programs) -> Outcome:
     for line, ran in zip(ASK_FOR_HELP, texts):
         missing = [text for text in HELP if text not in ran.out]
         if ran.status or ran.err or ran.read or missing or ran.out != texts[0].out:
-            return Outcome(f"{line}: {ran.told()}, and read {ran.read} bytes, without {missing}")
+            return Outcome(f"{line}: {ran.reported()}, and read {ran.read} bytes, without {missing}")
     return Outcome()
 
 

@@ -139,7 +139,7 @@ def go_on(programs: Programs) -> Outcome:
 
 
 def kill(programs: Programs, seed: int) -> Outcome:
-    """Kills sessions between batches, and wants in the next one what the last flush told of."""
+    """Kills sessions between batches, and wants in the next one what the last flush reported."""
     chance = random.Random(seed)
     with new_folder() as folder:
         path, flushed = Path(folder) / "file", {}

@@ -1,6 +1,8 @@
-"""The programs of `examples/`, each killed in the middle of its work on a file, again and again, and looked at by a new one after each kill."""
+"""The programs of `examples/`, each killed in the middle of its work on a file, again and again, and looked at by a new one after each kill; and the
+two of docs/EMBEDDING.md, which stand there as they are built here."""
 
 import random
+import re
 import subprocess
 import time
 from collections.abc import Callable
@@ -8,7 +10,10 @@ from dataclasses import dataclass, field
 from itertools import zip_longest
 from pathlib import Path
 
+from checks import rules
 from checks.harness import PATIENCE, Case, Limits, Outcome, Programs, differs, new_folder, run, shortened
+
+TOP = Path(__file__).resolve().parent.parent
 
 SEEDS, KILLS = 2, 5
 COMMANDS = 1_500  # of a run that isn't killed
@@ -204,7 +209,7 @@ class Store:
         lines, due = ran.out.decode(errors="replace").split("\n")[:-1], [*opened, *look.printed]
         if ran.status == 0 and lines == due:
             return None
-        return f"came back {difference(lines, due)}" if ran.status == 0 else ran.told()
+        return f"came back {difference(lines, due)}" if ran.status == 0 else ran.reported()
 
 
 def kill_often(name: str, program: Path, seed: int, folder: Path) -> Outcome:
@@ -235,25 +240,82 @@ def kill_example(programs: Programs, name: str, seed: int) -> Outcome:
         return kill_often(name, program, seed, Path(folder))
 
 
-def close_output(programs: Programs, name: str) -> Outcome:
-    """With its output closed an example makes no file, and leaves one that is there as it is: it isn't written over by answers."""
+def close(programs: Programs, name: str, closed: str) -> Outcome:
+    """With its output or its input closed an example makes no file, and leaves one that is there as it is: it isn't written over by answers, and its
+    bytes aren't read as lines."""
     program = programs.examples / name
     if why := missing(program):
         return Outcome(left_out=why)
-    text = text_of([MODELS[name]().next(number).line for number in range(1, 3)])
+    text = text_of([MODELS[name]().next(number).line for number in range(1, 3)] if name in MODELS else ["a 1", "b 2"])
     with new_folder() as folder:
         path, new = Path(folder) / "file", Path(folder) / "new"
         made = run([program, path], text, Limits(STACK))
         before = path.read_bytes()
-        ran = run([program, path], text, Limits(STACK, closed=">&-"))
-        fresh = run([program, new], text, Limits(STACK, closed=">&-"))
+        ran = run([program, path], text, Limits(STACK, closed=closed))
+        fresh = run([program, new], text, Limits(STACK, closed=closed))
         said = b"Error: Bad file descriptor (os error 9)\n"
-        wrong = None if made.status == 0 else made.told()
+        wrong = None if made.status == 0 else made.reported()
         wrong = wrong or differs(ran, 1, b"", said) or differs(fresh, 1, b"", said)
         wrong = wrong or (None if path.read_bytes() == before else "the file has other bytes")
         return Outcome(wrong or ("there is a file" if new.exists() else None))
 
 
+# ---- The two programs of docs/EMBEDDING.md.
+
+STEPS = b"2 replies\nflushed %d\nget: 5 bytes\nrange: [107, 101, 121] [118, 97, 108, 117, 101]\n"
+
+
+def indented(text: str) -> list[str]:
+    """The blocks of a document that are indented, each as it is typed."""
+    blocks = re.findall(r"(?:^    .*\n(?:\n+(?=    ))?)+", text, re.MULTILINE)
+    return [re.sub(r"^    ", "", block, flags=re.MULTILINE) for block in blocks]
+
+
+def compare_embedding() -> Outcome:
+    """The first program and the proof stand in docs/EMBEDDING.md as they are kept; of the crate with a contract each line of its head, and its function."""
+    document = indented((TOP / "docs/EMBEDDING.md").read_text())
+    first, caller, proof = [block for block in document if len(block.splitlines()) > 8]
+    kept = [TOP / "examples" / path for path in ("first_steps/src/main.rt.in", "put_then_get/proofs/put_then_get/Answers.antt.in")]
+    for block, path in zip((first, proof), kept):
+        if path.read_text() != block:
+            return Outcome(f"it has other lines than {path.relative_to(TOP)}")
+    main = (TOP / "examples/put_then_get/src/main.rt.in").read_text()
+    head, function = caller.split("\n\n///")
+    missing = [line for line in head.splitlines() if line not in main.splitlines()]
+    if missing or f"\n///{function}" not in main:
+        return Outcome(f"put_then_get is otherwise than the one that is kept{''.join(f': {line}' for line in missing[:1])}")
+    return Outcome()
+
+
+def take_steps(programs: Programs) -> Outcome:
+    """The first program makes its store, and finds it."""
+    program = programs.examples / "first_steps"
+    if why := missing(program):
+        return Outcome(left_out=why)
+    with new_folder() as folder:
+        ran = [run([program], limits=Limits(STACK), folder=Path(folder)) for _ in range(2)]
+        return Outcome(differs(ran[0], 0, STEPS % 2) or differs(ran[1], 0, STEPS % 3))
+
+
+def put_then_get(programs: Programs) -> Outcome:
+    """What is put is got, and stands in the file."""
+    program = programs.examples / "put_then_get"
+    if why := missing(program):
+        return Outcome(left_out=why)
+    pairs = {f"k{at * 7 % 50}": f"value {at} {'.' * (at % 60)}" for at in range(200)}
+    lines = [f"k{at * 7 % 50} value {at} {'.' * (at % 60)}" for at in range(200)]
+    with new_folder() as folder:
+        path = Path(folder) / "store"
+        for part in (lines[:100], lines[100:]):
+            ran = run([program, path], text_of(part), Limits(STACK))
+            if wrong := differs(ran, 0, text_of([line.replace(" ", " is ", 1) for line in part])):
+                return Outcome(wrong)
+        found = {key.decode(): value.decode() for key, value in rules.store_of_disk(path.read_bytes()).pairs}
+        return Outcome(None if found == pairs else f"the file holds {len(found)} pairs, and others than were put")
+
+
 def cases(programs: Programs) -> list[Case]:
     kills = [Case(f"{name}, {KILLS} kills, seed {seed}", kill_example, (programs, name, seed)) for name in MODELS for seed in range(1, SEEDS + 1)]
-    return [*kills, *[Case(f"{name}, its output closed", close_output, (programs, name)) for name in MODELS]]
+    closed = [Case(f"{name}, {closed}", close, (programs, name, closed)) for name in [*MODELS, "put_then_get"] for closed in (">&-", "<&-")]
+    ran = [Case("the first steps of docs/EMBEDDING.md", take_steps, (programs,)), Case("put_then_get", put_then_get, (programs,))]
+    return [*kills, *closed, *ran, Case("the programs of docs/EMBEDDING.md", compare_embedding)]

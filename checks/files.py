@@ -40,7 +40,7 @@ def shown(pairs: Pairs) -> bytes:
 def make(programs: Programs, path: Path, text: bytes, *words: str) -> None:
     made = run([programs.store, "--disk", path, "--create", *words], text)
     if made.status:
-        raise ValueError(f"the file was not made: {made.told()}")
+        raise ValueError(f"the file was not made: {made.reported()}")
 
 
 @dataclass(frozen=True)
@@ -69,9 +69,9 @@ def after_writer(ran: Ran, puts: list[tuple[bytes, bytes]], pairs: Pairs) -> tup
     if ran.is_fault(FAULT) and not ran.out:
         return pairs, None
     lines = ran.out.splitlines()
-    is_told = len(lines) == 2 * len(puts) and all(line.startswith(b"flushed ") for line in lines[1::2])
-    if ran.status or ran.err or not is_told:
-        return pairs, f"a session that writes ended with {ran.told()}"
+    is_reported = len(lines) == 2 * len(puts) and all(line.startswith(b"flushed ") for line in lines[1::2])
+    if ran.status or ran.err or not is_reported:
+        return pairs, f"a session that writes ended with {ran.reported()}"
     return pairs | dict(puts), None
 
 
@@ -81,7 +81,7 @@ def after_readers(readers: list[Ran], seen: list[Pairs]) -> str | None:
         is_refused = ran.is_fault(FAULT) and not ran.out
         is_right = ran.status == 0 and any(ran.out == shown(pairs) for pairs in seen)
         if not is_refused and not is_right:
-            return f"a session that reads ended with {ran.told()}"
+            return f"a session that reads ended with {ran.reported()}"
     return None
 
 
@@ -110,7 +110,7 @@ def run_at_once(programs: Programs, group: int) -> Outcome:
             pairs, more, wrong = run_together(programs, path, time, pairs)
             refused += more
             ran = run([programs.store, "--disk", path], LOOK)
-            wrong = wrong or (None if ran.status == 0 and ran.out.startswith(shown(pairs)) else f"the file has {ran.told()}")
+            wrong = wrong or (None if ran.status == 0 and ran.out.startswith(shown(pairs)) else f"the file has {ran.reported()}")
             if wrong:
                 return Outcome(f"time {time} of group {group}: {wrong}")
     return Outcome(measured=f"{refused} of {TIMES // GROUPS * 4} sessions refused")
@@ -149,7 +149,7 @@ def run_beside(programs: Programs, text: bytes, is_shared: bool) -> Outcome:
             if wrong or path.read_bytes() != before:
                 return Outcome(f"--create beside it: {wrong or 'the file has other bytes'}")
         ran = run([programs.store, "--disk", path], b"put b 2\nget a\nflush\n")
-        return Outcome(None if ran.out.startswith(b"new\nvalue 1\nflushed ") else f"after it was killed: {ran.told()}")
+        return Outcome(None if ran.out.startswith(b"new\nvalue 1\nflushed ") else f"after it was killed: {ran.reported()}")
 
 
 def as_nobody() -> list[str] | None:

@@ -7,11 +7,12 @@ import subprocess
 import tempfile
 import time
 from collections.abc import Callable
-from dataclasses import dataclass, field
+from dataclasses import dataclass, field, replace
 from pathlib import Path
 
 MEGABYTE = 1_000_000
 STACK = 64  # KB, which is enough for every input
+COPYING = 128  # KB, which is enough where the store is copied too
 SLOW = 4  # how many times slower than a usual one a machine may be
 PATIENCE = 60  # seconds until a program is ended
 LOOK = 0.002  # seconds from one look at a program to the next
@@ -32,6 +33,7 @@ class Limits:
     """What a program is started with. A stream of `closed` is closed as a shell spells it, as '>&-'."""
 
     stack: int | None = STACK  # KB
+    memory: int | None = None  # KB, of addresses
     file_blocks: int | None = None  # of 512 bytes, the greatest length of a file that it may write
     closed: str = ""
 
@@ -42,6 +44,8 @@ class Limits:
             words += ["trap '' XFSZ", f"ulimit -f {self.file_blocks}"]
         if self.stack is not None:
             words.append(f"ulimit -s {self.stack}")
+        if self.memory is not None:
+            words.append(f"ulimit -v {self.memory}")
         given = [f"{name}={shlex.quote(value)}" for name, value in environment.items()]
         return "; ".join([*words, " ".join([*given, f'exec "$0" "$@" {self.closed}'])])
 
@@ -61,7 +65,7 @@ class Ran:
     def is_fault(self, fault: str) -> bool:
         return self.status == 4 and self.err == f"{fault}\n".encode()
 
-    def told(self) -> str:
+    def reported(self) -> str:
         ending = f"signal {-self.status}" if self.status < 0 else f"status {self.status}"
         return f"{ending} after {self.seconds:.2f} s, printed {shortened(self.out)}, said {shortened(self.err)}"
 
@@ -98,12 +102,17 @@ def watch(child: subprocess.Popen, name: str) -> tuple[float, int]:
         time.sleep(LOOK)
 
 
+def with_room(limits: Limits, command: list) -> Limits:
+    """The limits of a program that runs this, with the stack of a copy where it is to leave one."""
+    return replace(limits, stack=COPYING) if limits.stack == STACK and any(str(word).startswith("--copy-to") for word in command) else limits
+
+
 def run(command: list, text: bytes | Path = b"", limits: Limits = Limits(), folder: Path | None = None, environment: dict[str, str] | None = None) -> Ran:
     """Runs a program in this folder, with nothing in its environment but this. The text, or the file of that path, is its standard input."""
     with tempfile.TemporaryFile() as source, tempfile.TemporaryFile() as out, tempfile.TemporaryFile() as err:
         source.write(text.read_bytes() if isinstance(text, Path) else text)
         source.seek(0)
-        shell = ["sh", "-c", limits.shell(environment or {}), *command]
+        shell = ["sh", "-c", with_room(limits, command).shell(environment or {}), *command]
         child = subprocess.Popen(shell, stdin=source, stdout=out, stderr=err, cwd=folder, env={})
         seconds, memory = watch(child, Path(command[0]).name)
         out.seek(0)
@@ -140,4 +149,4 @@ def differs(ran: Ran, status: int, out: bytes, err: bytes = b"") -> str | None:
     """How a program ended otherwise than is due."""
     if (ran.status, ran.out, ran.err) == (status, out, err):
         return None
-    return f"{ran.told()}, where status {status}, {shortened(out)} and {shortened(err)} were due"
+    return f"{ran.reported()}, where status {status}, {shortened(out)} and {shortened(err)} were due"

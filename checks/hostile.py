@@ -250,8 +250,8 @@ def refuse_frames(programs: Programs) -> Outcome:
     with new_folder() as folder:
         path, at = Path(folder) / "disk", HEADER + len(ONE_PAIR)
         for what, bad, version in refused:
-            for behind in ([], [ONE_PAIR], [bad], [b"\0" * 9], [b"\xff" * 20]):
-                disk = disk_of(replace(SMALL, seg_size=1024), [ONE_PAIR, bad + b"".join(behind)], version=version)
+            for following in ([], [ONE_PAIR], [bad], [b"\0" * 9], [b"\xff" * 20]):
+                disk = disk_of(replace(SMALL, seg_size=1024), [ONE_PAIR, bad + b"".join(following)], version=version)
                 path.write_bytes(disk)
                 _, wrong = looked_at([programs.store], path, disk, (4, b"", b"fault 15 BadFrame 0 %d\n" % at))
                 if wrong or ending_of(disk)[2] != b"fault 15 BadFrame 0 %d\n" % at:
@@ -336,7 +336,7 @@ def look_at_damaged(programs: Programs, part: int) -> Outcome:
             _, wrong = looked_at([programs.store], path, disk, ending)
             if wrong:
                 return Outcome(f"disk {number} of seed {part}: {wrong}")
-    return Outcome(measured=f"{DAMAGED // PARTS} disks, of which {stores} are stores")
+    return Outcome(measured=f"{DAMAGED // PARTS} disks, {stores} of them stores")
 
 
 def small_store() -> bytes:
@@ -362,7 +362,7 @@ def change_each_byte(programs: Programs, part: int) -> Outcome:
                 _, wrong = looked_at([programs.store], path, changed, ending)
                 if wrong:
                     return Outcome(f"byte {at} as {byte}: {wrong}")
-    return Outcome(measured=f"{count} disks, of which {stores} are stores")
+    return Outcome(measured=f"{count} disks, {stores} of them stores")
 
 
 def cases(programs: Programs) -> list[Case]:

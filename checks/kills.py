@@ -20,7 +20,7 @@ def kill_sessions(programs: Programs, seed: int) -> Outcome:
             wrongs, further = kill.kill_often([programs.store], options, Path(folder))
         except SystemExit as ended:
             return Outcome(str(ended))
-    return Outcome("; ".join(wrongs) or None, measured=f"{further[0]} came back at the last flush that was told, {further[1]} one further")
+    return Outcome("; ".join(wrongs) or None, measured=f"{further[0]} came back at the last flush that was reported, {further[1]} one further")
 
 
 def cases(programs: Programs) -> list[Case]:

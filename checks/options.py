@@ -111,7 +111,7 @@ def version(programs: Programs) -> Outcome:
     wrong = differs(run(words, limits=Limits(closed="<&-")), 0, b"bwsh 0.1.0\n")
     again = run([programs.store, "--version", "--version"])
     if again.status != 2 or again.out:
-        wrong = wrong or f"the option twice ended with {again.told()}"
+        wrong = wrong or f"the option twice ended with {again.reported()}"
     closed = run([programs.store, "--version"], limits=Limits(closed=">&-"))
     return Outcome(wrong or differs(closed, 4, b"", b"fault 9 Device\n"))
 
@@ -127,6 +127,8 @@ HELP = [
     b"--clean-when-full",
     b"--stream",
     b"before the next line is waited for",
+    b"--tidy",
+    b"--progress",
 ]
 
 
@@ -134,7 +136,7 @@ def helped(programs: Programs) -> Outcome:
     """The help names each option, and says what lasts."""
     ran = run([programs.store, "--help"])
     missing = [words for words in HELP if words not in ran.out]
-    return Outcome(f"{ran.told()}, without {missing}" if ran.status or ran.err or missing else None)
+    return Outcome(f"{ran.reported()}, without {missing}" if ran.status or ran.err or missing else None)
 
 
 def explained(programs: Programs, words: tuple, text: bytes, out: bytes | None, first: bytes, second: bytes) -> Outcome:
@@ -169,7 +171,7 @@ def begins_and_ends(ran: Ran, first: bytes, path: Path, end: bytes) -> str | Non
     """What is wrong with the two lines on standard error."""
     front = first + f"{path}: ".encode()
     is_right = ran.status == 4 and not ran.out and ran.err.startswith(front) and ran.err.endswith(end)
-    return None if is_right else f"{ran.told()}, where {front!r} .. {end!r} were due"
+    return None if is_right else f"{ran.reported()}, where {front!r} .. {end!r} were due"
 
 
 def explained_streams(programs: Programs) -> Outcome:
@@ -181,8 +183,23 @@ def explained_streams(programs: Programs) -> Outcome:
     wrong = wrong or differs(closed, 4, b"", b"fault 9 Device\nstandard output could not be written; not all answers stand there\n")
     refused = run([*words, "--flan"])
     if refused.status != 2 or refused.out or not refused.err.endswith(b"For more information, try '--help'.\n"):
-        wrong = wrong or f"refused words ended with {refused.told()}"
+        wrong = wrong or f"refused words ended with {refused.reported()}"
     return Outcome(wrong or differs(run(words, b"put a 1\n"), 0, b"new\n"))
+
+
+MEMORY = 20_000  # KB of addresses, in which a small store has its place
+LONG_LINE = b"#" * 30_000_000
+UNREAD = b"fault 6 NoMemory\nline %d: there was not enough memory to read it\n"
+
+
+def explained_unread(programs: Programs) -> Outcome:
+    """A line of a stream that has no place in memory: it is the one that is named, and what was ended before is answered."""
+    words, limits = [programs.store, "--stream", "--explain"], Limits(memory=MEMORY)
+    wrong = None
+    for text, out, line in [(b"", b"", 1), (b"put a 1\ngo\nget a\ngo\n", b"new\nvalue 1\n", 5), (b"put a 1\ngo\nget a\n", b"new\n", 4)]:
+        wrong = wrong or differs(run(words, text, limits), 0, out + b"value 1\n" * (line == 4))
+        wrong = wrong or differs(run(words, text + LONG_LINE, limits), 4, out, UNREAD % line)
+    return Outcome(wrong)
 
 
 # The lines of a log of two segments, what they print, what follows on them, and how that ends.
@@ -232,7 +249,7 @@ def roomy_for_long(programs: Programs) -> Outcome:
     ran = run([programs.store, *SMALL, "--clean-when-full"], text)
     cleans, flushes = ran.out.count(b"cleaned "), ran.out.count(b"flushed ")
     is_right = ran.status == 0 and not ran.err and cleans > 100 and flushes == 2_000
-    return Outcome(None if is_right and ran.out.endswith(b"\nflushed %d\n" % (cleans + 2_001)) else ran.told(), measured=f"{cleans} cleans")
+    return Outcome(None if is_right and ran.out.endswith(b"\nflushed %d\n" % (cleans + 2_001)) else ran.reported(), measured=f"{cleans} cleans")
 
 
 def too_small(programs: Programs) -> Outcome:
@@ -249,6 +266,7 @@ def cases(programs: Programs) -> list[Case]:
         *(Case(f"explains {row[3].decode().strip()}", explained, (programs, *row)) for row in EXPLAINED),
         Case("explains files", explained_file, (programs,)),
         Case("explains streams", explained_streams, (programs,)),
+        Case("explains a line that can't be read", explained_unread, (programs,)),
         Case("prints numbers", numbers, (programs,)),
         Case("prints numbers of a file that is shared", numbers_of_a_file, (programs,)),
         Case("cleans a full log", roomy, (programs,)),

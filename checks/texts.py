@@ -86,7 +86,7 @@ TEXTS = [
     Text("a million empty lines", lambda: b"\n" * MILLION, NOTHING),
     Text("a million lines of CR LF", lambda: b"\r\n" * MILLION, NOTHING),
     Text("a million go", lambda: b"go\n" * MILLION, NOTHING),
-    Text("a bad line behind a million", lambda: b"\n" * MILLION + b"x", bad("unknown command", MILLION + 1)),
+    Text("a bad line after a million", lambda: b"\n" * MILLION + b"x", bad("unknown command", MILLION + 1)),
     Text("a batch of 65,536 commands", lambda: b"get a\n" * 65_536, fault("4 BatchTooLong")),
     Text("a batch of 65,535 commands", lambda: b"get a\n" * 65_535, (0, b"missing\n" * 65_535, b"")),
     Text("a bound of 1 MB", lambda: b"get a\nwipe a " + LONG + b"\n", fault("2 KeyTooLong 1")),

@@ -42,7 +42,7 @@ def made(programs: Programs, path: Path, text: bytes, *words: str) -> tuple[byte
     """A store with this text in a file of its own: its bytes, its slot, and how a session ends that looks at it."""
     ran = run([programs.store, "--disk", path, "--create", *words], text + b"flush\n")
     if ran.status:
-        raise ValueError(f"the file was not made: {ran.told()}")
+        raise ValueError(f"the file was not made: {ran.reported()}")
     disk, look = path.read_bytes(), run([programs.store, "--disk", path], LOOK)
     return disk, slot_of(disk, settings_of(disk)), (look.status, look.out, look.err)
 
@@ -92,7 +92,7 @@ def look_at_killed(programs: Programs, path: Path, printed: bytes, slot: Slot, l
     """Whether an upgrade was done in which a session was killed, and what is wrong with what came back: the store as it was, of one version."""
     disk = path.read_bytes()
     is_done = slot_of(disk, settings_of(disk)).version == 2
-    wrong = "an upgrade was told that didn't come back" if line_of(slot) in printed and not is_done else None
+    wrong = "an upgrade was reported that didn't come back" if line_of(slot) in printed and not is_done else None
     wrong = wrong or differs(run([programs.store, "--disk", path], LOOK), *look)
     return is_done, wrong or differs(run([programs.store, "--disk", path], b"upgrade\n"), *(NEVER_TWICE if is_done else (0, line_of(slot), b"")))
 

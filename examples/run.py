@@ -22,6 +22,8 @@ SESSIONS = {
     "events": (["append 20261127 rain", "append 20261128 walk", "append 20261128 tea"], ["day 20261128", "newest 3"]),
     "people": (["add ann Rome", "add cat Rome"], ["add ann Oslo", "in Rome", "check"]),
     "cache": (["put a one", "put b two", "get a", "evict 1"], ["get a", "get b"]),
+    "put_then_get": (["a one", "b two"], ["a three"]),
+    "first_steps": ([], []),
 }
 
 

@@ -3,6 +3,7 @@
 from __future__ import annotations
 
 import os
+import pickle
 import random
 import signal
 import subprocess
@@ -92,7 +93,7 @@ class Model:
 
 
 class Chance:
-    """Commands by chance, on few keys, of which some have bytes that are written with escapes."""
+    """Commands by chance, on few keys, some with bytes that are written with escapes."""
 
     def __init__(self, seed: int) -> None:
         self.source = random.Random(seed)
@@ -210,9 +211,18 @@ class Replies(StoreTest):
         store.put(b"a", b"1")
         with self.assertRaises(ValueError):
             store.scan(limit=-1)
-        with self.assertRaises(TypeError):
-            store.put("a", b"1")  # type: ignore[arg-type]
-        self.assertEqual(store.get(b"a"), b"1")
+        for wrong in ("a", memoryview(b"a"), 1, None):
+            with self.assertRaisesRegex(TypeError, f"are bytes, and not {type(wrong).__name__}$"):
+                store.put(wrong, b"1")  # type: ignore[arg-type]
+            with self.assertRaisesRegex(TypeError, f"are bytes, and not {type(wrong).__name__}$"):
+                store.put(b"a", wrong)  # type: ignore[arg-type]
+        with self.assertRaisesRegex(TypeError, "are bytes, and not str$"):
+            store.wipe(b"a", "b")  # type: ignore[arg-type]
+        for limit in (1.9, "1"):
+            with self.assertRaisesRegex(TypeError, f"a whole number, and not {type(limit).__name__}$"):
+                store.scan(limit=limit)  # type: ignore[arg-type]
+        self.assertEqual(store.unflushed, 1)
+        self.assertEqual(store.get(bytearray(b"a")), b"1")
 
     def test_a_batch_and_its_replies_may_be_longer_than_pipes_hold(self) -> None:
         store = self.store(create=True, max_value=1024, seg_size=1_048_576)
@@ -234,6 +244,64 @@ class Replies(StoreTest):
         store = self.store(create=True)
         store.put(b"a", b"v" * 200)
         self.assertEqual(store.batches([[Get(b"a")] * 100] * 300), [[b"v" * 200] * 100] * 300)
+
+    def test_a_call_in_the_midst_of_a_call_is_refused(self) -> None:
+        store = self.store(create=True)
+        store.batch([Put(b"a", b"1"), Put(b"b", b"2")])
+        calls: list[Callable[[], object]] = [
+            lambda: store.get(b"b"),
+            store.flush,
+            store.verify,
+            store.stat,
+            store.reopen,
+            store.close,
+        ]
+
+        @dataclass(frozen=True)
+        class Meddle:
+            """A look whose answer is read only once another call was tried."""
+
+            call: Callable[[], object]
+
+            def text(self) -> bytes:
+                return b"get a\n"
+
+            def reply(self, line: Callable[[], bytes]) -> bytes:
+                try:
+                    self.call()
+                except RuntimeError as error:
+                    return b"%b, %b" % (str(error).encode(), line())
+                return b"was not refused"
+
+        due = b"a call of this store is under way in this thread, value 1"
+        for call in calls:
+            self.assertEqual(store.batch([Meddle(call), Get(b"b")]), [due, b"2"])
+
+    def test_a_handler_of_a_signal_takes_no_answer_of_a_call(self) -> None:
+        store = self.store(create=True)
+        keys = [b"%d" % number for number in range(100)]
+        store.batch([Put(key, b"value of " + key) for key in keys])
+        taken: list[bytes | None] = []
+        refused: list[str] = []
+
+        def handle(*_: object) -> None:
+            try:
+                taken.append(store.get(b"7"))
+            except RuntimeError as error:
+                refused.append(str(error))
+
+        before = signal.signal(signal.SIGALRM, handle)
+        self.addCleanup(signal.signal, signal.SIGALRM, before)
+        self.addCleanup(signal.setitimer, signal.ITIMER_REAL, 0)
+        signal.setitimer(signal.ITIMER_REAL, 0.001, 0.001)
+        end = time.monotonic() + taukremil.PATIENCE
+        while len(refused) < 100 and time.monotonic() < end:
+            for key in keys:
+                self.assertEqual(store.get(key), b"value of " + key)
+        signal.setitimer(signal.ITIMER_REAL, 0)
+        self.assertGreaterEqual(len(refused), 100)
+        self.assertEqual(set(taken) | {b"value of 7"}, {b"value of 7"})
+        self.assertEqual(store.unflushed, 1)
 
     def test_threads_may_share_a_store(self) -> None:
         store = self.store(create=True)
@@ -339,6 +407,34 @@ class Faults(StoreTest):
         self.assertIsNone(store.pid)
         self.assertEqual(store.scan(), [(b"a", b"1")])  # the next call goes on with the store of the last flush
 
+    def test_batches_before_one_that_is_refused_in_the_same_call_are_not_counted(self) -> None:
+        store = self.store(create=True, max_key=4)
+        store.put(b"a", b"1")
+        with self.assertRaises(Refused) as caught:
+            store.batches([[Put(b"b", b"2")], [Put(b"c", b"3")], [Put(b"much too long", b"4")]])
+        self.assertEqual(caught.exception.unflushed, 1)  # that of the call which returned
+        self.assertEqual(store.scan(), [])
+
+    def test_exceptions_are_the_same_in_another_process(self) -> None:
+        errors: list[StoreError] = [
+            StoreError("the store is closed"),
+            StoreError("the program has ended with status 1", 2),
+            Refused("fault 2 KeyTooLong 1", "a key that is too long", 3),
+            Refused("fault 9 Device", "", 1),
+            Killed(signal.SIGKILL, 4),
+            Killed(250),
+        ]
+        for error in errors:
+            again = pickle.loads(pickle.dumps(error))
+            self.assertIs(type(again), type(error))
+            self.assertEqual((str(again), vars(again)), (str(error), vars(error)))
+
+    def test_what_is_gone_may_be_flushed_where_a_flush_may_be_done(self) -> None:
+        refused = [Refused("fault 6 NoMemory", "", 1), Refused("fault 9 Device", "", 1)]
+        for error in (Killed(signal.SIGKILL, 1), *refused):
+            self.assertIn("that are gone, unless a flush was under way: 1", str(error))
+        self.assertIn("that are gone: 1", str(Refused("fault 10 Full", "", 1)))
+
     def test_a_batch_that_is_too_long_is_refused(self) -> None:
         store = self.store(create=True)
         self.assertEqual(len(store.batch([Get(b"a")] * 65_535)), 65_535)
@@ -436,6 +532,20 @@ class Kills(StoreTest):
         self.assertEqual(store.unflushed, 0)
         self.assertEqual(store.scan(), [(b"a", b"1")])
 
+    def test_where_the_system_takes_statuses_a_fault_is_seen_and_a_kill_is_an_end(self) -> None:
+        before = signal.signal(signal.SIGCHLD, signal.SIG_IGN)
+        self.addCleanup(signal.signal, signal.SIGCHLD, before)
+        store = self.store(create=True, max_key=4)
+        with self.assertRaises(Refused) as refused:
+            store.put(b"much too long", b"1")
+        self.assertEqual(refused.exception.number, 2)
+        self.assertIsNone(store.get(b"a"))
+        kill(store)
+        with self.assertRaisesRegex(StoreError, "SIGCHLD") as ended:
+            store.get(b"a")
+        self.assertIs(type(ended.exception), StoreError)
+        self.assertIsNone(store.get(b"a"))
+
     def test_an_interrupt_of_the_terminal_is_for_the_caller_alone(self) -> None:
         store = self.store(create=True)
         assert store.pid is not None
@@ -525,7 +635,7 @@ class Kills(StoreTest):
 
 
 def store_again(store: Store) -> list[Row]:
-    """Returns all pairs of a store, of which the program may be killed meanwhile, again and again."""
+    """Returns all pairs of a store whose program may be killed meanwhile, again and again."""
     while True:
         try:
             return store.scan()

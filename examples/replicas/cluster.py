@@ -1,4 +1,4 @@
-"""A cluster of etcd on the loopback address, of which members may be killed and started again."""
+"""A cluster of etcd on the loopback address, whose members may be killed and started again."""
 
 from __future__ import annotations
 

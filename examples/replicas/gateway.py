@@ -17,6 +17,10 @@ FAILURES = (OSError, http.client.HTTPException, json.JSONDecodeError)  # of a me
 Json = dict[str, Any]
 
 
+class Compacted(Exception):
+    """What a watch asks for is gone from etcd, from all members alike."""
+
+
 def encode(data: bytes) -> str:
     return base64.b64encode(data).decode()
 
@@ -106,12 +110,15 @@ class Gateway:
         return [Event.of(pair) for pair in answer.get("kvs", [])]
 
     def watch(self, prefix: bytes, first: int) -> Iterator[list[list[Event]]]:
-        """Yields lists of revisions, each with its events, as the present member sends them, until that fails."""
+        """Yields lists of revisions, each with its events, as the present member sends them, until that fails. Raises
+        `Compacted` where the first ones are gone."""
         bounds = {"key": encode(prefix), "range_end": encode(end_of(prefix))}
         response = self._post("/v3/watch", {"create_request": {**bounds, "start_revision": str(first)}})
         while line := response.readline():
             answer = json.loads(line)
             result = answer.get("result", {})
+            if compacted := int(result.get("compact_revision", 0)):
+                raise Compacted(f"etcd has nothing before revision {compacted}, where {first} was asked for")
             if "error" in answer or result.get("canceled"):
                 raise ConnectionError(f"the watch has ended: {answer}")
             events = [Event.of(event["kv"]) for event in result.get("events", [])]
@@ -119,7 +126,8 @@ class Gateway:
                 yield [list(same) for _, same in itertools.groupby(events, lambda event: event.revision)]
 
     def follow(self, prefix: bytes, first: int) -> Iterator[list[list[Event]]]:
-        """Yields lists of revisions, each with its events and once, from one member or the other, for ever."""
+        """Yields lists of revisions, each with its events and once, from one member or the other, for ever. Raises
+        `Compacted` where the next ones are gone."""
         while True:
             try:
                 for revisions in self.watch(prefix, first):

@@ -13,6 +13,7 @@ both are exceptions, and the next call starts the program again from its file, w
 
 from __future__ import annotations
 
+import operator
 import os
 import selectors
 import signal
@@ -48,6 +49,7 @@ __all__ = [
 
 SETTINGS = ("fan", "chain", "max_key", "max_value", "seg_size", "segments", "workers", "grain")
 MOST_ROWS = 4_294_967_295  # that a scan may ask for
+NO_MEMORY, DEVICE = 6, 9  # faults that may come of a flush which is done
 PIECE = 1 << 18  # bytes of the answers that are read at a time
 PATIENCE = 60  # seconds that a program gets to end by itself
 
@@ -58,10 +60,14 @@ T_co = TypeVar("T_co", covariant=True)
 NextLine = Callable[[], bytes]  # gives the next line of the answers, without its line feed
 
 
+UNDER_WAY = ", unless a flush was under way"
+
+
 class StoreError(Exception):
     """The program has ended. The next call starts it again from its file.
 
-    `unflushed` says how many batches that write it had answered since its last flush. They are gone.
+    `unflushed` says how many batches that write were answered by calls that returned, since the last flush. They are
+    gone, and so is all of the call that has raised, unless a flush was under way.
     """
 
     unless = ""
@@ -70,20 +76,30 @@ class StoreError(Exception):
         lost = f"; batches since the last flush that are gone{self.unless}: {unflushed}" if unflushed else ""
         super().__init__(f"{text}{lost}")
         self.unflushed = unflushed
+        self._text = text
+
+    def __reduce__(self) -> tuple[type[StoreError], tuple[object, ...]]:
+        """Returns what another process makes the same exception of."""
+        return type(self), (self._text, self.unflushed)
 
 
 class Refused(StoreError):
     """The program has answered with a fault: it refused a batch, a flush or a clean, say, or couldn't open its file.
 
     `number` is that of the fault, `fault` its line, as docs/RULES.md lists them, and `why` says where it came from and
-    what to do. What was refused did nothing, but for a flush that failed on its device (9): that one may be done.
+    what to do. What was refused did nothing, but for a flush that failed on its device (9), or for whose answer there
+    was no memory (6): that one may be done.
     """
 
     def __init__(self, fault: str, why: str, unflushed: int = 0) -> None:
-        super().__init__(f"{fault}: {why}" if why else fault, unflushed)
         self.fault = fault
         self.number = int(fault.split()[1])
         self.why = why
+        self.unless = UNDER_WAY if self.number in (NO_MEMORY, DEVICE) else ""
+        super().__init__(f"{fault}: {why}" if why else fault, unflushed)
+
+    def __reduce__(self) -> tuple[type[StoreError], tuple[object, ...]]:
+        return type(self), (self.fault, self.why, self.unflushed)
 
 
 class Killed(StoreError):
@@ -92,12 +108,15 @@ class Killed(StoreError):
     What was under way is not done; but a flush, a clean or an upgrade may be, and then what it flushed isn't gone.
     """
 
-    unless = ", unless a flush was under way"
+    unless = UNDER_WAY
 
     def __init__(self, number: int, unflushed: int = 0) -> None:
         name = signal.Signals(number).name if number in set(signal.Signals) else f"signal {number}"
         super().__init__(f"the program was killed by {name}; what was flushed is safe", unflushed)
         self.signal = number
+
+    def __reduce__(self) -> tuple[type[StoreError], tuple[object, ...]]:
+        return type(self), (self.signal, self.unflushed)
 
 
 class _Ended(Exception):
@@ -116,6 +135,8 @@ PLAIN = bytes(range(0x21, 0x7F)).replace(b"%", b"")  # bytes that stand for them
 
 def _token(data: bytes) -> bytes:
     """Writes a byte string as a word of a batch file: as it is, or else each byte as %XX; the empty one as %."""
+    if not isinstance(data, (bytes, bytearray)):
+        raise TypeError(f"keys and values are bytes, and not {type(data).__name__}")
     is_plain = data and not data.translate(None, PLAIN)
     return data if is_plain else b"%" + data.hex("%").encode()
 
@@ -125,6 +146,14 @@ def _bound(data: bytes | None) -> bytes:
     if data is None:
         return b"*"
     return b"%2A" if data == b"*" else _token(data)
+
+
+def _whole(number: int) -> int:
+    """Returns a whole number as it is."""
+    try:
+        return operator.index(number)
+    except TypeError:
+        raise TypeError(f"a limit is a whole number, and not {type(number).__name__}") from None
 
 
 def _untoken(token: bytes) -> bytes:
@@ -238,9 +267,10 @@ class Scan:
     limit: int = MOST_ROWS
 
     def text(self) -> bytes:
-        if not 0 <= self.limit <= MOST_ROWS:
-            raise ValueError(f"a scan gives 0 to {MOST_ROWS} rows, and not {self.limit}")
-        return b"scan %b %b %d\n" % (_token(self.lo), _bound(self.hi), self.limit)
+        limit = _whole(self.limit)
+        if not 0 <= limit <= MOST_ROWS:
+            raise ValueError(f"a scan gives 0 to {MOST_ROWS} rows, and not {limit}")
+        return b"scan %b %b %d\n" % (_token(self.lo), _bound(self.hi), limit)
 
     def reply(self, line: NextLine) -> list[Row]:
         (count,) = _numbers(line(), b"rows")
@@ -330,7 +360,7 @@ class _Program:
         os.set_blocking(self._input, False)
         self._unsent = memoryview(b"")
         self._lines: deque[bytes] = deque()
-        self._begun = b""  # a line of which the end wasn't read yet
+        self._begun = b""  # a line whose end wasn't read yet
 
     def send(self, text: bytes) -> None:
         """Begins to send a text. What the pipe doesn't take goes out while answers are awaited."""
@@ -400,12 +430,13 @@ class _Program:
 
 
 def _error(status: int, said: list[str], unflushed: int) -> StoreError:
-    """Returns what is to be raised for a program that has ended so."""
+    """Returns what is to be raised for a program that has ended so. Its status is 0 too where somebody else took it."""
     if status < 0:
         return Killed(-status, unflushed)
-    if status == 4 and said and said[0].startswith("fault "):
+    if status in (0, 4) and said and said[0].startswith("fault "):
         return Refused(said[0], " ".join(said[1:]), unflushed)
-    return StoreError("\n".join([f"the program has ended with status {status}", *said]), unflushed)
+    lost = ", or with one that is lost, as where SIGCHLD is ignored" if status == 0 else ""
+    return StoreError("\n".join([f"the program has ended with status {status}{lost}", *said]), unflushed)
 
 
 class Store:
@@ -413,7 +444,8 @@ class Store:
 
     Calls may come from several threads: they are done one after the other. Any call may raise `Refused`, `Killed`, or
     `StoreError` where the program has ended otherwise; then the next call starts it again from its file. An exception
-    that comes in the midst of a call, as KeyboardInterrupt does, ends the program too. In a fork of the process the
+    that comes in the midst of a call, as KeyboardInterrupt does, ends the program too. A call in the midst of another
+    one of the same thread, as a signal's handler makes it, is refused with RuntimeError. In a fork of the process the
     store is closed, and stays open in the process itself.
     """
 
@@ -441,8 +473,9 @@ class Store:
         self._program: _Program | None = None
         self._unflushed = 0
         self._is_closed = False
+        self._is_busy = False
         _stores.add(self)
-        self._start(["--create"] if create else [])
+        self._alone(lambda: self._start(["--create"] if create else []))
 
     def __enter__(self) -> Store:
         return self
@@ -528,39 +561,67 @@ class Store:
 
     def stat(self) -> Stat:
         """Returns the numbers of the log, from the front of the file."""
-        with self._lock:  # so that no flush is under way
-            with open(self.path, "rb") as file:
-                return _stat(file.read(SLOTS_END))
+        return _stat(self._alone(self._front))  # while no flush is under way
 
     def reopen(self) -> None:
         """Ends the program, where it runs, and starts it again from its file: what was not flushed is gone."""
-        with self._lock:
-            self.close()
-            self._is_closed = False
-            self._start()
+        self._alone(self._restart)
 
     def close(self) -> None:
         """Ends the program. What was not flushed is gone."""
+        self._alone(self._end)
+
+    def _alone(self, call: Callable[[], T]) -> T:
+        """Makes a call, alone. One in the midst of it, by the handler of a signal, say, would take its answers."""
         with self._lock:
-            self._is_closed = True
-            program = self._program
-            self._forget()
-            if program:
-                program.end()
+            if self._is_busy:
+                raise RuntimeError("a call of this store is under way in this thread")
+            try:
+                self._is_busy = True
+                return call()
+            finally:
+                self._is_busy = False
+
+    def _front(self) -> bytes:
+        """Reads the front of the file."""
+        with open(self.path, "rb") as file:
+            return file.read(SLOTS_END)
+
+    def _end(self) -> None:
+        """Ends the program, where it runs."""
+        self._is_closed = True
+        program = self._program
+        self._forget()
+        if program:
+            program.end()
+
+    def _restart(self) -> None:
+        """Ends the program, where it runs, and starts it again."""
+        self._end()
+        self._is_closed = False
+        self._start()
 
     def _leave(self) -> None:
         """Closes the store in a fork, in which another thread's lock would be held for ever."""
         self._lock = threading.RLock()
         self._is_closed = True
+        self._is_busy = False
         program = self._program
         self._forget()
         if program:
             program.leave()
 
-    def _start(self, more: list[str] | None = None) -> None:
+    def _start(self, more: list[str] | None = None) -> _Program:
         """Starts the program, and waits until it has opened its file."""
-        self._program = _Program(self._command + (more or []))
-        self._one(NOTHING)
+        program = self._program = _Program(self._command + (more or []))
+        self._ask_program(program, NOTHING.text() + b"go\n", NOTHING.reply, 0)
+        return program
+
+    def _running(self) -> _Program:
+        """Returns the program, which is started where it doesn't run."""
+        if self._is_closed:
+            raise StoreError("the store is closed")
+        return self._program or self._start()
 
     def _one(self, command: Command[T]) -> T:
         """Runs a command as a batch of its own."""
@@ -578,31 +639,28 @@ class Store:
         return unflushed
 
     def _ask(self, text: bytes, read: Callable[[NextLine], T], writing: int = 0) -> T:
-        """Sends a text, of whose batches `writing` write, and reads all of its answers: none is left for a later call."""
-        with self._lock:
-            if self._is_closed:
-                raise StoreError("the store is closed")
-            if self._program is None:
-                self._start()
-            program = self._program
-            assert program is not None
-            try:
-                program.send(text)
-                found = read(program.line)
-                program.settle()
-                self._unflushed += writing
-                return found
-            except _Ended:
-                unflushed = self._forget()
-                raise _error(*program.end(), unflushed) from None
-            except _Unexpected as error:
-                unflushed = self._forget()
-                program.kill()
-                raise StoreError(str(error), unflushed) from None
-            except BaseException:
-                self._forget()
-                program.kill()
-                raise
+        """Sends a text with `writing` batches that write to the program, and returns what is read from its answers."""
+        return self._alone(lambda: self._ask_program(self._running(), text, read, writing))
+
+    def _ask_program(self, program: _Program, text: bytes, read: Callable[[NextLine], T], writing: int) -> T:
+        """Sends a text to a program, and reads all of its answers: none is left for a later call."""
+        try:
+            program.send(text)
+            found = read(program.line)
+            program.settle()
+            self._unflushed += writing
+            return found
+        except _Ended:
+            unflushed = self._forget()
+            raise _error(*program.end(), unflushed) from None
+        except _Unexpected as error:
+            unflushed = self._forget()
+            program.kill()
+            raise StoreError(str(error), unflushed) from None
+        except BaseException:
+            self._forget()
+            program.kill()
+            raise
 
 
 _stores: weakref.WeakSet[Store] = weakref.WeakSet()

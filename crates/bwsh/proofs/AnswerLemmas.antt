@@ -8,7 +8,7 @@ use Rattle.engine.specs.declared.step.Answer as code_answer
 use Rattle.bwsh.specs.declared.session.Ending.{Ending}
 use Rattle.bwsh.specs.Session.{Prints}
 use Rattle.bwsh.specs.Shown.{shown_answer}
-use Rattle.bwsh.proofs.Prints.{Prints-all, Prints-behind, Prints-early}
+use Rattle.bwsh.proofs.Prints.{Prints-all, Prints-after_order, Prints-early}
 
 abbrev pub lines_of_answers : List code_answer.Answer → List (List ℕ)
 lines_of_answers said = flat_map shown_answer (map answer_of said)
@@ -19,10 +19,10 @@ pub answers_left : (said : List code_answer.Answer) (i : ℕ) (a : code_answer.A
 answers_left said i a h is = ap lines_of_answers (drop_more said i a h ∙ ap (λ (b : code_answer.Answer). b ∷ drop (i + 1) said) (sym is))
 
 -- what is left to print, printed after what stands there now, is what all of it prints after what stood there first
-abbrev pub PrintsBehind : Option (List ℕ) → List (List ℕ) → Option (List ℕ) → List (List ℕ) → Type 0
-PrintsBehind old all now left = (new : Option (List ℕ)) (end : Result (Unit {0}) Ending) → Prints now new left (Ok tt) end → Prints old new all (Ok tt) end
+abbrev pub PrintsAfter : Option (List ℕ) → List (List ℕ) → Option (List ℕ) → List (List ℕ) → Type 0
+PrintsAfter old all now left = (new : Option (List ℕ)) (end : Result (Unit {0}) Ending) → Prints now new left (Ok tt) end → Prints old new all (Ok tt) end
 
-module _ (old now : Option (List ℕ)) (all left : List (List ℕ)) (leads : PrintsBehind old all now left) where
+module _ (old now : Option (List ℕ)) (all left : List (List ℕ)) (leads : PrintsAfter old all now left) where
   pub none_left : left ≡ [] → Prints old now all (Ok tt) (Ok tt)
   none_left none = leads now (Ok tt) (subst (λ (l : List (List ℕ)). Prints now now l (Ok tt) (Ok tt)) (sym none) (inl (refl, Appends-nil now)))
 
@@ -30,6 +30,6 @@ module _ (old now : Option (List ℕ)) (all left : List (List ℕ)) (leads : Pri
     pub left_early : (early : Ending) → Prints now new one (Ok tt) (Err early) → Prints old new all (Ok tt) (Err early)
     left_early early p = leads new (Err early) (subst (λ (l : List (List ℕ)). Prints now new l (Ok tt) (Err early)) (sym is) (Prints-early now new one rest (Ok tt) early p))
 
-    pub left_later : (done : Unit {0}) → Prints now new one (Ok tt) (Ok done) → PrintsBehind old all new rest
+    pub left_later : (done : Unit {0}) → Prints now new one (Ok tt) (Ok done) → PrintsAfter old all new rest
     left_later done p last end q =
-        leads last end (subst (λ (l : List (List ℕ)). Prints now last l (Ok tt) end) (sym is) (Prints-behind now new last one rest (Ok tt) end (Prints-all now new one (Ok tt) done p) q))
+        leads last end (subst (λ (l : List (List ℕ)). Prints now last l (Ok tt) end) (sym is) (Prints-after_order now new last one rest (Ok tt) end (Prints-all now new one (Ok tt) done p) q))

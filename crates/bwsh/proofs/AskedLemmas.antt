@@ -6,7 +6,7 @@ use Rattle.std.specs.Str.{bytes_eq}
 use Rattle.std.proofs.lemmas.Slice.Eq.{bytes_eq-Decides}
 use Rattle.clap.specs.Kinds.{HasKind, IsAmong, Kinds, or_else}
 use Rattle.clap.specs.Walk.{Held, Row, Rule, arg_by_id, arg_by_long, has_row, idle, nothing_held, settled, walk, walk_from, with_default}
-use Rattle.clap.specs.Simple.{built, entered, filled}
+use Rattle.clap.specs.Simple.{built, entered}
 use Rattle.clap.specs.declared.builder.value_parser.ValueParser.TheVariants as vp
 use Rattle.clap.specs.declared.builder.value_parser.Reading.TheVariants.{AsWritten, WithoutMinus}
 use Rattle.clap.specs.Faults.{defaults_fault, entered_fault, fault_of, level_fault, settle_fault, walk_fault}
@@ -15,20 +15,23 @@ use Rattle.clap.specs.declared.error.Error.{Error}
 use Rattle.clap.specs.declared.error.kind.ErrorKind.{ErrorKind}
 use Rattle.clap.specs.declared.error.kind.ErrorKind.TheVariants.{DisplayHelp, ValueValidation}
 use Rattle.clap.proofs.WalkLemmas.{both}
-use Rattle.bwsh.specs.Options.{Asked, options, help, refused, Given, IsRightKind, Text, asked, flag_names, is_number, is_refusal, takes_nothing, takes_number}
-use Rattle.bwsh.specs.CommandLine.{AreGivable, built_flag, built_number, built_rules, bwsh, finished_rows, given_row, number_defaults, text_rule}
+use Rattle.bwsh.specs.Options.{Asked, options, help, refused, Given, IsRightKind, Text, asked, flag_names, is_number, is_refusal, path_names, takes_nothing, takes_number, takes_path}
+use Rattle.bwsh.specs.CommandLine.{AreGivable, built_flag, built_number, built_path, built_rules, bwsh, finished_rows, given_row, number_defaults}
 use Rattle.bwsh.proofs.TurnLemmas.{HasOptions, TakesText, any_of, built_help, held, or_else-none, shape, standing}
 use Rattle.bwsh.proofs.CommandLineLemmas.{Comes, rest_fault, rest_rows, words_come}
 
 -- ---- the options of the command line
 
--- the rule of `--disk`
+-- the rules of `--disk` and `--copy-to`
 abbrev built_disk : Rule
-built_disk = filled (text_rule (codes "disk"))
+built_disk = built_path (codes "disk")
+
+abbrev built_copy : Rule
+built_copy = built_path (codes "copy-to")
 
 -- what stands after the options that take a number
 abbrev last_rules : List Rule
-last_rules = built_disk ∷ map built_flag flag_names ++ built_help ∷ []
+last_rules = built_disk ∷ built_copy ∷ map built_flag flag_names ++ built_help ∷ []
 
 abbrev pub rules : List Rule
 rules = map built_number number_defaults ++ last_rules
@@ -70,7 +73,7 @@ or_splits : (b d : Bool) → (b || d) ≡ false → (b ≡ false) × (d ≡ fals
 or_splits true d e = cc
 or_splits false d e = (refl, e)
 
-known_text : (name : Text) (b : Bool) → takes_number name ≡ b → (b || bytes_eq (codes "disk") name) ≡ true → TakesText rules name
+known_text : (name : Text) (b : Bool) → takes_number name ≡ b → (b || takes_path name) ≡ true → TakesText rules name
 known_text name true is e =
     let k = known_in number_defaults last_rules name is in
     record {
@@ -81,35 +84,52 @@ known_text name true is e =
       by_long = k.1;
       by_id = k.2;
     }
-known_text name false is hit = subst (TakesText rules) ((bytes_eq-Decides (codes "disk") name).0 hit) (record {
-  defaults = [];
-  parser = vp.String;
-  checks = λ text. refl;
-  reads = refl;
-  by_long = refl;
-  by_id = refl;
-})
+known_text name false is hit =
+    any_of (TakesText rules) path_names (
+      record {
+        defaults = [];
+        parser = vp.String;
+        checks = λ text. refl;
+        reads = refl;
+        by_long = refl;
+        by_id = refl;
+      },
+      (
+        record {
+          defaults = [];
+          parser = vp.String;
+          checks = λ text. refl;
+          reads = refl;
+          by_long = refl;
+          by_id = refl;
+        },
+        tt,
+      ),
+    ) name hit
 
 -- none of the options that take nothing
-none_of_flags : (name : Text) → takes_nothing name ≡ false → bytes_eq (codes "disk") name ≡ false → bytes_eq (codes "help") name ≡ false
+none_of_flags : (name : Text) → takes_nothing name ≡ false → takes_path name ≡ false → bytes_eq (codes "help") name ≡ false
     → arg_by_long last_rules name ≡ None
-none_of_flags name none no_disk no_help =
+none_of_flags name none no_path no_help =
+    let (no_disk, later_path) = or_splits (bytes_eq (codes "disk") name) _ no_path in
+    let (no_copy, no_more) = or_splits (bytes_eq (codes "copy-to") name) _ later_path in
     let (one, later) = or_splits (bytes_eq (codes "create") name) _ none in
     let (two, later_two) = or_splits (bytes_eq (codes "version") name) _ later in
     let (three, later_three) = or_splits (bytes_eq (codes "explain") name) _ later_two in
     let (four, later_four) = or_splits (bytes_eq (codes "stat") name) _ later_three in
     let (five, later_five) = or_splits (bytes_eq (codes "clean-when-full") name) _ later_four in
-    let (six, last) = or_splits (bytes_eq (codes "stream") name) _ later_five in
-    rw (no_disk, one, two, three, four, five, six, no_help) refl
+    let (six, later_six) = or_splits (bytes_eq (codes "stream") name) _ later_five in
+    let (seven, last) = or_splits (bytes_eq (codes "progress") name) _ later_six in
+    rw (no_disk, no_copy, one, two, three, four, five, six, seven, no_help) refl
 
 has_options : HasOptions rules
 has_options = record {
   known = λ name takes. known_text name (takes_number name) refl takes;
-  flags = any_of (λ name. arg_by_long rules name ≡ Some (built_flag name)) flag_names (refl, (refl, (refl, (refl, (refl, (refl, tt))))));
+  flags = any_of (λ name. arg_by_long rules name ≡ Some (built_flag name)) flag_names (refl, (refl, (refl, (refl, (refl, (refl, (refl, tt)))))));
   help = refl;
   others = λ name takes no_flag no_help.
-      let (no_number, no_disk) = or_splits (takes_number name) _ takes in
-      long_after number_defaults last_rules name no_number ∙ none_of_flags name no_flag no_disk no_help;
+      let (no_number, no_path) = or_splits (takes_number name) _ takes in
+      long_after number_defaults last_rules name no_number ∙ none_of_flags name no_flag no_path no_help;
   short = λ x. ap (λ (b : Bool). cond b (Some built_help) None) (or_false (104 == x));
   positional = refl;
 }
@@ -146,7 +166,9 @@ flags_pass (name ∷ names) rows = flag_default (has_row name rows) _ ∙ flags_
 
 last_pass : (rows : List Row) → defaults_fault rows last_rules ≡ []
 unfolding defaults_fault
-last_pass rows = no_default (has_row (codes "disk") rows) _ _ ∙ flags_pass flag_names (with_default rows built_disk)
+last_pass rows =
+    let after_disk = with_default rows built_disk in
+    no_default (has_row (codes "disk") rows) _ _ ∙ no_default (has_row (codes "copy-to") after_disk) _ _ ∙ flags_pass flag_names (with_default after_disk built_copy)
 
 defaults_pass : (ps : List (Text × Text)) (rows : List Row) → list_all (λ p. is_number p.1) ps ≡ true → defaults_fault rows (map built_number ps ++ last_rules) ≡ []
 unfolding defaults_fault
@@ -156,14 +178,14 @@ defaults_pass (p ∷ ps) rows e =
     ap (λ (ks : Kinds). or_else ks (defaults_fault (with_default rows (built_number p)) (map built_number ps ++ last_rules))) (default_passes (has_row p.0 rows) (is_number p.1) parts.0)
     ∙ defaults_pass ps (with_default rows (built_number p)) parts.1
 
-nothing_behind : (words settle defaults : Kinds) → defaults ≡ [] → or_else words (or_else [] (or_else settle (or_else defaults []))) ≡ or_else words settle
-nothing_behind words settle defaults e = rw e (ap (or_else words) (or_else-none settle))
+nothing_after : (words settle defaults : Kinds) → defaults ≡ [] → or_else words (or_else [] (or_else settle (or_else defaults []))) ≡ or_else words settle
+nothing_after words settle defaults e = rw e (ap (or_else words) (or_else-none settle))
 
 faults_are : (words : List Text) → fault_of bwsh words ≡ rest_fault rules (standing [] None idle false) words
 faults_are words =
     let end = (walk rules [] nothing_held words) in
     no_level nothing_held words end.stopped
-    ∙ nothing_behind (walk_fault (shape rules) [] (walk_from nothing_held) words) (settle_fault rules false end.held) _ (defaults_pass number_defaults (settled rules end.held).rows refl)
+    ∙ nothing_after (walk_fault (shape rules) [] (walk_from nothing_held) words) (settle_fault rules false end.held) _ (defaults_pass number_defaults (settled rules end.held).rows refl)
 
 rows_are : (words : List Text) → matches_of bwsh words ≡ fold with_default (rest_rows rules (standing [] None idle false) words) built_rules
 rows_are words =

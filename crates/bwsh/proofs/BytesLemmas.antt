@@ -1,5 +1,5 @@
 -- When the answers to orders don't depend on what the disk shows.
-use Rattle.std.proofs.Common.{◌≡◌, ℕ, List, [], ◌∷◌, ◌++◌, Option, Some, None, Result, Ok, Err, refl, sym, ap, ◌∙◌, subst}
+use Rattle.std.proofs.Common.{◌≡◌, ℕ, suc, List, [], ◌∷◌, ◌++◌, Option, Some, None, Result, Ok, Err, refl, sym, ap, ◌∙◌, subst}
 use Rattle.std.specs.Prelude.{⊤, Bool, true, false, is_some, if◌then◌else◌}
 use Rattle.std.specs.List.{All, AllByRecursion}
 use Rattle.std.specs.Option.{option_map, option_or}
@@ -9,16 +9,17 @@ use Rattle.keys.specs.declared.fault.Fault.{Fault}
 use Rattle.keys.specs.declared.settings.Settings.{Settings}
 use Rattle.keys.specs.declared.version.Version.{Version}
 use Rattle.keys.specs.declared.version.Version.TheVariants.{One, Two}
-use Rattle.mapping.specs.Tree.{Store}
+use Rattle.mapping.specs.Tree.{Store, with_tree}
 use Rattle.flush_log.specs.AfterFlush.{after_text, of_version_two, unless_upgraded, flush_commit, file_after, store_after, is_spent}
 use Rattle.flush_log.specs.FlushText.{flush_text, upgrade_text, flushed}
 use Rattle.flush_log.specs.Layout.{is_full_for_flush}
+use Rattle.engine.specs.Batches.{tree_in_turn}
 use Rattle.engine.specs.Steps.{Step, Answer, Stepped, unless_refused, after_step, batching}
 use Rattle.bwsh.specs.declared.batch_file.Order.{Order}
 use Rattle.bwsh.specs.declared.batch_file.Order.TheVariants.{Batch, Flush, Clean, Upgrade, Verify, Numbers}
 use Rattle.bwsh.specs.declared.session.Ending.TheVariants as endings
 use Rattle.bwsh.specs.BatchFile.{IsNoClean}
-use Rattle.bwsh.specs.Session.{Stored, Reads, later, AreLeft, step_in, left_by, refused_by, behind_step, refusal_of_step, behind, refusal_of, map_behind, own_lines, answer_lines, accepted, first_refusal, orders_end, stopped_by}
+use Rattle.bwsh.specs.Session.{Stored, Seen, Reads, Batches, later, AreLeft, AreTidiedAlike, if_it_holds, tidied, tidied_after, step_in, left_by, refused_by, left_by_step, refusal_of_step, after_order, refusal_of, map_after, own_lines, answer_lines, accepted, first_refusal, orders_end, stopped_by}
 use Rattle.bwsh.specs.Shown.{shown_flushed, shown_cleaned, shown_upgraded}
 use Rattle.bwsh.proofs.RunLemmas.{of_flush, of_upgrade, answering, committed_unless}
 
@@ -52,6 +53,19 @@ upgrade-same : (version : Version) (settings : Settings) (st : Store) (f g : Lis
 upgrade-same One settings st f g text = text-same of_upgrade settings st f g text
 upgrade-same Two settings st f g text = refl
 
+-- what is tidied by the same batches is the same store, whatever the bytes
+tidied-same : (settings : Settings) (batches : Batches) (a b : Stored) → a.0 ≡ b.0 → (tidied settings batches a).0 ≡ (tidied settings batches b).0
+tidied-same settings [] a b same = same
+tidied-same settings (x ∷ xs) a b same = ap (λ (s : Store). with_tree s (if_it_holds (tree_in_turn settings s.tree (x ∷ xs)) s.tree)) same
+
+after-same : (order : Order) (settings : Settings) (batches : Batches) (a b : Stored) → a.0 ≡ b.0 → (tidied_after order settings batches a).0 ≡ (tidied_after order settings batches b).0
+after-same Flush settings batches a b same = tidied-same settings batches a b same
+after-same (Batch cs) settings batches a b same = same
+after-same Clean settings batches a b same = same
+after-same Upgrade settings batches a b same = same
+after-same Verify settings batches a b same = same
+after-same Numbers settings batches a b same = same
+
 -- two outcomes of a step that differ in the bytes at most
 left-same : (st : Store) (f g : List ℕ) (r q : Stepped Global) → without_bytes r ≡ without_bytes q → ((left_by (st, f) r).0 ≡ (left_by (st, g) q).0) × (refused_by r ≡ refused_by q)
 left-same st f g (Ok p) (Ok q) e =
@@ -81,17 +95,31 @@ module _ (settings : Settings) (st : Store) (f g : List ℕ) where
   order-same Numbers only y is = absurd (cc)
 
   step-same : (o : Option (Step Global)) → ((y : Step Global) → o ≡ Some y → without_bytes (stepped f y) ≡ without_bytes (stepped g y))
-      → ((behind_step settings (st, f) o).0 ≡ (behind_step settings (st, g) o).0) × (refusal_of_step settings (st, f) o ≡ refusal_of_step settings (st, g) o)
+      → ((left_by_step settings (st, f) o).0 ≡ (left_by_step settings (st, g) o).0) × (refusal_of_step settings (st, f) o ≡ refusal_of_step settings (st, g) o)
   step-same None same = (refl, refl)
   step-same (Some y) same = left-same st f g (stepped f y) (stepped g y) (same y refl)
 
-  -- an order that is no clean leaves the same store, and is refused for the same reason
-  pub behind-same : (order : Order) → IsNoClean order → ((behind settings st f order).0 ≡ (behind settings st g order).0) × (refusal_of settings st f order ≡ refusal_of settings st g order)
-  unfolding behind refusal_of
-  behind-same order only = step-same (step_in order) (order-same order only)
+  -- an order that is no clean is refused for the same reason, and its step leaves the same store
+  pub refusal-same : (order : Order) → IsNoClean order → refusal_of_step settings (st, f) (step_in order) ≡ refusal_of_step settings (st, g) (step_in order)
+  refusal-same order only = (step-same (step_in order) (order-same order only)).1
+
+  stored-same : (order : Order) → IsNoClean order → (left_by_step settings (st, f) (step_in order)).0 ≡ (left_by_step settings (st, g) (step_in order)).0
+  stored-same order only = (step-same (step_in order) (order-same order only)).0
+
+module _ (settings : Settings) (st : Store) (f g : Seen) where
+  -- an order that is no clean leaves the same store, where it is tidied by the same batches, and is refused for the same reason
+  after_order-same : f.tidying ≡ g.tidying → (order : Order) → IsNoClean order
+      → ((after_order settings st f order).0 ≡ (after_order settings st g order).0) × (refusal_of settings st f order ≡ refusal_of settings st g order)
+  unfolding after_order refusal_of
+  after_order-same alike order only =
+      let a : Stored = left_by_step settings (st, f.bytes) (step_in order) in
+      let b : Stored = left_by_step settings (st, g.bytes) (step_in order) in (
+        ap (λ (t : Batches). (tidied_after order settings t a).0) alike ∙ after-same order settings g.tidying a b (stored-same settings st f.bytes g.bytes order only),
+        refusal-same settings st f.bytes g.bytes order only,
+      )
 
   -- where it leaves the same store, it answers the same
-  own-same : (m : List (List ℕ × List ℕ)) (order : Order) → (behind settings st f order).0 ≡ (behind settings st g order).0 → own_lines settings st f m order ≡ own_lines settings st g m order
+  own-same : (m : List (List ℕ × List ℕ)) (order : Order) → (after_order settings st f order).0 ≡ (after_order settings st g order).0 → own_lines settings st f m order ≡ own_lines settings st g m order
   own-same m (Batch cs) same = refl
   own-same m Flush same = ap (λ (s : Store). shown_flushed s.sequence ∷ []) same
   own-same m Clean same = ap (λ (s : Store). shown_cleaned s.head ∷ []) same
@@ -106,16 +134,16 @@ module _ (settings : Settings) where
   abbrev AreAlike : Store → Reads → Reads → List Order → Type 0
   AreAlike st shown other [] = ⊤
   AreAlike st shown other (order ∷ rest) =
-      ((behind settings st (shown 0) order).0 ≡ (behind settings st (other 0) order).0)
+      ((after_order settings st (shown 0) order).0 ≡ (after_order settings st (other 0) order).0)
       × (refusal_of settings st (shown 0) order ≡ refusal_of settings st (other 0) order)
-      × AreAlike (behind settings st (shown 0) order).0 (later shown) (later other) rest
+      × AreAlike (after_order settings st (shown 0) order).0 (later shown) (later other) rest
 
   lines-alike : (st : Store) (shown other : Reads) (m : List (List ℕ × List ℕ)) (orders : List Order) → AreAlike st shown other orders
       → answer_lines settings st shown m orders ≡ answer_lines settings st other m orders
   lines-alike st shown other m [] alike = refl
   lines-alike st shown other m (order ∷ rest) (same, refused, alike) =
-      let now : Store = (behind settings st (shown 0) order).0 in
-      let n = map_behind m order in
+      let now : Store = (after_order settings st (shown 0) order).0 in
+      let n = map_after m order in
       let further = lines-alike now (later shown) (later other) n rest alike ∙ ap (λ (s : Store). answer_lines settings s (later other) n rest) same in
       ap (λ (l : List (List ℕ)). l ++ answer_lines settings now (later shown) n rest) (own-same settings st (shown 0) (other 0) m order same)
       ∙ ap (λ (l : List (List ℕ)). own_lines settings st (other 0) m order ++ l) further
@@ -123,7 +151,7 @@ module _ (settings : Settings) where
   accepted-alike : (st : Store) (shown other : Reads) (orders : List Order) → AreAlike st shown other orders → accepted settings st shown orders ≡ accepted settings st other orders
   accepted-alike st shown other [] alike = refl
   accepted-alike st shown other (order ∷ rest) (same, refused, alike) =
-      let now : Store = (behind settings st (shown 0) order).0 in
+      let now : Store = (after_order settings st (shown 0) order).0 in
       let further = accepted-alike now (later shown) (later other) rest alike ∙ ap (λ (s : Store). accepted settings s (later other) rest) same in
       ap (λ (r : Option Fault). if is_some r then [] else order ∷ accepted settings now (later shown) rest) refused
       ∙ ap (λ (l : List Order). if is_some (refusal_of settings st (other 0) order) then [] else order ∷ l) further
@@ -131,7 +159,7 @@ module _ (settings : Settings) where
   refusal-alike : (st : Store) (shown other : Reads) (orders : List Order) → AreAlike st shown other orders → first_refusal settings st shown orders ≡ first_refusal settings st other orders
   refusal-alike st shown other [] alike = refl
   refusal-alike st shown other (order ∷ rest) (same, refused, alike) =
-      let now : Store = (behind settings st (shown 0) order).0 in
+      let now : Store = (after_order settings st (shown 0) order).0 in
       let further = refusal-alike now (later shown) (later other) rest alike ∙ ap (λ (s : Store). first_refusal settings s (later other) rest) same in
       ap (λ (r : Option Fault). option_or r (first_refusal settings now (later shown) rest)) refused
       ∙ ap (λ (r : Option Fault). option_or (refusal_of settings st (other 0) order) r) further
@@ -140,47 +168,52 @@ module _ (settings : Settings) where
   end-alike st shown other orders alike = ap (λ (r : Option Fault). stopped_by (option_map (λ fault. endings.Fault fault) r)) (refusal-alike st shown other orders alike)
 
   -- so it is where none is a clean
-  alike-without_cleans : (st : Store) (shown other : Reads) (orders : List Order) → AllByRecursion IsNoClean orders → AreAlike st shown other orders
-  alike-without_cleans st shown other [] only = tt
-  alike-without_cleans st shown other (order ∷ rest) only =
-      let (same, refused) = behind-same settings st (shown 0) (other 0) order only.0 in
-      (same, refused, alike-without_cleans (behind settings st (shown 0) order).0 (later shown) (later other) rest only.1)
+  alike-without_cleans : (st : Store) (shown other : Reads) → AreTidiedAlike shown other → (orders : List Order) → AllByRecursion IsNoClean orders → AreAlike st shown other orders
+  alike-without_cleans st shown other alike [] only = tt
+  alike-without_cleans st shown other alike (order ∷ rest) only =
+      let (same, refused) = after_order-same settings st (shown 0) (other 0) (alike 0) order only.0 in
+      (same, refused, alike-without_cleans (after_order settings st (shown 0) order).0 (later shown) (later other) (λ i. alike (suc i)) rest only.1)
 
   -- and where the disk shows what was left
-  alike-left : (st : Store) (file : List ℕ) (shown other : Reads) (orders : List Order) → AreLeft settings st file shown orders → AreLeft settings st file other orders
-      → AreAlike st shown other orders
-  alike-left st file shown other [] p q = tt
-  alike-left st file shown other (order ∷ rest) (first, p) (first_too, q) =
-      let bytes : shown 0 ≡ other 0 = first ∙ sym first_too in
-      let same = ap (λ (f : List ℕ). behind settings st f order) bytes in
-      let at : Stored = behind settings st (shown 0) order in
+  seen_is : (a b : Seen) → a.bytes ≡ b.bytes → a.tidying ≡ b.tidying → a ≡ b
+  seen_is a b bytes alike =
+      ap (λ (x : List ℕ). (let s : Seen = record { bytes = x; tidying = a.tidying } in s)) bytes
+      ∙ ap (λ (t : Batches). (let s : Seen = record { bytes = b.bytes; tidying = t } in s)) alike
+
+  alike-left : (st : Store) (file : List ℕ) (shown other : Reads) → AreTidiedAlike shown other → (orders : List Order) → AreLeft settings st file shown orders
+      → AreLeft settings st file other orders → AreAlike st shown other orders
+  alike-left st file shown other alike [] p q = tt
+  alike-left st file shown other alike (order ∷ rest) (first, p) (first_too, q) =
+      let seen : shown 0 ≡ other 0 = seen_is (shown 0) (other 0) (first ∙ sym first_too) (alike 0) in
+      let same = ap (λ (f : Seen). after_order settings st f order) seen in
+      let at : Stored = after_order settings st (shown 0) order in
       let here = subst (λ (a : Stored). AreLeft settings a.0 a.1 (later other) rest) (sym same) q in (
         ap (λ (a : Stored). a.0) same,
-        ap (λ (f : List ℕ). refusal_of settings st f order) bytes,
-        alike-left at.0 at.1 (later shown) (later other) rest p here,
+        ap (λ (f : Seen). refusal_of settings st f order) seen,
+        alike-left at.0 at.1 (later shown) (later other) (λ i. alike (suc i)) rest p here,
       )
 
-pub lines-same : (settings : Settings) (st : Store) (shown other : Reads) (m : List (List ℕ × List ℕ)) (orders : List Order) → All IsNoClean orders
+pub lines-same : (settings : Settings) (st : Store) (shown other : Reads) → AreTidiedAlike shown other → (m : List (List ℕ × List ℕ)) (orders : List Order) → All IsNoClean orders
     → answer_lines settings st shown m orders ≡ answer_lines settings st other m orders
-lines-same settings st shown other m orders only =
-    lines-alike settings st shown other m orders (alike-without_cleans settings st shown other orders (recursion_from_All IsNoClean orders only))
+lines-same settings st shown other alike m orders only =
+    lines-alike settings st shown other m orders (alike-without_cleans settings st shown other alike orders (recursion_from_All IsNoClean orders only))
 
-pub accepted-same : (settings : Settings) (st : Store) (shown other : Reads) (orders : List Order) → All IsNoClean orders → accepted settings st shown orders ≡ accepted settings st other orders
-accepted-same settings st shown other orders only =
-    accepted-alike settings st shown other orders (alike-without_cleans settings st shown other orders (recursion_from_All IsNoClean orders only))
+pub accepted-same : (settings : Settings) (st : Store) (shown other : Reads) → AreTidiedAlike shown other → (orders : List Order) → All IsNoClean orders → accepted settings st shown orders ≡ accepted settings st other orders
+accepted-same settings st shown other alike orders only =
+    accepted-alike settings st shown other orders (alike-without_cleans settings st shown other alike orders (recursion_from_All IsNoClean orders only))
 
-pub end-same : (settings : Settings) (st : Store) (shown other : Reads) (orders : List Order) → All IsNoClean orders → orders_end settings st shown orders ≡ orders_end settings st other orders
-end-same settings st shown other orders only =
-    end-alike settings st shown other orders (alike-without_cleans settings st shown other orders (recursion_from_All IsNoClean orders only))
+pub end-same : (settings : Settings) (st : Store) (shown other : Reads) → AreTidiedAlike shown other → (orders : List Order) → All IsNoClean orders → orders_end settings st shown orders ≡ orders_end settings st other orders
+end-same settings st shown other alike orders only =
+    end-alike settings st shown other orders (alike-without_cleans settings st shown other alike orders (recursion_from_All IsNoClean orders only))
 
-pub lines-left : (settings : Settings) (st : Store) (file : List ℕ) (shown other : Reads) (m : List (List ℕ × List ℕ)) (orders : List Order)
+pub lines-left : (settings : Settings) (st : Store) (file : List ℕ) (shown other : Reads) → AreTidiedAlike shown other → (m : List (List ℕ × List ℕ)) (orders : List Order)
     → AreLeft settings st file shown orders → AreLeft settings st file other orders → answer_lines settings st shown m orders ≡ answer_lines settings st other m orders
-lines-left settings st file shown other m orders p q = lines-alike settings st shown other m orders (alike-left settings st file shown other orders p q)
+lines-left settings st file shown other alike m orders p q = lines-alike settings st shown other m orders (alike-left settings st file shown other alike orders p q)
 
-pub accepted-left : (settings : Settings) (st : Store) (file : List ℕ) (shown other : Reads) (orders : List Order)
+pub accepted-left : (settings : Settings) (st : Store) (file : List ℕ) (shown other : Reads) → AreTidiedAlike shown other → (orders : List Order)
     → AreLeft settings st file shown orders → AreLeft settings st file other orders → accepted settings st shown orders ≡ accepted settings st other orders
-accepted-left settings st file shown other orders p q = accepted-alike settings st shown other orders (alike-left settings st file shown other orders p q)
+accepted-left settings st file shown other alike orders p q = accepted-alike settings st shown other orders (alike-left settings st file shown other alike orders p q)
 
-pub end-left : (settings : Settings) (st : Store) (file : List ℕ) (shown other : Reads) (orders : List Order)
+pub end-left : (settings : Settings) (st : Store) (file : List ℕ) (shown other : Reads) → AreTidiedAlike shown other → (orders : List Order)
     → AreLeft settings st file shown orders → AreLeft settings st file other orders → orders_end settings st shown orders ≡ orders_end settings st other orders
-end-left settings st file shown other orders p q = end-alike settings st shown other orders (alike-left settings st file shown other orders p q)
+end-left settings st file shown other alike orders p q = end-alike settings st shown other orders (alike-left settings st file shown other alike orders p q)

@@ -1,6 +1,6 @@
 -- Lemmas on how a session ends.
 use Rattle.std.proofs.Common.{Bool, true, false, ◌≡◌, ◌≢◌, ◌↔◌, ◌⊎◌, inl, inr, ℕ, List, [], ◌∷◌, Option, Some, None, IfSome, Result, Ok, Err, refl, sym, ap, ◌∙◌, subst, arith}
-use Rattle.std.specs.Prelude.{IsTrue, IsOk, replicate, String}
+use Rattle.std.specs.Prelude.{IsTrue, IsOk, OnOk, replicate, String}
 use Rattle.std.specs.declared.alloc.Global.{Global}
 use Rattle.std.specs.Bool.{MatchBool}
 use Rattle.std.specs.Option.{option_map, option_or}
@@ -11,7 +11,9 @@ use Rattle.crew.specs.Crew.{is_crew}
 use Rattle.crew.specs.declared.limits.Crew.{Crew}
 use Rattle.keys.specs.Lists.{flat}
 use Rattle.keys.specs.declared.fault.Fault.{Fault}
-use Rattle.keys.specs.declared.fault.Fault.TheVariants.{BadCrew, NoMemory}
+use Rattle.keys.specs.declared.fault.Fault.TheVariants.{BadCrew, BadSettings, NoMemory}
+use Rattle.keys.specs.Limits.{first_bad_field}
+use Rattle.keys.specs.declared.settings.Field.{Field}
 use Rattle.keys.specs.declared.settings.Settings.{Settings}
 use Rattle.mapping.specs.Levels.{contents}
 use Rattle.mapping.specs.Tree.{Store}
@@ -25,12 +27,13 @@ use Rattle.bwsh.specs.declared.session.Ending.{Ending}
 use Rattle.bwsh.specs.declared.session.Ending.TheVariants.{Words, Bad, Device}
 use Rattle.bwsh.specs.declared.session.Ending.TheVariants as endings
 use Rattle.bwsh.specs.BatchFile.{text_says, first_bad, orders_of, with_numbers}
-use Rattle.bwsh.specs.Session.{status_of_end, Reads, later, Start, IsStart, IsStartBy, IsShown, AreLeft, AreLeftFrom, new_start, found_start, refusal_of, behind, map_behind, own_lines, answer_lines, printed, printed_by, accepted, orders_end, first_refusal, stopped_by, end_after, lines_after, run_by, run_from, run_of, bad_ending, end_streamed, session_orders, session_end, session_lines, version_text, IsReadEnding, IsUnopened, IsHonestStore, Opens, IsForWords, BeginsWith, Prints, PrintsOneText, Runs, RunsOn, RunsFrom, stream_end, stream_lines, stream_orders, Answers, IsAnswered, Streams, EndsBy}
-use Rattle.bwsh.specs.Options.{Told, AsksFor, AsksForText, AsksToExplain, AsksToStream, AreRefused, is_refusal, IsRightKind, told_of}
+use Rattle.bwsh.specs.Session.{status_of_end, Reads, later, Start, IsStart, IsStartBy, IsShown, IsUncopied, IsEndAfter, map_left, map_left_from, start_for_copy, start_unless_bad, AreLeft, AreLeftFrom, AreUntidied, untidied, new_start, found_start, refusal_of, after_order, map_after, own_lines, answer_lines, printed, printed_by, accepted, orders_end, first_refusal, stopped_by, end_after, lines_after, run_by, run_from, run_of, bad_ending, end_streamed, session_orders, session_end, session_lines, version_text, IsReadEnding, IsUnopened, IsHonestStore, Opens, IsForWords, BeginsWith, Prints, PrintsOneText, Runs, RunsOn, RunsFrom, stream_end, stream_lines, stream_orders, Answers, IsAnswered, Streams, EndsBy}
+use Rattle.bwsh.specs.declared.options.asked.Ways.{Ways}
+use Rattle.bwsh.specs.Options.{Request, AsksFor, AsksForText, AsksToExplain, AsksToStream, AreRefused, copy_of, is_refusal, IsRightKind, request_of}
 use Rattle.bwsh.specs.declared.options.asked.Options.{Options}
 use Rattle.clap.specs.declared.error.kind.ErrorKind.{ErrorKind}
 use Rattle.clap.specs.declared.error.kind.ErrorKind.TheVariants.{DisplayHelp, OutOfMemory}
-use Rattle.bwsh.proofs.Prints.{front-more, front-trans, front-flat, Prints-asked, Prints-front, Prints-flushed, IfSome-known}
+use Rattle.bwsh.proofs.Prints.{front-more, front-trans, front-flat, IsLeft, Prints-flushed, PrintsCopied-asked, PrintsCopied-before, PrintsCopied-front, PrintsCopied-left, PrintsCopied-other, PrintsCopied-plain, IfSome-known}
 use Rattle.bwsh.proofs.FirstLemmas.{leave}
 use Rattle.clap.specs.declared.error.Error.{Error}
 
@@ -41,10 +44,10 @@ pub IsReadEnding-of_fault : (bad : Option (ℕ × Why)) (early : Ending) → (ea
 IsReadEnding-of_fault bad early (inl e) = rw e refl
 IsReadEnding-of_fault bad early (inr e) = rw e tt
 
--- some reads show what was left from this start
-pub leave_from : (cleans : Bool) (start : Start) (orders : List Order) → (shown : Reads) × AreLeftFrom start shown (run_from cleans start shown orders)
+-- some reads show what was left from this start, and nothing is tidied
+pub leave_from : (cleans : Bool) (start : Start) (orders : List Order) → (shown : Reads) × AreUntidied shown × AreLeftFrom start shown (run_from cleans start shown orders)
 leave_from cleans (Ok p) orders = leave cleans p.0 orders p.1.0 p.1.1
-leave_from cleans (Err fault) orders = (λ i. [], tt)
+leave_from cleans (Err fault) orders = (λ i. untidied [], λ i. refl, tt)
 
 -- nothing is printed, for want of memory or since a device failed
 pub Prints-cut : (old : Option (List ℕ)) (lines : List (List ℕ)) (right : Result (Unit {0}) Ending) (early : Ending) → (early ≡ endings.Fault NoMemory) ⊎ (early ≡ Device)
@@ -68,41 +71,78 @@ module _ (old : Option (List ℕ)) (start : Start) (shown : Reads) (orders : Lis
   Prints-unopened early (inr (inr e)) =
       inr (inr (ap (λ (x : Ending). Err x) e, ([], (flat (lines_after None start shown orders), refl), Appends-nil old)))
 
-module _ (old : Option (List ℕ)) (cleans : Bool) (start : Start) (orders : List Order) {D : Type 0} (view : D → View) (opened : Result (State D) Ending) (opens : Opens view start opened) where
-  -- there is no store
-  pub RunsFrom-unopened : (early : Ending) → opened ≡ Err early → RunsFrom cleans (IsHonestStore view opened) start orders old old (Err early)
-  unfolding RunsFrom
-  RunsFrom-unopened early e =
-      let (shown, are) = leave_from cleans start orders in
-      (shown, λ h. are, Prints-unopened old start shown (run_from cleans start shown orders) early (subst (Opens view start) e opens))
+-- what holds where all is done does where what was written is handed on
+pub OnOk-flushed : (done flushed : Result (Unit {0}) Ending) (P : Type 0) → (flushed ≡ done) ⊎ (flushed ≡ Err Device) → OnOk done P → OnOk flushed P
+OnOk-flushed done flushed P (inl e) p = subst (λ (r : Result (Unit {0}) Ending). OnOk r P) (sym e) p
+OnOk-flushed done flushed P (inr e) p = subst (λ (r : Result (Unit {0}) Ending). OnOk r P) (sym e) tt
 
-  -- there is one: the orders are run on it
-  pub RunsFrom-opened : (x : State D) (mid new : Option (List ℕ)) (done end : Result (Unit {0}) Ending) → opened ≡ Ok x
-      → RunsOn cleans (view x.disk).is_honest x.settings x.store (view x.disk).seen orders old mid done → Keeps mid new → (end ≡ done) ⊎ (end ≡ Err Device)
-      → RunsFrom cleans (IsHonestStore view opened) start orders old new end
-  unfolding RunsFrom Runs
-  RunsFrom-opened x mid new done end e (shown, are, runs) kept ended =
-      let (file, start_is, seen_is) = subst (Opens view start) e opens in
-      let is_left : IsHonestStore view opened → AreLeft x.settings x.store file shown (run_of cleans x.settings x.store shown orders) = λ honest.
-      let h : IsTrue (view x.disk).is_honest = subst (IsHonestStore view) e honest in
-      subst (λ (f : List ℕ). AreLeft x.settings x.store f shown (run_of cleans x.settings x.store shown orders)) (seen_is h) (are h) in
-      rw start_is (
+module _ (old : Option (List ℕ)) (ways : Ways) (start : Start) (orders : List Order) {D : Type 0} (view : D → View) (opened : Result (State D) Ending) (opens : Opens view start opened) where
+  -- there is no store
+  pub RunsFrom-unopened : (early : Ending) → opened ≡ Err early → (copy : Option Settings) → RunsFrom ways copy (IsHonestStore view opened) start orders old old (Err early)
+  unfolding RunsFrom
+  RunsFrom-unopened early e copy =
+      let (shown, none, are) = leave_from ways.clean_when_full start orders in
+      let ran : List Order = run_from ways.clean_when_full start shown orders in (
         shown,
-        is_left,
-        Prints-flushed old mid new (lines_after None (Ok (x.settings, (x.store, file))) shown (run_of cleans x.settings x.store shown orders))
-            (end_after None (Ok (x.settings, (x.store, file))) shown (run_of cleans x.settings x.store shown orders)) done end runs kept ended,
+        (λ off. none, λ h. are),
+        PrintsCopied-before copy (map_left_from start orders) old old (lines_after None start shown ran) (end_after None start shown ran) (Err early)
+            (Prints-unopened old start shown ran early (subst (Opens view start) e opens)),
       )
 
--- what the words give has some right start
-start_by_rest : (settings : Settings) (disk : Option (List ℕ)) (create : Bool) → (start : Start) × IsStartBy settings disk create start
-start_by_rest settings None create = (new_start settings (replicate (disk_size settings) 0), refl)
-start_by_rest settings (Some path) true = (new_start settings [], ([], refl))
-start_by_rest settings (Some path) false = (found_start [], ([], refl))
+  -- there is one: the orders are run on it, and then there is the copy of what they leave, or there is none
+  pub RunsFrom-opened : (x : State D) (mid new : Option (List ℕ)) (done : Result (Unit {0}) Ending) (after : Store) (flushed : Result (Unit {0}) Ending) → opened ≡ Ok x
+      → RunsOn ways (view x.disk).is_honest x.settings x.store (view x.disk).seen orders old mid done → OnOk done (contents after.tree ≡ map_left (contents x.store.tree) orders)
+      → Keeps mid new → (flushed ≡ done) ⊎ (flushed ≡ Err Device)
+      → (copy : Option Settings) (end : Result (Unit {0}) Ending) → IsLeft copy (contents after.tree) flushed end → RunsFrom ways copy (IsHonestStore view opened) start orders old new end
+  unfolding RunsFrom Runs
+  RunsFrom-opened x mid new done after flushed e (shown, are, runs) holds kept ended copy end left =
+      let (file, start_is, seen_is) = subst (Opens view start) e opens in
+      let is_left : IsHonestStore view opened → AreLeft x.settings x.store file shown (run_of ways.clean_when_full x.settings x.store shown orders) = λ honest.
+      let h : IsTrue (view x.disk).is_honest = subst (IsHonestStore view) e honest in
+      subst (λ (f : List ℕ). AreLeft x.settings x.store f shown (run_of ways.clean_when_full x.settings x.store shown orders)) (seen_is h) (are.1 h) in
+      rw start_is (
+        shown,
+        (are.0, is_left),
+        PrintsCopied-left copy (map_left (contents x.store.tree) orders) (contents after.tree) old new
+            (lines_after None (Ok (x.settings, (x.store, file))) shown (run_of ways.clean_when_full x.settings x.store shown orders))
+            (end_after None (Ok (x.settings, (x.store, file))) shown (run_of ways.clean_when_full x.settings x.store shown orders)) flushed end
+            (Prints-flushed old mid new (lines_after None (Ok (x.settings, (x.store, file))) shown (run_of ways.clean_when_full x.settings x.store shown orders))
+            (end_after None (Ok (x.settings, (x.store, file))) shown (run_of ways.clean_when_full x.settings x.store shown orders)) done flushed runs kept ended)
+            (OnOk-flushed done flushed _ ended holds) left,
+      )
 
-pub start_of : (in_range : Bool) (settings : Settings) (disk : Option (List ℕ)) (create : Bool)
-    → (start : Start) × MatchBool in_range (IsStartBy settings disk create start) (start ≡ Err BadCrew)
-start_of true settings disk create = start_by_rest settings disk create
-start_of false settings disk create = (Err BadCrew, refl)
+-- ---- right starts
+
+-- what there is to be copied under good settings starts as without that
+pub start_copied : (copy : Option Settings) (start : Start) → IfSome copy (λ s. first_bad_field s ≡ None) → start_for_copy copy start ≡ start
+start_copied None start good = refl
+start_copied (Some settings) start good = ap (λ (f : Option Field). start_unless_bad f start) good
+
+-- the settings of a copy are those of the command line
+pub copy_good : (request : Request) → first_bad_field request.settings ≡ None → IfSome (copy_of request) (λ s. first_bad_field s ≡ None)
+copy_good request good = by request.copy_to
+  where
+    by : (path : Option (List ℕ)) → IfSome (option_map (λ (p : List ℕ). request.settings) path) (λ s. first_bad_field s ≡ None)
+    by None = tt
+    by (Some path) = good
+
+-- with settings that are refused there is no store where it is to be copied
+start_uncopied : (settings : Settings) (disk : Option (List ℕ)) (create : Bool) (field : Field) → first_bad_field settings ≡ Some field
+    → IsStartBy settings disk create (Some settings) (Err (BadSettings field))
+start_uncopied settings None create field bad = rw bad refl
+start_uncopied settings (Some path) true field bad = ([], rw bad refl)
+start_uncopied settings (Some path) false field bad = ([], rw bad refl)
+
+-- what the words give has some right start
+start_by_rest : (settings : Settings) (disk : Option (List ℕ)) (create : Bool) (copy : Option Settings) → (start : Start) × IsStartBy settings disk create copy start
+start_by_rest settings None create copy = (new_start settings (replicate (disk_size settings) 0), refl)
+start_by_rest settings (Some path) true copy = (new_start settings [], ([], refl))
+start_by_rest settings (Some path) false copy = (start_for_copy copy (found_start []), ([], refl))
+
+pub start_of : (in_range : Bool) (settings : Settings) (disk : Option (List ℕ)) (create : Bool) (copy : Option Settings)
+    → (start : Start) × MatchBool in_range (IsStartBy settings disk create copy start) (start ≡ Err BadCrew)
+start_of true settings disk create copy = start_by_rest settings disk create copy
+start_of false settings disk create copy = (Err BadCrew, refl)
 
 at_true : (b : Bool) (P Q : Type 0) → IsTrue b → P → MatchBool b P Q
 at_true true P Q is p = p
@@ -113,9 +153,9 @@ at_false true P Q is q = cc
 at_false false P Q is q = q
 
 -- none where the crew is out of range
-pub start_without_crew : (told : Told) → is_crew told.crew ≡ false → IsStart told (Err BadCrew)
-start_without_crew told out_of_range =
-    let start : Start = Err BadCrew in at_false (is_crew told.crew) (IsStartBy told.settings told.disk told.create start) (start ≡ Err BadCrew) out_of_range refl
+pub start_without_crew : (request : Request) → is_crew request.crew ≡ false → IsStart request (Err BadCrew)
+start_without_crew request out_of_range =
+    let start : Start = Err BadCrew in at_false (is_crew request.crew) (IsStartBy request.settings request.disk request.create (copy_of request) start) (start ≡ Err BadCrew) out_of_range refl
 
 -- what a check of the crew gives of it
 pub in_range : (b : Bool) → MatchBool b (true ≡ true) (false ≡ true) → IsTrue b
@@ -129,65 +169,145 @@ out_of_range false p = refl
 -- what the words give for a store in memory, for one in a file that is made anew, and for one that a file holds
 module _ (o : Options) (in_range : IsTrue (is_crew o.crew)) where
   -- this is a right start by what else the words give
-  by_rest : (start : Start) → IsStartBy o.settings (told_of o).disk o.create start → IsStart (told_of o) start
-  by_rest start is = at_true (is_crew o.crew) (IsStartBy o.settings (told_of o).disk o.create start) (start ≡ Err BadCrew) in_range is
+  by_rest : (start : Start) → IsStartBy o.settings (request_of o).disk o.create (copy_of (request_of o)) start → IsStart (request_of o) start
+  by_rest start is = at_true (is_crew o.crew) (IsStartBy o.settings (request_of o).disk o.create (copy_of (request_of o)) start) (start ≡ Err BadCrew) in_range is
 
-  pub IsStart-in_memory : o.disk ≡ None → IsStart (told_of o) (new_start o.settings (replicate (disk_size o.settings) 0))
+  pub IsStart-in_memory : o.disk ≡ None → IsStart (request_of o) (new_start o.settings (replicate (disk_size o.settings) 0))
   IsStart-in_memory e = by_rest _ (rw e refl)
 
-  pub IsStart-anew : (path : String Global) → o.disk ≡ Some path → o.create ≡ true → (file : List ℕ) → IsStart (told_of o) (new_start o.settings file)
+  pub IsStart-anew : (path : String Global) → o.disk ≡ Some path → o.create ≡ true → (file : List ℕ) → IsStart (request_of o) (new_start o.settings file)
   IsStart-anew path e create file = by_rest _ (rw (e, create) (file, refl))
 
-  pub IsStart-found : (path : String Global) → o.disk ≡ Some path → o.create ≡ false → (file : List ℕ) → IsStart (told_of o) (found_start file)
-  IsStart-found path e create file = by_rest _ (rw (e, create) (file, refl))
+  pub IsStart-found : (path : String Global) → o.disk ≡ Some path → o.create ≡ false → IfSome (copy_of (request_of o)) (λ s. first_bad_field s ≡ None) → (file : List ℕ)
+      → IsStart (request_of o) (found_start file)
+  IsStart-found path e create good file = by_rest _ (rw (e, create) (file, sym (start_copied (copy_of (request_of o)) (found_start file) good)))
+
+-- the start of a session whose settings of a copy are refused; or the file of the copy is
+pub start_of_uncopied : (request : Request) → IsTrue (is_crew request.crew) → (early : Ending) → IsUncopied (copy_of request) early
+    → ((fault : Fault) × IsStart request (Err fault) × (early ≡ endings.Fault fault)) ⊎ (early ≡ Device)
+start_of_uncopied request in_range early why = by request.copy_to refl why
+  where
+    by : (path : Option (List ℕ)) → path ≡ request.copy_to → IsUncopied (option_map (λ (p : List ℕ). request.settings) path) early
+        → ((fault : Fault) × IsStart request (Err fault) × (early ≡ endings.Fault fault)) ⊎ (early ≡ Device)
+    by None is uncopied = absurd uncopied
+    by (Some path) is (inr e) = inr e
+    by (Some path) is (inl (field, bad, e)) =
+        let start : Start = Err (BadSettings field) in
+        let rest : IsStartBy request.settings request.disk request.create (copy_of request) start =
+        subst (λ (c : Option Settings). IsStartBy request.settings request.disk request.create c start) (ap (option_map (λ (p : List ℕ). request.settings)) is)
+        (start_uncopied request.settings request.disk request.create field bad) in
+        inl (BadSettings field, at_true (is_crew request.crew) (IsStartBy request.settings request.disk request.create (copy_of request) start) (start ≡ Err BadCrew) in_range rest, e)
 
 -- a store in a file isn't in memory
-pub in_file : (o : Options) (path : String Global) → o.disk ≡ Some path → (told_of o).disk ≡ None → ⊥
+pub in_file : (o : Options) (path : String Global) → o.disk ≡ Some path → (request_of o).disk ≡ None → ⊥
 in_file o path e none = let bad : Some (string_bytes path) ≡ None = sym (ap (option_map string_bytes) e) ∙ none in cc
 
-module _ (told : Told) (known old : Option (List ℕ)) (text : List ℕ) (is_known : IfSome known (λ bytes. text ≡ bytes)) where
-  pub Answers-unread : (early : Ending) → IsReadEnding (first_bad 1 (text_says text)) early → Answers told known old old (Err early)
+module _ (request : Request) (known old : Option (List ℕ)) (text : List ℕ) (is_known : IfSome known (λ bytes. text ≡ bytes)) where
+  pub Answers-unread : (early : Ending) → IsReadEnding (first_bad 1 (text_says text)) early → Answers request known old old (Err early)
   unfolding Answers
   Answers-unread early h =
-      let (start, is) = start_of (is_crew told.crew) told.settings told.disk told.create in
-      let (shown, are) = leave_from told.ways.clean_when_full start (with_numbers told.ways.stat (orders_of [] (text_says text))) in
-      (text, is_known, start, is, shown, λ memory. are, Prints-unread old start shown (session_orders told start shown text) (first_bad 1 (text_says text)) early h)
+      let (start, is) = start_of (is_crew request.crew) request.settings request.disk request.create (copy_of request) in
+      let all : List Order = with_numbers request.ways.stat (orders_of [] (text_says text)) in
+      let (shown, none, are) = leave_from request.ways.clean_when_full start all in (
+        text,
+        is_known,
+        start,
+        is,
+        shown,
+        (λ off. none, λ memory. are),
+        PrintsCopied-before (copy_of request) (map_left_from start all) old old (session_lines request start shown text) (session_end request start shown text) (Err early)
+            (Prints-unread old start shown (session_orders request start shown text) (first_bad 1 (text_says text)) early h),
+      )
 
-  -- the crew is out of range: nothing is run
-  pub Answers-no_crew : is_crew told.crew ≡ false → first_bad 1 (text_says text) ≡ None → Answers told known old old (Err (endings.Fault BadCrew))
+  -- there is no store: nothing is run
+  pub Answers-no_store : (fault : Fault) → IsStart request (Err fault) → first_bad 1 (text_says text) ≡ None → Answers request known old old (Err (endings.Fault fault))
   unfolding Answers
-  Answers-no_crew out_of_range no_bad =
-      let start : Start = Err BadCrew in
-      let is : IsStart told start = at_false (is_crew told.crew) (IsStartBy told.settings told.disk told.create start) (start ≡ Err BadCrew) out_of_range refl in
-      (text, is_known, start, is, λ i. [], λ memory. tt, rw no_bad (inl (refl, Appends-nil old)))
+  Answers-no_store fault is no_bad =
+      let start : Start = Err fault in
+      let shown : Reads = λ i. untidied [] in (
+        text,
+        is_known,
+        start,
+        is,
+        shown,
+        (λ off i. refl, λ memory. tt),
+        PrintsCopied-before (copy_of request) (map_left_from start (with_numbers request.ways.stat (orders_of [] (text_says text)))) old old (session_lines request start shown text)
+            (session_end request start shown text) (Err (endings.Fault fault)) (rw no_bad (inl (refl, Appends-nil old))),
+      )
+
+  -- the crew is out of range
+  pub Answers-no_crew : is_crew request.crew ≡ false → first_bad 1 (text_says text) ≡ None → Answers request known old old (Err (endings.Fault BadCrew))
+  Answers-no_crew out_of_range no_bad = Answers-no_store BadCrew (start_without_crew request out_of_range) no_bad
+
+  -- the settings of a copy are refused, or its file is
+  pub Answers-uncopied : IsTrue (is_crew request.crew) → first_bad 1 (text_says text) ≡ None → (early : Ending) → IsUncopied (copy_of request) early → Answers request known old old (Err early)
+  Answers-uncopied in_range no_bad early why = by (start_of_uncopied request in_range early why)
+    where
+      by : ((fault : Fault) × IsStart request (Err fault) × (early ≡ endings.Fault fault)) ⊎ (early ≡ Device) → Answers request known old old (Err early)
+      by (inl (fault, is, e)) = subst (λ (x : Ending). Answers request known old old (Err x)) (sym e) (Answers-no_store fault is no_bad)
+      by (inr e) = subst (λ (x : Ending). Answers request known old old (Err x)) (sym e) (Answers-unread Device tt)
 
   pub Answers-run : (new : Option (List ℕ)) (end : Result (Unit {0}) Ending) (ran items : List Order) → first_bad 1 (text_says text) ≡ None → ran ≡ items
-      → items ≡ with_numbers told.ways.stat (orders_of [] (text_says text)) → (start : Start) → IsStart told start → (IsHonest : Type 0) → (told.disk ≡ None → IsHonest)
-      → RunsFrom told.ways.clean_when_full IsHonest start ran old new end → Answers told known old new end
+      → items ≡ with_numbers request.ways.stat (orders_of [] (text_says text)) → (start : Start) → IsStart request start → (IsHonest : Type 0) → (request.disk ≡ None → IsHonest)
+      → (copy : Option Settings) → copy ≡ copy_of request → RunsFrom request.ways copy IsHonest start ran old new end → Answers request known old new end
   unfolding Answers RunsFrom
-  Answers-run new end ran items no_bad e_ran e_items start is IsHonest honest p =
-      let (shown, are, run) = subst (λ (os : List Order). RunsFrom told.ways.clean_when_full IsHonest start os old new end) (e_ran ∙ e_items) p in
-      (text, is_known, start, is, shown, λ memory. are (honest memory), rw no_bad run)
+  Answers-run new end ran items no_bad e_ran e_items start is IsHonest honest copy e_copy p =
+      let asked = subst (λ (c : Option Settings). RunsFrom request.ways c IsHonest start ran old new end) e_copy p in
+      let (shown, are, run) = subst (λ (os : List Order). RunsFrom request.ways (copy_of request) IsHonest start os old new end) (e_ran ∙ e_items) asked in
+      (text, is_known, start, is, shown, (are.0, λ memory. are.1 (honest memory)), rw no_bad run)
 
 -- nothing was appended first
-pub Answers-asked : (old mid new : Option (List ℕ)) → Appends old mid [] → (told : Told) (known : Option (List ℕ)) (end : Result (Unit {0}) Ending) → Answers told known mid new end
-    → Answers told known old new end
+pub Answers-asked : (old mid new : Option (List ℕ)) → Appends old mid [] → (request : Request) (known : Option (List ℕ)) (end : Result (Unit {0}) Ending) → Answers request known mid new end
+    → Answers request known old new end
 unfolding Answers
-Answers-asked old mid new asked told known end (text, is_known, start, is, shown, is_shown, p) =
-    (text, is_known, start, is, shown, is_shown, Prints-asked old mid new asked (session_lines told start shown text) (session_end told start shown text) end p)
+Answers-asked old mid new asked request known end (text, is_known, start, is, shown, is_shown, p) = (
+  text,
+  is_known,
+  start,
+  is,
+  shown,
+  is_shown,
+  PrintsCopied-asked (copy_of request) (map_left_from start (with_numbers request.ways.stat (orders_of [] (text_says text)))) old mid new asked (session_lines request start shown text)
+      (session_end request start shown text) end p,
+)
 
 -- another crew that is in range where this one is
-pub Answers-crew : (told : Told) (crew : Crew) → is_crew crew ≡ is_crew told.crew → (known old new : Option (List ℕ)) (end : Result (Unit {0}) Ending)
-    → Answers told known old new end → Answers (record told { crew = crew }) known old new end
+pub Answers-crew : (request : Request) (crew : Crew) → is_crew crew ≡ is_crew request.crew → (known old new : Option (List ℕ)) (end : Result (Unit {0}) Ending)
+    → Answers request known old new end → Answers (record request { crew = crew }) known old new end
 unfolding Answers
-Answers-crew told crew same known old new end (text, is_known, start, is, shown, is_shown, printed_so) =
-    let is_right : Bool → Type 0 = λ b. MatchBool b (IsStartBy told.settings told.disk told.create start) (start ≡ Err BadCrew) in
+Answers-crew request crew same known old new end (text, is_known, start, is, shown, is_shown, printed_so) =
+    let is_right : Bool → Type 0 = λ b. MatchBool b (IsStartBy request.settings request.disk request.create (copy_of request) start) (start ≡ Err BadCrew) in
     (text, is_known, start, subst is_right (sym same) is, shown, is_shown, printed_so)
 
+-- a start is one of a session that isn't to leave a copy, where the settings are good
+start_plain : (settings : Settings) (disk : Option (List ℕ)) (create : Bool) (copy : Option Settings) → IfSome copy (λ s. first_bad_field s ≡ None) → (start : Start)
+    → IsStartBy settings disk create copy start → IsStartBy settings disk create None start
+start_plain settings None create copy good start is = is
+start_plain settings (Some path) true copy good start is = is
+start_plain settings (Some path) false copy good start (file, is) = (file, is ∙ start_copied copy (found_start file) good)
+
+pub IsStart-plain : (request : Request) → first_bad_field request.settings ≡ None → (start : Start) → IsStart request start → IsStart (record request { copy_to = None }) start
+IsStart-plain request good start is = by (is_crew request.crew) is
+  where
+    by : (b : Bool) → MatchBool b (IsStartBy request.settings request.disk request.create (copy_of request) start) (start ≡ Err BadCrew)
+        → MatchBool b (IsStartBy request.settings request.disk request.create None start) (start ≡ Err BadCrew)
+    by true rest = start_plain request.settings request.disk request.create (copy_of request) (copy_good request good) start rest
+    by false none = none
+
+-- a session without the copy prints the same, and ends so, or all is done
+pub Answers-plain : (request : Request) → first_bad_field request.settings ≡ None → (known old new : Option (List ℕ)) (end : Result (Unit {0}) Ending) → Answers request known old new end
+    → (plain : Result (Unit {0}) Ending) × Answers (record request { copy_to = None }) known old new plain × IsEndAfter plain end
+unfolding Answers
+Answers-plain request good known old new end (text, is_known, start, is, shown, is_shown, p) =
+    let (plain, q, after) =
+    PrintsCopied-plain (copy_of request) (map_left_from start (with_numbers request.ways.stat (orders_of [] (text_says text)))) old new (session_lines request start shown text)
+    (session_end request start shown text) end p in
+    (plain, (text, is_known, start, IsStart-plain request good start is, shown, is_shown, q), after)
+
 -- no store where it is out of range
-pub IsStart-no_crew : (told : Told) → is_crew told.crew ≡ false → (start : Start) → IsStart told start → start ≡ Err BadCrew
-IsStart-no_crew told out_of_range start is =
-    let is_right : Bool → Type 0 = λ b. MatchBool b (IsStartBy told.settings told.disk told.create start) (start ≡ Err BadCrew) in
+pub IsStart-no_crew : (request : Request) → is_crew request.crew ≡ false → (start : Start) → IsStart request start → start ≡ Err BadCrew
+IsStart-no_crew request out_of_range start is =
+    let is_right : Bool → Type 0 = λ b. MatchBool b (IsStartBy request.settings request.disk request.create (copy_of request) start) (start ≡ Err BadCrew) in
     subst is_right out_of_range is
 
 -- ---- what follows from the end
@@ -196,7 +316,7 @@ module _ (settings : Settings) where
   -- the orders are all accepted where none stops them
   all_by : (st : Store) (shown : Reads) (order : Order) (rest : List Order) (r : Option Fault) → refusal_of settings st (shown 0) order ≡ r → (done : Unit {0})
       → Ok done ≡ orders_end settings st shown (order ∷ rest)
-      → (Ok done ≡ orders_end settings (behind settings st (shown 0) order).0 (later shown) rest → accepted settings (behind settings st (shown 0) order).0 (later shown) rest ≡ rest)
+      → (Ok done ≡ orders_end settings (after_order settings st (shown 0) order).0 (later shown) rest → accepted settings (after_order settings st (shown 0) order).0 (later shown) rest ≡ rest)
       → accepted settings st shown (order ∷ rest) ≡ order ∷ rest
   all_by st shown order rest None h done e further = rw h (ap (λ (l : List Order). order ∷ l) (further (rw h at e)))
   all_by st shown order rest (Some fault) h done e further =
@@ -206,24 +326,24 @@ module _ (settings : Settings) where
   accepted-all : (st : Store) (shown : Reads) (orders : List Order) (done : Unit {0}) → Ok done ≡ orders_end settings st shown orders → accepted settings st shown orders ≡ orders
   accepted-all st shown [] done e = refl
   accepted-all st shown (order ∷ rest) done e =
-      all_by st shown order rest (refusal_of settings st (shown 0) order) refl done e (accepted-all (behind settings st (shown 0) order).0 (later shown) rest done)
+      all_by st shown order rest (refusal_of settings st (shown 0) order) refl done e (accepted-all (after_order settings st (shown 0) order).0 (later shown) rest done)
 
   -- what is accepted is answered first
   front_by : (m : List (List ℕ × List ℕ)) (st : Store) (shown : Reads) (order : Order) (rest : List Order) (r : Option Fault) → refusal_of settings st (shown 0) order ≡ r
-      → (let now : Store = (behind settings st (shown 0) order).0 in BeginsWith (answer_lines settings now (later shown) (map_behind m order) rest)
-      (answer_lines settings now (later shown) (map_behind m order) (accepted settings now (later shown) rest)))
+      → (let now : Store = (after_order settings st (shown 0) order).0 in BeginsWith (answer_lines settings now (later shown) (map_after m order) rest)
+      (answer_lines settings now (later shown) (map_after m order) (accepted settings now (later shown) rest)))
       → BeginsWith (answer_lines settings st shown m (order ∷ rest)) (answer_lines settings st shown m (accepted settings st shown (order ∷ rest)))
   front_by m st shown order rest None h begins =
-      let now : Store = (behind settings st (shown 0) order).0 in
-      rw h (front-more (own_lines settings st (shown 0) m order) (answer_lines settings now (later shown) (map_behind m order) rest)
-      (answer_lines settings now (later shown) (map_behind m order) (accepted settings now (later shown) rest)) begins)
+      let now : Store = (after_order settings st (shown 0) order).0 in
+      rw h (front-more (own_lines settings st (shown 0) m order) (answer_lines settings now (later shown) (map_after m order) rest)
+      (answer_lines settings now (later shown) (map_after m order) (accepted settings now (later shown) rest)) begins)
   front_by m st shown order rest (Some fault) h begins = rw h (answer_lines settings st shown m (order ∷ rest), refl)
 
   accepted-front : (m : List (List ℕ × List ℕ)) (st : Store) (shown : Reads) (orders : List Order)
       → BeginsWith (answer_lines settings st shown m orders) (answer_lines settings st shown m (accepted settings st shown orders))
   accepted-front m st shown [] = ([], refl)
   accepted-front m st shown (order ∷ rest) =
-      front_by m st shown order rest (refusal_of settings st (shown 0) order) refl (accepted-front (map_behind m order) (behind settings st (shown 0) order).0 (later shown) rest)
+      front_by m st shown order rest (refusal_of settings st (shown 0) order) refl (accepted-front (map_after m order) (after_order settings st (shown 0) order).0 (later shown) rest)
 
 -- the right end is a bad line only where there is one, and is never for the words
 bad_stop : (r : Option Fault) (line : ℕ) (why : Why) → Err (Bad line why) ≡ stopped_by (option_map (λ fault. endings.Fault fault) r) → ⊥
@@ -307,155 +427,159 @@ IfSome-said (Some text) said P e p = subst P e p
 -- ---- what follows of a session whose words name a store
 
 -- all that the text orders is printed, from a right start that has a store
-abbrev DoneBy : Bool → Told → Option (List ℕ) → Option (List ℕ) → List ℕ → Type 0
-DoneBy b told old new text =
-    (first_bad 1 (text_says text) ≡ None) × ((start : Start) × IsStart told start × IsOk start × (shown : Reads) × IsShown told start shown (run_by b told start shown text)
-    × Appends old new (printed_by start shown (run_by b told start shown text)))
+abbrev DoneBy : Bool → Request → Option (List ℕ) → Option (List ℕ) → List ℕ → Type 0
+DoneBy b request old new text =
+    (first_bad 1 (text_says text) ≡ None) × ((start : Start) × IsStart request start × IsOk start × (shown : Reads) × IsShown request start shown (run_by b request start shown text)
+    × Appends old new (printed_by start shown (run_by b request start shown text)))
 
-abbrev IsDoneOn : Told → Option (List ℕ) → Option (List ℕ) → List ℕ → Type 0
-IsDoneOn told old new text = DoneBy told.ways.stream told old new text
+abbrev IsDoneOn : Request → Option (List ℕ) → Option (List ℕ) → List ℕ → Type 0
+IsDoneOn request old new text = DoneBy request.ways.stream request old new text
 
 -- a beginning of it is
-abbrev BegunBy : Bool → Told → Option (List ℕ) → Option (List ℕ) → List ℕ → Type 0
-BegunBy b told old new text =
-    (start : Start) × IsStart told start × (shown : Reads) × IsShown told start shown (run_by b told start shown text)
-    × ((front : List ℕ) × BeginsWith (printed_by start shown (run_by b told start shown text)) front × Appends old new front)
+abbrev BegunBy : Bool → Request → Option (List ℕ) → Option (List ℕ) → List ℕ → Type 0
+BegunBy b request old new text =
+    (start : Start) × IsStart request start × (shown : Reads) × IsShown request start shown (run_by b request start shown text)
+    × ((front : List ℕ) × BeginsWith (printed_by start shown (run_by b request start shown text)) front × Appends old new front)
 
-abbrev HasBegunOn : Told → Option (List ℕ) → Option (List ℕ) → List ℕ → Type 0
-HasBegunOn told old new text = BegunBy told.ways.stream told old new text
+abbrev HasBegunOn : Request → Option (List ℕ) → Option (List ℕ) → List ℕ → Type 0
+HasBegunOn request old new text = BegunBy request.ways.stream request old new text
 
-module _ (told : Told) (known old new : Option (List ℕ)) where
-  text_done : (done : Unit {0}) → Answers told known old new (Ok done) → IfSome known (DoneBy false told old new)
+module _ (request : Request) (known old new : Option (List ℕ)) where
+  text_done : (done : Unit {0}) → Answers request known old new (Ok done) → IfSome known (DoneBy false request old new)
   unfolding Answers
   text_done done (text, is_known, start, is, shown, is_shown, p) =
-      IfSome-known known text (DoneBy false told old new) is_known (by p) where
-        by : Prints old new (session_lines told start shown text) (session_end told start shown text) (Ok done) → DoneBy false told old new text
+      IfSome-known known text (DoneBy false request old new) is_known (by (PrintsCopied-other _ _ old new _ _ (Ok done) (λ fault e. absurd (cc)) p)) where
+        by : Prints old new (session_lines request start shown text) (session_end request start shown text) (Ok done) → DoneBy false request old new text
         by (inl (e, a)) =
-            let (none, opened, lines) = done_right (session_orders told start shown text) shown (first_bad 1 (text_says text)) start done e in
+            let (none, opened, lines) = done_right (session_orders request start shown text) shown (first_bad 1 (text_says text)) start done e in
             (none, (start, is, opened, shown, is_shown, subst (λ (l : List ℕ). Appends old new l) lines a))
         by (inr (inl (e, q))) = absurd (cc)
         by (inr (inr (e, q))) = absurd (cc)
 
-  text_bad : (line : ℕ) (why : Why) → Answers told known old new (Err (Bad line why)) → Appends old new [] × IfSome known (λ text. first_bad 1 (text_says text) ≢ None)
+  text_bad : (line : ℕ) (why : Why) → Answers request known old new (Err (Bad line why)) → Appends old new [] × IfSome known (λ text. first_bad 1 (text_says text) ≢ None)
   unfolding Answers
-  text_bad line why (text, is_known, start, is, shown, is_shown, p) = by p where
-    by : Prints old new (session_lines told start shown text) (session_end told start shown text) (Err (Bad line why)) → Appends old new [] × IfSome known (λ t. first_bad 1 (text_says t) ≢ None)
+  text_bad line why (text, is_known, start, is, shown, is_shown, p) = by (PrintsCopied-other _ _ old new _ _ (Err (Bad line why)) (λ fault e. absurd (cc)) p) where
+    by : Prints old new (session_lines request start shown text) (session_end request start shown text) (Err (Bad line why)) → Appends old new [] × IfSome known (λ t. first_bad 1 (text_says t) ≢ None)
     by (inl (e, a)) =
-        let (some, lines) = bad_right (session_orders told start shown text) shown (first_bad 1 (text_says text)) start line why e in
+        let (some, lines) = bad_right (session_orders request start shown text) shown (first_bad 1 (text_says text)) start line why e in
         (subst (λ (l : List (List ℕ)). Appends old new (flat l)) lines a, IfSome-known known text (λ (t : List ℕ). first_bad 1 (text_says t) ≢ None) is_known some)
     by (inr (inl (e, q))) = absurd (cc)
     by (inr (inr (e, q))) = absurd (cc)
 
-  text_words : (error : Error) → Answers told known old new (Err (Words error)) → ⊥
+  text_words : (error : Error) → Answers request known old new (Err (Words error)) → ⊥
   unfolding Answers
-  text_words error (text, is_known, start, is, shown, is_shown, inl (e, a)) = words_right (session_orders told start shown text) shown (first_bad 1 (text_says text)) start error e
-  text_words error (text, is_known, start, is, shown, is_shown, inr (inl (e, q))) = cc
-  text_words error (text, is_known, start, is, shown, is_shown, inr (inr (e, q))) = cc
+  text_words error (text, is_known, start, is, shown, is_shown, p) = by (PrintsCopied-other _ _ old new _ _ (Err (Words error)) (λ fault e. absurd (cc)) p) where
+    by : Prints old new (session_lines request start shown text) (session_end request start shown text) (Err (Words error)) → ⊥
+    by (inl (e, a)) = words_right (session_orders request start shown text) shown (first_bad 1 (text_says text)) start error e
+    by (inr (inl (e, q))) = cc
+    by (inr (inr (e, q))) = cc
 
-  text_front : (end : Result (Unit {0}) Ending) → Answers told known old new end → IfSome known (BegunBy false told old new)
+  text_front : (end : Result (Unit {0}) Ending) → Answers request known old new end → IfSome known (BegunBy false request old new)
   unfolding Answers
   text_front end (text, is_known, start, is, shown, is_shown, p) =
-      let (front, begins, a) = Prints-front old new (session_lines told start shown text) (session_end told start shown text) end p in
-      let whole = front-trans (printed_by start shown (session_orders told start shown text)) (flat (session_lines told start shown text)) front (front_right (session_orders told start shown text) shown (first_bad 1 (text_says text)) start) begins in
-      IfSome-known known text (BegunBy false told old new) is_known (start, is, shown, is_shown, (front, whole, a))
+      let (front, begins, a) = PrintsCopied-front (copy_of request) _ old new (session_lines request start shown text) (session_end request start shown text) end p in
+      let whole = front-trans (printed_by start shown (session_orders request start shown text)) (flat (session_lines request start shown text)) front (front_right (session_orders request start shown text) shown (first_bad 1 (text_says text)) start) begins in
+      IfSome-known known text (BegunBy false request old new) is_known (start, is, shown, is_shown, (front, whole, a))
 
   -- the same of a stream, for what its lines say
   abbrev DoneSaid : List Says → Type 0
   DoneSaid said =
-      (first_bad 1 said ≡ None) × ((start : Start) × IsStart told start × IsOk start × (shown : Reads) × IsShown told start shown (stream_orders told start shown said)
-      × Appends old new (printed_by start shown (stream_orders told start shown said)))
+      (first_bad 1 said ≡ None) × ((start : Start) × IsStart request start × IsOk start × (shown : Reads) × IsShown request start shown (stream_orders request start shown said)
+      × Appends old new (printed_by start shown (stream_orders request start shown said)))
 
   abbrev BegunSaid : List Says → Type 0
   BegunSaid said =
-      (start : Start) × IsStart told start × (shown : Reads) × IsShown told start shown (stream_orders told start shown said)
-      × ((front : List ℕ) × BeginsWith (printed_by start shown (stream_orders told start shown said)) front × Appends old new front)
+      (start : Start) × IsStart request start × (shown : Reads) × IsShown request start shown (stream_orders request start shown said)
+      × ((front : List ℕ) × BeginsWith (printed_by start shown (stream_orders request start shown said)) front × Appends old new front)
 
-  stream_done : (done : Unit {0}) → Streams told known old new (Ok done) → IfSome known (DoneBy true told old new)
+  stream_done : (done : Unit {0}) → Streams request known old new (Ok done) → IfSome known (DoneBy true request old new)
   unfolding Streams
-  stream_done done (said, is_known, start, is, shown, is_shown, p) = IfSome-said known said DoneSaid is_known (by p) where
-    by : Prints old new (stream_lines told start shown said) (stream_end told start shown said) (Ok done) → DoneSaid said
+  stream_done done (said, is_known, start, is, shown, is_shown, p) = IfSome-said known said DoneSaid is_known (by (PrintsCopied-other _ _ old new _ _ (Ok done) (λ fault e. absurd (cc)) p)) where
+    by : Prints old new (stream_lines request start shown said) (stream_end request start shown said) (Ok done) → DoneSaid said
     by (inl (e, a)) =
-        let (none, opened, lines) = streamed_done (stream_orders told start shown said) shown (first_bad 1 said) start done e in
+        let (none, opened, lines) = streamed_done (stream_orders request start shown said) shown (first_bad 1 said) start done e in
         (none, (start, is, opened, shown, is_shown, subst (λ (l : List ℕ). Appends old new l) lines a))
     by (inr (inl (e, q))) = absurd (cc)
     by (inr (inr (e, q))) = absurd (cc)
 
-  stream_bad : (line : ℕ) (why : Why) → Streams told known old new (Err (Bad line why)) → IfSome known (λ text. first_bad 1 (text_says text) ≢ None)
+  stream_bad : (line : ℕ) (why : Why) → Streams request known old new (Err (Bad line why)) → IfSome known (λ text. first_bad 1 (text_says text) ≢ None)
   unfolding Streams
-  stream_bad line why (said, is_known, start, is, shown, is_shown, p) = IfSome-said known said (λ (ss : List Says). first_bad 1 ss ≢ None) is_known (by p) where
-    by : Prints old new (stream_lines told start shown said) (stream_end told start shown said) (Err (Bad line why)) → first_bad 1 said ≢ None
-    by (inl (e, a)) = streamed_bad (stream_orders told start shown said) shown (first_bad 1 said) start line why e
+  stream_bad line why (said, is_known, start, is, shown, is_shown, p) = IfSome-said known said (λ (ss : List Says). first_bad 1 ss ≢ None) is_known (by (PrintsCopied-other _ _ old new _ _ (Err (Bad line why)) (λ fault e. absurd (cc)) p)) where
+    by : Prints old new (stream_lines request start shown said) (stream_end request start shown said) (Err (Bad line why)) → first_bad 1 said ≢ None
+    by (inl (e, a)) = streamed_bad (stream_orders request start shown said) shown (first_bad 1 said) start line why e
     by (inr (inl (e, q))) = absurd (cc)
     by (inr (inr (e, q))) = absurd (cc)
 
-  stream_words : (error : Error) → Streams told known old new (Err (Words error)) → ⊥
+  stream_words : (error : Error) → Streams request known old new (Err (Words error)) → ⊥
   unfolding Streams
-  stream_words error (said, is_known, start, is, shown, is_shown, inl (e, a)) = streamed_words (stream_orders told start shown said) shown (first_bad 1 said) start error e
-  stream_words error (said, is_known, start, is, shown, is_shown, inr (inl (e, q))) = cc
-  stream_words error (said, is_known, start, is, shown, is_shown, inr (inr (e, q))) = cc
+  stream_words error (said, is_known, start, is, shown, is_shown, p) = by (PrintsCopied-other _ _ old new _ _ (Err (Words error)) (λ fault e. absurd (cc)) p) where
+    by : Prints old new (stream_lines request start shown said) (stream_end request start shown said) (Err (Words error)) → ⊥
+    by (inl (e, a)) = streamed_words (stream_orders request start shown said) shown (first_bad 1 said) start error e
+    by (inr (inl (e, q))) = cc
+    by (inr (inr (e, q))) = cc
 
-  stream_front : (end : Result (Unit {0}) Ending) → Streams told known old new end → IfSome known (BegunBy true told old new)
+  stream_front : (end : Result (Unit {0}) Ending) → Streams request known old new end → IfSome known (BegunBy true request old new)
   unfolding Streams
   stream_front end (said, is_known, start, is, shown, is_shown, p) =
-      let (front, begins, a) = Prints-front old new (stream_lines told start shown said) (stream_end told start shown said) end p in
-      let whole = front-trans (printed_by start shown (stream_orders told start shown said)) (flat (stream_lines told start shown said)) front
-      (front_right (stream_orders told start shown said) shown None start) begins in
+      let (front, begins, a) = PrintsCopied-front (copy_of request) _ old new (stream_lines request start shown said) (stream_end request start shown said) end p in
+      let whole = front-trans (printed_by start shown (stream_orders request start shown said)) (flat (stream_lines request start shown said)) front
+      (front_right (stream_orders request start shown said) shown None start) begins in
       IfSome-said known said BegunSaid is_known (start, is, shown, is_shown, (front, whole, a))
 
   -- and of a session that is a stream or isn't
-  told_done : (done : Unit {0}) → IsAnswered told known old new (Ok done) → IfSome known (IsDoneOn told old new)
-  told_done done = by told.ways.stream refl where
-    by : (b : Bool) → told.ways.stream ≡ b → MatchBool b (Streams told known old new (Ok done)) (Answers told known old new (Ok done)) → IfSome known (IsDoneOn told old new)
-    by true is p = subst (λ (c : Bool). IfSome known (DoneBy c told old new)) (sym is) (stream_done done p)
-    by false is p = subst (λ (c : Bool). IfSome known (DoneBy c told old new)) (sym is) (text_done done p)
+  request_done : (done : Unit {0}) → IsAnswered request known old new (Ok done) → IfSome known (IsDoneOn request old new)
+  request_done done = by request.ways.stream refl where
+    by : (b : Bool) → request.ways.stream ≡ b → MatchBool b (Streams request known old new (Ok done)) (Answers request known old new (Ok done)) → IfSome known (IsDoneOn request old new)
+    by true is p = subst (λ (c : Bool). IfSome known (DoneBy c request old new)) (sym is) (stream_done done p)
+    by false is p = subst (λ (c : Bool). IfSome known (DoneBy c request old new)) (sym is) (text_done done p)
 
-  told_bad : (line : ℕ) (why : Why) → IsAnswered told known old new (Err (Bad line why))
-      → ((told.ways.stream ≡ true) ⊎ Appends old new []) × IfSome known (λ text. first_bad 1 (text_says text) ≢ None)
-  told_bad line why = by told.ways.stream refl where
-    by : (b : Bool) → told.ways.stream ≡ b → MatchBool b (Streams told known old new (Err (Bad line why))) (Answers told known old new (Err (Bad line why)))
-        → ((told.ways.stream ≡ true) ⊎ Appends old new []) × IfSome known (λ text. first_bad 1 (text_says text) ≢ None)
+  request_bad : (line : ℕ) (why : Why) → IsAnswered request known old new (Err (Bad line why))
+      → ((request.ways.stream ≡ true) ⊎ Appends old new []) × IfSome known (λ text. first_bad 1 (text_says text) ≢ None)
+  request_bad line why = by request.ways.stream refl where
+    by : (b : Bool) → request.ways.stream ≡ b → MatchBool b (Streams request known old new (Err (Bad line why))) (Answers request known old new (Err (Bad line why)))
+        → ((request.ways.stream ≡ true) ⊎ Appends old new []) × IfSome known (λ text. first_bad 1 (text_says text) ≢ None)
     by true is p = (inl is, stream_bad line why p)
     by false is p = let (nothing, some) = text_bad line why p in (inr nothing, some)
 
-  told_words : (error : Error) → IsAnswered told known old new (Err (Words error)) → ⊥
-  told_words error = by told.ways.stream where
-    by : (b : Bool) → MatchBool b (Streams told known old new (Err (Words error))) (Answers told known old new (Err (Words error))) → ⊥
+  request_words : (error : Error) → IsAnswered request known old new (Err (Words error)) → ⊥
+  request_words error = by request.ways.stream where
+    by : (b : Bool) → MatchBool b (Streams request known old new (Err (Words error))) (Answers request known old new (Err (Words error))) → ⊥
     by true p = stream_words error p
     by false p = text_words error p
 
-  told_front : (end : Result (Unit {0}) Ending) → IsAnswered told known old new end → IfSome known (HasBegunOn told old new)
-  told_front end = by told.ways.stream refl where
-    by : (b : Bool) → told.ways.stream ≡ b → MatchBool b (Streams told known old new end) (Answers told known old new end) → IfSome known (HasBegunOn told old new)
-    by true is p = subst (λ (c : Bool). IfSome known (BegunBy c told old new)) (sym is) (stream_front end p)
-    by false is p = subst (λ (c : Bool). IfSome known (BegunBy c told old new)) (sym is) (text_front end p)
+  request_front : (end : Result (Unit {0}) Ending) → IsAnswered request known old new end → IfSome known (HasBegunOn request old new)
+  request_front end = by request.ways.stream refl where
+    by : (b : Bool) → request.ways.stream ≡ b → MatchBool b (Streams request known old new end) (Answers request known old new end) → IfSome known (HasBegunOn request old new)
+    by true is p = subst (λ (c : Bool). IfSome known (BegunBy c request old new)) (sym is) (stream_front end p)
+    by false is p = subst (λ (c : Bool). IfSome known (BegunBy c request old new)) (sym is) (text_front end p)
 
 -- ---- what follows of any session
 
 -- the words ask for a text, or tell what all that the text orders is printed for
 abbrev IsAllDone : List (List ℕ) → Option (List ℕ) → Option (List ℕ) → Option (List ℕ) → Type 0
-IsAllDone words known old new = AsksForText words ⊎ ((told : Told) × AsksFor words told × IfSome known (IsDoneOn told old new))
+IsAllDone words known old new = AsksForText words ⊎ ((request : Request) × AsksFor words request × IfSome known (IsDoneOn request old new))
 
 -- the words ask for a text, or nothing is printed, or they tell what a beginning of all that the text orders is printed for
 abbrev HasBegun : List (List ℕ) → Option (List ℕ) → Option (List ℕ) → Option (List ℕ) → Type 0
 HasBegun words known old new =
-    AsksForText words ⊎ Appends old new [] ⊎ ((told : Told) × AsksFor words told × IfSome known (HasBegunOn told old new))
+    AsksForText words ⊎ Appends old new [] ⊎ ((request : Request) × AsksFor words request × IfSome known (HasBegunOn request old new))
 
 -- a line is bad; nothing is printed then, unless the words ask for a stream
 abbrev IsBad : List (List ℕ) → Option (List ℕ) → Option (List ℕ) → Option (List ℕ) → Type 0
 IsBad words known old new = (AsksToStream words ⊎ Appends old new []) × IfSome known (λ text. first_bad 1 (text_says text) ≢ None)
 
-streams_or : (words : List (List ℕ)) (told : Told) (P : Type 0) → AsksFor words told → (told.ways.stream ≡ true) ⊎ P → AsksToStream words ⊎ P
-streams_or words told P tells (inl streams) = inl (told, tells, streams)
-streams_or words told P tells (inr p) = inr p
+streams_or : (words : List (List ℕ)) (request : Request) (P : Type 0) → AsksFor words request → (request.ways.stream ≡ true) ⊎ P → AsksToStream words ⊎ P
+streams_or words request P tells (inl streams) = inl (request, tells, streams)
+streams_or words request P tells (inr p) = inr p
 
 -- words that name a store are not refused
-not_refused : (words : List (List ℕ)) (told : Told) → AsksFor words told → AreRefused words → ⊥
-not_refused words told (given, tells, is) refused = cc
+not_refused : (words : List (List ℕ)) (request : Request) → AsksFor words request → AreRefused words → ⊥
+not_refused words request (given, tells, is) refused = cc
 
 -- nor are words that ask for a text
 text_not_refused : (words : List (List ℕ)) → AsksForText words → AreRefused words → ⊥
 text_not_refused words (inl helps) refused = cc
-text_not_refused words (inr (told, tells, is)) refused = not_refused words told tells refused
+text_not_refused words (inr (request, tells, is)) refused = not_refused words request tells refused
 
 pub status-one : (end : Result (Unit {0}) Ending) (status : ℕ) → status ≡ status_of_end end → (status ≡ 0) ⊎ (status ≡ 2) ⊎ (status ≡ 3) ⊎ (status ≡ 4)
 status-one (Ok done) status e = inl e
@@ -477,7 +601,7 @@ module _ (words : List (List ℕ)) (known old new : Option (List ℕ)) (unread u
   refused_end (Err (Bad line why)) p s = absurd (omega arith)
   refused_end (Err (endings.Fault fault)) p s = absurd (omega arith)
   refused_end (Err Device) p s = absurd (omega arith)
-  refused_end (Err (Words error)) (inl (told, tells, runs, answers)) s = absurd (told_words told known old new error answers)
+  refused_end (Err (Words error)) (inl (request, tells, runs, answers)) s = absurd (request_words request known old new error answers)
   refused_end (Err (Words error)) (inr (inl (not_read, asks, printed_help))) s =
       let four = one_text old new (Words error) printed_help in absurd (omega arith)
   refused_end (Err (Words error)) (inr (inr (not_read, not_touched, inl (refused, for_words)))) s = refused
@@ -492,7 +616,7 @@ module _ (words : List (List ℕ)) (known old new : Option (List ℕ)) (unread u
 
   when_refused : (end : Result (Unit {0}) Ending) → EndsBy words known old new unread untouched end → AreRefused words
       → ((status_of_end end ≡ 2) ⊎ (status_of_end end ≡ 4)) × unread × untouched
-  when_refused end (inl (told, tells, runs, answers)) refused = absurd (not_refused words told tells refused)
+  when_refused end (inl (request, tells, runs, answers)) refused = absurd (not_refused words request tells refused)
   when_refused end (inr (inl (not_read, asks, printed_help))) refused = absurd (text_not_refused words asks refused)
   when_refused end (inr (inr (not_read, not_touched, inl (is_refused, for_words)))) refused = (inl (for_words_status end for_words), not_read, not_touched)
   when_refused end (inr (inr (not_read, not_touched, inr e))) refused = (inr (ap status_of_end e), not_read, not_touched)
@@ -511,7 +635,7 @@ module _ (words : List (List ℕ)) (known old new : Option (List ℕ)) (unread u
   done_end (Err (Bad line why)) s p = absurd (omega arith)
   done_end (Err (endings.Fault fault)) s p = absurd (omega arith)
   done_end (Err Device) s p = absurd (omega arith)
-  done_end (Ok done) s (inl (told, tells, runs, answers)) = inr (told, tells, told_done told known old new done answers)
+  done_end (Ok done) s (inl (request, tells, runs, answers)) = inr (request, tells, request_done request known old new done answers)
   done_end (Ok done) s (inr (inl (not_read, asks, printed_help))) = inl asks
   done_end (Ok done) s (inr (inr (not_read, not_touched, inl (refused, for_words)))) = absurd for_words
   done_end (Ok done) s (inr (inr (not_read, not_touched, inr e))) = absurd (cc)
@@ -522,9 +646,9 @@ module _ (words : List (List ℕ)) (known old new : Option (List ℕ)) (unread u
   bad_end (Err (Words error)) s p = absurd (omega arith)
   bad_end (Err (endings.Fault fault)) s p = absurd (omega arith)
   bad_end (Err Device) s p = absurd (omega arith)
-  bad_end (Err (Bad line why)) s (inl (told, tells, runs, answers)) =
-      let (nothing, some) = told_bad told known old new line why answers in
-      (streams_or words told (Appends old new []) tells nothing, some)
+  bad_end (Err (Bad line why)) s (inl (request, tells, runs, answers)) =
+      let (nothing, some) = request_bad request known old new line why answers in
+      (streams_or words request (Appends old new []) tells nothing, some)
   bad_end (Err (Bad line why)) s (inr (inl (not_read, asks, printed_help))) =
       let four = one_text old new (Bad line why) printed_help in absurd (omega arith)
   bad_end (Err (Bad line why)) s (inr (inr (not_read, not_touched, inl (refused, for_words)))) = absurd for_words
@@ -532,7 +656,7 @@ module _ (words : List (List ℕ)) (known old new : Option (List ℕ)) (unread u
 
   beginning_end : (end : Result (Unit {0}) Ending) → (untouched → Appends old new []) → EndsBy words known old new unread untouched end
       → HasBegun words known old new
-  beginning_end end kept (inl (told, tells, runs, answers)) = inr (inr (told, tells, told_front told known old new end answers))
+  beginning_end end kept (inl (request, tells, runs, answers)) = inr (inr (request, tells, request_front request known old new end answers))
   beginning_end end kept (inr (inl (not_read, asks, printed_help))) = inl asks
   beginning_end end kept (inr (inr (not_read, not_touched, q))) = inr (inl (kept not_touched))
 
@@ -579,19 +703,19 @@ module _ (words : List (List ℕ)) (known old new : Option (List ℕ)) (unread u
       let (for_words, same) = refuses (not_help kind no_help_nor_memory) (not_memory kind no_help_nor_memory) in inr (inr (not_read, same, inl (refused, for_words)))
 
 -- words that tell something: the version is printed, or the batch file is run
-pub EndsBy-told : (words : List (List ℕ)) (known old new : Option (List ℕ)) (unread untouched : Type 0) (end : Result (Unit {0}) Ending) (told : Told) → AsksFor words told
-    → (told.ways.version ≡ true → unread × Prints old new (version_text ∷ []) (Ok tt) end) → (told.ways.version ≡ false → IsAnswered told known old new end)
+pub EndsBy-request : (words : List (List ℕ)) (known old new : Option (List ℕ)) (unread untouched : Type 0) (end : Result (Unit {0}) Ending) (request : Request) → AsksFor words request
+    → (request.ways.version ≡ true → unread × Prints old new (version_text ∷ []) (Ok tt) end) → (request.ways.version ≡ false → IsAnswered request known old new end)
     → EndsBy words known old new unread untouched end
-EndsBy-told words known old new unread untouched end told tells shows runs = by told.ways.version refl where
-  by : (b : Bool) → told.ways.version ≡ b → EndsBy words known old new unread untouched end
-  by true is = let (not_read, printed) = shows is in inr (inl (not_read, inr (told, tells, is), (version_text, printed)))
-  by false is = inl (told, tells, is, runs is)
+EndsBy-request words known old new unread untouched end request tells shows runs = by request.ways.version refl where
+  by : (b : Bool) → request.ways.version ≡ b → EndsBy words known old new unread untouched end
+  by true is = let (not_read, printed) = shows is in inr (inl (not_read, inr (request, tells, is), (version_text, printed)))
+  by false is = inl (request, tells, is, runs is)
 
 -- more is reported only where it is asked for
-pub more_if_asked : (words : List (List ℕ)) (told : Told) (more : List ℕ) → AsksFor words told → (told.ways.explain ≡ false → more ≡ []) → AsksToExplain words ⊎ (more ≡ [])
-more_if_asked words told more tells plain = by told.ways.explain refl where
-  by : (b : Bool) → told.ways.explain ≡ b → AsksToExplain words ⊎ (more ≡ [])
-  by true is = inl (told, tells, is)
+pub more_if_asked : (words : List (List ℕ)) (request : Request) (more : List ℕ) → AsksFor words request → (request.ways.explain ≡ false → more ≡ []) → AsksToExplain words ⊎ (more ≡ [])
+more_if_asked words request more tells plain = by request.ways.explain refl where
+  by : (b : Bool) → request.ways.explain ≡ b → AsksToExplain words ⊎ (more ≡ [])
+  by true is = inl (request, tells, is)
   by false is = inr (plain is)
 
 -- where no line is bad a stream ends as another session does
@@ -604,8 +728,8 @@ ends-alike (Err fault) shown orders = refl
 ends-alike (Ok p) shown orders = ap stopped_by (or_none (option_map (λ fault. endings.Fault fault) (first_refusal p.0 p.1.0 shown orders)))
 
 -- a session that is a stream, and one that isn't
-pub IsAnswered-stream : (told : Told) (known old new : Option (List ℕ)) (end : Result (Unit {0}) Ending) → told.ways.stream ≡ true → Streams told known old new end → IsAnswered told known old new end
-IsAnswered-stream told known old new end is p = at_true told.ways.stream (Streams told known old new end) (Answers told known old new end) is p
+pub IsAnswered-stream : (request : Request) (known old new : Option (List ℕ)) (end : Result (Unit {0}) Ending) → request.ways.stream ≡ true → Streams request known old new end → IsAnswered request known old new end
+IsAnswered-stream request known old new end is p = at_true request.ways.stream (Streams request known old new end) (Answers request known old new end) is p
 
-pub IsAnswered-text : (told : Told) (known old new : Option (List ℕ)) (end : Result (Unit {0}) Ending) → told.ways.stream ≡ false → Answers told known old new end → IsAnswered told known old new end
-IsAnswered-text told known old new end is p = at_false told.ways.stream (Streams told known old new end) (Answers told known old new end) is p
+pub IsAnswered-text : (request : Request) (known old new : Option (List ℕ)) (end : Result (Unit {0}) Ending) → request.ways.stream ≡ false → Answers request known old new end → IsAnswered request known old new end
+IsAnswered-text request known old new end is p = at_false request.ways.stream (Streams request known old new end) (Answers request known old new end) is p

@@ -15,7 +15,7 @@ use Rattle.clap.specs.declared.builder.value_parser.Reading.TheVariants.{AsWritt
 use Rattle.clap.specs.declared.parser.matches.ValueSource.TheVariants.{DefaultValue}
 use Rattle.clap.specs.Values.{read_as}
 use Rattle.clap.proofs.WalkLemmas.{find-map}
-use Rattle.bwsh.specs.Options.{Text, Given, disk_of, fits, flag_names, is_given, is_number, number_of, number_or, takes_nothing, takes_number}
+use Rattle.bwsh.specs.Options.{Text, Given, fits, flag_names, is_given, is_number, number_of, number_or, path_names, path_of, takes_nothing, takes_number, takes_path}
 use Rattle.bwsh.specs.CommandLine.{AreGivable, IsGivable, built_rules, finished_rows, given_row, reading_at}
 use Rattle.bwsh.proofs.TurnLemmas.{any_of, no_number}
 
@@ -190,13 +190,18 @@ field_read name default most given rows result takes is_default number value all
         ∙ ap (λ (b : Bool). Some (read_as (cond b WithoutMinus AsWritten) g.1)) takes)
     go None e = read default number (ap (one_of name) is_rows ∙ ap (option_and_then row_text) (found_at name given None e ∙ is_default)) ∙ value
 
+-- no path has a default
+no_default_path : (name : Text) → takes_path name ≡ true → find (at name) (defaults_in built_rules) ≡ None
+no_default_path = any_of (λ name. find (at name) (defaults_in built_rules) ≡ None) path_names (refl, (refl, tt))
+
 -- the path that is read is what was given
-pub path_read : (given : Given) (rows : List Row) (result : Option Text) → rows ≡ finished_rows given → result ≡ first_of (codes "disk") rows → result ≡ disk_of given
-path_read given rows result is_rows read = read ∙ ap (first_of (codes "disk")) is_rows ∙ go (find (λ g. bytes_eq g.0 (codes "disk")) given) refl
+pub path_read : (name : Text) → takes_path name ≡ true → (given : Given) (rows : List Row) (result : Option Text) → rows ≡ finished_rows given
+    → result ≡ first_of name rows → result ≡ path_of name given
+path_read name is given rows result is_rows read = read ∙ ap (first_of name) is_rows ∙ go (find (λ g. bytes_eq g.0 name) given) refl
   where
-    go : (o : Option (Text × Text)) → find (λ g. bytes_eq g.0 (codes "disk")) given ≡ o → first_of (codes "disk") (finished_rows given) ≡ option_map (λ g. g.1) o
-    go (Some g) e = ap (option_and_then (λ (r : Row). slice_get r.values 0)) (found_at (codes "disk") given (Some g) e)
-    go None e = ap (option_and_then (λ (r : Row). slice_get r.values 0)) (found_at (codes "disk") given None e)
+    go : (o : Option (Text × Text)) → find (λ g. bytes_eq g.0 name) given ≡ o → first_of name (finished_rows given) ≡ option_map (λ g. g.1) o
+    go (Some g) e = ap (option_and_then (λ (r : Row). slice_get r.values 0)) (found_at name given (Some g) e)
+    go None e = ap (option_and_then (λ (r : Row). slice_get r.values 0)) (found_at name given None e ∙ no_default_path name is)
 
 given_found : (name : Text) (given : Given) → is_given name given ≡ is_some (find (λ g. bytes_eq g.0 name) given)
 given_found name [] = refl
@@ -209,7 +214,7 @@ given_found name (g ∷ given) = go (bytes_eq g.0 name) (given_found name given)
 -- an option that takes nothing and was not given is read as this
 default_flag : (name : Text) → takes_nothing name ≡ true → option_and_then row_text (find (at name) (defaults_in built_rules)) ≡ Some (codes "false")
 default_flag = any_of (λ name. option_and_then row_text (find (at name) (defaults_in built_rules)) ≡ Some (codes "false")) flag_names
-    (refl, (refl, (refl, (refl, (refl, (refl, tt))))))
+    (refl, (refl, (refl, (refl, (refl, (refl, (refl, tt)))))))
 
 -- an option that takes nothing is read where it was given
 pub flag_read : (name : Text) → takes_nothing name ≡ true → (given : Given) (rows : List Row) (result : Bool) → AreGivable given → rows ≡ finished_rows given
@@ -240,9 +245,10 @@ crew_with a b = record { workers = a; grain = b }
 pub crews_equal : {a b c d : ℕ} → a ≡ c → b ≡ d → crew_with a b ≡ crew_with c d
 crews_equal a b = rw (a, b) refl
 
-abbrev ways_with : Bool → Bool → Bool → Bool → Bool → Ways
-ways_with a b c d e = record { version = a; explain = b; stat = c; clean_when_full = d; stream = e }
+abbrev ways_with : Bool → Bool → Bool → Bool → Bool → ℕ → Bool → Ways
+ways_with a b c d e f g = record { version = a; explain = b; stat = c; clean_when_full = d; stream = e; tidy = f; progress = g }
 
 -- so are ways
-pub ways_equal : {a b c d e f g h i j : Bool} → a ≡ f → b ≡ g → c ≡ h → d ≡ i → e ≡ j → ways_with a b c d e ≡ ways_with f g h i j
-ways_equal a b c d e = rw (a, b, c, d, e) refl
+pub ways_equal : {a b c d e g h i j k l n : Bool} {f m : ℕ} → a ≡ h → b ≡ i → c ≡ j → d ≡ k → e ≡ l → f ≡ m → g ≡ n
+    → ways_with a b c d e f g ≡ ways_with h i j k l m n
+ways_equal a b c d e f g = rw (a, b, c, d, e, f, g) refl

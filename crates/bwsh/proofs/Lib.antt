@@ -11,13 +11,15 @@ mod NumberLemmas
 mod OrderLemmas
 mod PrintedLemmas
 mod Prints
+mod ProgressLemmas
 mod ReadLemmas
 mod RoomLemmas
 mod RunLemmas
 mod ShowLemmas
 mod StoreLemmas
 mod StreamLemmas
-mod TellLemmas
+mod TidiedLemmas
+mod EndingLemmas
 mod TokensReadBack
 mod TokenLemmas
 mod TurnLemmas

@@ -15,7 +15,8 @@ use Rattle.bwsh.specs.Token.{token_bytes, shown_token}
 use Rattle.bwsh.specs.Words.{words_of}
 use Rattle.bwsh.specs.Line.{line_says}
 use Rattle.bwsh.specs.Number.{number_in}
-use Rattle.bwsh.specs.Options.{asked, options, refused, told_by}
+use Rattle.bwsh.specs.declared.options.asked.Ways.{Ways}
+use Rattle.bwsh.specs.Options.{asked, options, refused, request_by}
 use Rattle.bwsh.specs.Shown.{shown_reply}
 use Rattle.bwsh.specs.BatchFile.{lines, first_bad, orders_of}
 
@@ -172,13 +173,17 @@ some_options : asked (codes "--create" ∷ codes "--disk" ∷ codes "a b" ∷ co
     ≡ options ((codes "create", codes "true") ∷ (codes "disk", codes "a b") ∷ (codes "fan", codes "8") ∷ [])
 some_options = refl
 
-told_options : told_by ((codes "create", codes "true") ∷ (codes "disk", codes "a b") ∷ (codes "fan", codes "8") ∷ [])
-    ≡ record { settings = record { fan = 8; chain = 4; max_key = 64; max_value = 256; seg_size = 65536; segments = 64 }; crew = record { workers = 1; grain = 64 }; disk = Some (codes "a b"); create = true; ways = record { version = false; explain = false; stat = false; clean_when_full = false; stream = false } }
-told_options = refl
+-- a session that differs in nothing from one without options
+abbrev no_ways : Ways
+no_ways = record { version = false; explain = false; stat = false; clean_when_full = false; stream = false; tidy = 0; progress = false }
 
-nothing_told : told_by []
-    ≡ record { settings = record { fan = 16; chain = 4; max_key = 64; max_value = 256; seg_size = 65536; segments = 64 }; crew = record { workers = 1; grain = 64 }; disk = None; create = false; ways = record { version = false; explain = false; stat = false; clean_when_full = false; stream = false } }
-nothing_told = refl
+request_options : request_by ((codes "create", codes "true") ∷ (codes "disk", codes "a b") ∷ (codes "fan", codes "8") ∷ [])
+    ≡ record { settings = record { fan = 8; chain = 4; max_key = 64; max_value = 256; seg_size = 65536; segments = 64 }; crew = record { workers = 1; grain = 64 }; disk = Some (codes "a b"); create = true; copy_to = None; ways = no_ways }
+request_options = refl
+
+nothing_request : request_by []
+    ≡ record { settings = record { fan = 16; chain = 4; max_key = 64; max_value = 256; seg_size = 65536; segments = 64 }; crew = record { workers = 1; grain = 64 }; disk = None; create = false; copy_to = None; ways = no_ways }
+nothing_request = refl
 
 -- a path is any text, but after `--disk` none that looks like a flag
 an_empty_path : asked (codes "--disk" ∷ [] ∷ []) ≡ options ((codes "disk", []) ∷ [])
@@ -198,11 +203,21 @@ asked_ways : asked (codes "--version" ∷ codes "--fan" ∷ codes "8" ∷ codes 
     ≡ options ((codes "version", codes "true") ∷ (codes "fan", codes "8") ∷ (codes "explain", codes "true") ∷ [])
 asked_ways = refl
 
-told_version : (told_by ((codes "version", codes "true") ∷ [])).ways ≡ record { version = true; explain = false; stat = false; clean_when_full = false; stream = false }
-told_version = refl
+request_version : (request_by ((codes "version", codes "true") ∷ [])).ways ≡ record no_ways { version = true }
+request_version = refl
 
-told_to_explain : (told_by ((codes "explain", codes "true") ∷ [])).ways ≡ record { version = false; explain = true; stat = false; clean_when_full = false; stream = false }
-told_to_explain = refl
+request_to_explain : (request_by ((codes "explain", codes "true") ∷ [])).ways ≡ record no_ways { explain = true }
+request_to_explain = refl
+
+request_of_tidying : (request_by ((codes "tidy", codes "007") ∷ (codes "progress", codes "true") ∷ [])).ways ≡ record no_ways { tidy = 7; progress = true }
+request_of_tidying = refl
+
+-- each option that takes a path has its own
+two_paths : asked (codes "--copy-to" ∷ codes "b" ∷ codes "--disk=a" ∷ []) ≡ options ((codes "copy-to", codes "b") ∷ (codes "disk", codes "a") ∷ [])
+two_paths = refl
+
+request_paths : (request_by ((codes "copy-to", codes "b") ∷ (codes "disk", codes "a") ∷ [])).copy_to ≡ Some (codes "b")
+request_paths = refl
 
 a_flag_twice : asked (codes "--create" ∷ codes "--create" ∷ []) ≡ refused
 a_flag_twice = refl

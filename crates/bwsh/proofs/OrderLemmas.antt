@@ -68,17 +68,17 @@ batches-orders_of pending (Bad why ∷ rest) only = batches-orders_of pending re
 -- ---- streams
 
 -- the numbers come after all
-numbers-behind : (numbers : Bool) (front rest : List Order) → front ++ with_numbers numbers rest ≡ with_numbers numbers (front ++ rest)
-numbers-behind true front rest = sym (append_assoc front rest (Numbers ∷ []))
-numbers-behind false front rest = refl
+numbers-after_order : (numbers : Bool) (front rest : List Order) → front ++ with_numbers numbers rest ≡ with_numbers numbers (front ++ rest)
+numbers-after_order true front rest = sym (append_assoc front rest (Numbers ∷ []))
+numbers-after_order false front rest = refl
 
 -- what a line that ends a batch orders, before what is ordered after it
 ended-first : (numbers : Bool) (pending : List (Command Global)) (order : Order) (later all : List Order) → later ≡ with_numbers numbers all
     → last_order pending ++ order ∷ later ≡ with_numbers numbers (last_order pending ++ order ∷ all)
 ended-first numbers pending order later all e =
     ap (λ (os : List Order). last_order pending ++ order ∷ os) e
-    ∙ ap (λ (os : List Order). last_order pending ++ os) (numbers-behind numbers (order ∷ []) all)
-    ∙ numbers-behind numbers (last_order pending) (order ∷ all)
+    ∙ ap (λ (os : List Order). last_order pending ++ os) (numbers-after_order numbers (order ∷ []) all)
+    ∙ numbers-after_order numbers (last_order pending) (order ∷ all)
 
 -- where no line is bad a stream orders all
 pub streamed-all : (numbers : Bool) (n : ℕ) (pending : List (Command Global)) (said : List Says) → first_bad n said ≡ None
@@ -86,7 +86,7 @@ pub streamed-all : (numbers : Bool) (n : ℕ) (pending : List (Command Global)) 
 streamed-all numbers n pending [] good = refl
 streamed-all numbers n pending (Says.Command command ∷ rest) good = streamed-all numbers (n + 1) (pending ++ command ∷ []) rest good
 streamed-all numbers n pending (Go ∷ rest) good =
-    ap (λ (os : List Order). Batch pending ∷ os) (streamed-all numbers (n + 1) [] rest good) ∙ numbers-behind numbers (Batch pending ∷ []) (orders_of [] rest)
+    ap (λ (os : List Order). Batch pending ∷ os) (streamed-all numbers (n + 1) [] rest good) ∙ numbers-after_order numbers (Batch pending ∷ []) (orders_of [] rest)
 streamed-all numbers n pending (says.Flush ∷ rest) good = ended-first numbers pending Flush _ (orders_of [] rest) (streamed-all numbers (n + 1) [] rest good)
 streamed-all numbers n pending (says.Clean ∷ rest) good = ended-first numbers pending Clean _ (orders_of [] rest) (streamed-all numbers (n + 1) [] rest good)
 streamed-all numbers n pending (says.Upgrade ∷ rest) good = ended-first numbers pending Upgrade _ (orders_of [] rest) (streamed-all numbers (n + 1) [] rest good)
@@ -123,16 +123,16 @@ counted_on n k = omega arith
 found_on : (n k : ℕ) (why : Why) (o : Option (ℕ × Why)) → o ≡ Some (n + 1 + k, why) → o ≡ Some (n + suc k, why)
 found_on n k why o e = e ∙ ap (λ (m : ℕ). Some (m, why)) (counted_on n k)
 
-pub first_bad-behind : (n : ℕ) (front : List Says) → first_bad n front ≡ None → (why : Why) (rest : List Says) → first_bad n (front ++ Bad why ∷ rest) ≡ Some (n + length front, why)
-first_bad-behind n [] good why rest = ap (λ (m : ℕ). Some (m, why)) (omega arith)
-first_bad-behind n (Says.Command command ∷ front) good why rest = found_on n (length front) why _ (first_bad-behind (n + 1) front good why rest)
-first_bad-behind n (Go ∷ front) good why rest = found_on n (length front) why _ (first_bad-behind (n + 1) front good why rest)
-first_bad-behind n (says.Flush ∷ front) good why rest = found_on n (length front) why _ (first_bad-behind (n + 1) front good why rest)
-first_bad-behind n (says.Clean ∷ front) good why rest = found_on n (length front) why _ (first_bad-behind (n + 1) front good why rest)
-first_bad-behind n (says.Upgrade ∷ front) good why rest = found_on n (length front) why _ (first_bad-behind (n + 1) front good why rest)
-first_bad-behind n (says.Verify ∷ front) good why rest = found_on n (length front) why _ (first_bad-behind (n + 1) front good why rest)
-first_bad-behind n (Nothing ∷ front) good why rest = found_on n (length front) why _ (first_bad-behind (n + 1) front good why rest)
-first_bad-behind n (Bad other ∷ front) good why rest = absurd (cc)
+pub first_bad-after_order : (n : ℕ) (front : List Says) → first_bad n front ≡ None → (why : Why) (rest : List Says) → first_bad n (front ++ Bad why ∷ rest) ≡ Some (n + length front, why)
+first_bad-after_order n [] good why rest = ap (λ (m : ℕ). Some (m, why)) (omega arith)
+first_bad-after_order n (Says.Command command ∷ front) good why rest = found_on n (length front) why _ (first_bad-after_order (n + 1) front good why rest)
+first_bad-after_order n (Go ∷ front) good why rest = found_on n (length front) why _ (first_bad-after_order (n + 1) front good why rest)
+first_bad-after_order n (says.Flush ∷ front) good why rest = found_on n (length front) why _ (first_bad-after_order (n + 1) front good why rest)
+first_bad-after_order n (says.Clean ∷ front) good why rest = found_on n (length front) why _ (first_bad-after_order (n + 1) front good why rest)
+first_bad-after_order n (says.Upgrade ∷ front) good why rest = found_on n (length front) why _ (first_bad-after_order (n + 1) front good why rest)
+first_bad-after_order n (says.Verify ∷ front) good why rest = found_on n (length front) why _ (first_bad-after_order (n + 1) front good why rest)
+first_bad-after_order n (Nothing ∷ front) good why rest = found_on n (length front) why _ (first_bad-after_order (n + 1) front good why rest)
+first_bad-after_order n (Bad other ∷ front) good why rest = absurd (cc)
 
 pub first_bad-from_one : (front : List Says) → first_bad 1 front ≡ None → (why : Why) (rest : List Says) → first_bad 1 (front ++ Bad why ∷ rest) ≡ Some (length front + 1, why)
-first_bad-from_one front good why rest = first_bad-behind 1 front good why rest ∙ ap (λ (m : ℕ). Some (m, why)) (omega arith)
+first_bad-from_one front good why rest = first_bad-after_order 1 front good why rest ∙ ap (λ (m : ℕ). Some (m, why)) (omega arith)

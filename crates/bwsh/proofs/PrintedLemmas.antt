@@ -15,42 +15,42 @@ use Rattle.bwsh.specs.declared.batch_file.Order.{Order}
 use Rattle.bwsh.specs.declared.batch_file.Order.TheVariants.{Batch, Flush, Clean, Upgrade, Verify, Numbers}
 use Rattle.bwsh.specs.declared.line.Says.{Says}
 use Rattle.bwsh.specs.BatchFile.{orders_of, commands_of, commands_said, IsBatch, IsForBatches}
-use Rattle.bwsh.specs.Session.{Reads, later, answer_lines, numbers_of, printed, behind}
+use Rattle.bwsh.specs.Session.{Reads, later, answer_lines, numbers_of, printed, after_order}
 use Rattle.bwsh.specs.Shown.{shown_reply, shown_flushed, shown_cleaned, shown_upgraded, shown_report, shown_numbers}
 use Rattle.bwsh.proofs.OrderLemmas.{commands-orders_of, batches-orders_of}
 use Rattle.bwsh.proofs.Prints.{flat-append, flat-map}
 
 pub printed-batch : (settings : Settings) (st : Store) (shown : Reads) (m : List (List ℕ × List ℕ)) (commands : List (Command Global)) (rest : List Order)
     → printed settings st shown m (Batch commands ∷ rest)
-    ≡ flat_map shown_reply (replies_to m commands) ++ printed settings (behind settings st (shown 0) (Batch commands)).0 (later shown) (map_after_all m commands) rest
+    ≡ flat_map shown_reply (replies_to m commands) ++ printed settings (after_order settings st (shown 0) (Batch commands)).0 (later shown) (map_after_all m commands) rest
 printed-batch settings st shown m commands rest =
-    let then : Store = (behind settings st (shown 0) (Batch commands)).0 in
+    let then : Store = (after_order settings st (shown 0) (Batch commands)).0 in
     flat-append (map shown_reply (replies_to m commands)) (answer_lines settings then (later shown) (map_after_all m commands) rest)
     ∙ ap (λ (l : List ℕ). l ++ printed settings then (later shown) (map_after_all m commands) rest) (flat-map shown_reply (replies_to m commands))
 
 pub printed-flush : (settings : Settings) (st : Store) (shown : Reads) (m : List (List ℕ × List ℕ)) (rest : List Order)
     → printed settings st shown m (Flush ∷ rest)
-    ≡ shown_flushed (behind settings st (shown 0) Flush).0.sequence ++ printed settings (behind settings st (shown 0) Flush).0 (later shown) m rest
+    ≡ shown_flushed (after_order settings st (shown 0) Flush).0.sequence ++ printed settings (after_order settings st (shown 0) Flush).0 (later shown) m rest
 printed-flush settings st shown m rest = refl
 
 pub printed-clean : (settings : Settings) (st : Store) (shown : Reads) (m : List (List ℕ × List ℕ)) (rest : List Order)
     → printed settings st shown m (Clean ∷ rest)
-    ≡ shown_cleaned (behind settings st (shown 0) Clean).0.head ++ printed settings (behind settings st (shown 0) Clean).0 (later shown) m rest
+    ≡ shown_cleaned (after_order settings st (shown 0) Clean).0.head ++ printed settings (after_order settings st (shown 0) Clean).0 (later shown) m rest
 printed-clean settings st shown m rest = refl
 
 pub printed-upgrade : (settings : Settings) (st : Store) (shown : Reads) (m : List (List ℕ × List ℕ)) (rest : List Order)
     → printed settings st shown m (Upgrade ∷ rest)
-    ≡ shown_upgraded (behind settings st (shown 0) Upgrade).0.sequence ++ printed settings (behind settings st (shown 0) Upgrade).0 (later shown) m rest
+    ≡ shown_upgraded (after_order settings st (shown 0) Upgrade).0.sequence ++ printed settings (after_order settings st (shown 0) Upgrade).0 (later shown) m rest
 printed-upgrade settings st shown m rest = refl
 
 pub printed-verify : (settings : Settings) (st : Store) (shown : Reads) (m : List (List ℕ × List ℕ)) (rest : List Order)
     → printed settings st shown m (Verify ∷ rest) ≡ shown_report (report st.tree) ++ printed settings st (later shown) m rest
-unfolding behind
+unfolding after_order
 printed-verify settings st shown m rest = refl
 
 pub printed-numbers : (settings : Settings) (st : Store) (shown : Reads) (m : List (List ℕ × List ℕ)) (rest : List Order)
     → printed settings st shown m (Numbers ∷ rest) ≡ shown_numbers (numbers_of settings st) ++ printed settings st (later shown) m rest
-unfolding behind
+unfolding after_order
 printed-numbers settings st shown m rest = refl
 
 -- it makes no difference how the commands are cut into batches
@@ -64,7 +64,7 @@ printed-commands settings st shown m (Verify ∷ rest) only = absurd only.0
 printed-commands settings st shown m (Numbers ∷ rest) only = absurd only.0
 printed-commands settings st shown m (Batch commands ∷ rest) only =
     let further = flat_map commands_of rest in
-    let then : Store = (behind settings st (shown 0) (Batch commands)).0 in
+    let then : Store = (after_order settings st (shown 0) (Batch commands)).0 in
     printed-batch settings st shown m commands rest
     ∙ ap (λ (l : List ℕ). flat_map shown_reply (replies_to m commands) ++ l) (printed-commands settings then (later shown) (map_after_all m commands) rest only.1)
     ∙ sym (flat_map-append shown_reply (replies_to m commands) (replies_to (map_after_all m commands) further))

@@ -8,13 +8,15 @@ use Rattle.std.proofs.lemmas.List.{map-append}
 use Rattle.std.proofs.lemmas.List.Folds.{flat_map-map}
 use Rattle.std.specs.Prelude.{unwrap_or, IsOkUnless, OnOk, OnErr}
 use Rattle.keys.specs.Lists.{flat}
+use Rattle.keys.specs.declared.fault.Fault.{Fault}
 use Rattle.keys.specs.declared.fault.Fault.TheVariants.{NoMemory}
+use Rattle.keys.specs.declared.settings.Settings.{Settings}
 use Rattle.keys.specs.declared.command.Reply.{Reply}
 use Rattle.std.specs.declared.alloc.Global.{Global}
 use Rattle.bwsh.specs.declared.session.Ending.{Ending}
 use Rattle.bwsh.specs.declared.session.Ending.TheVariants.{Device}
 use Rattle.bwsh.specs.declared.session.Ending.TheVariants as endings
-use Rattle.bwsh.specs.Session.{BeginsWith, Prints, PrintsOneText}
+use Rattle.bwsh.specs.Session.{BeginsWith, CopiesTo, IsCopyEnd, IsEndAfter, Prints, PrintsCopied, PrintsOneText, end_copied}
 use Rattle.bwsh.specs.Shown.{shown_reply}
 
 -- ---- fronts of lists
@@ -26,8 +28,8 @@ module _ {X : Type 0} where
   pub front-more : (first xs front : List X) → BeginsWith xs front → BeginsWith (first ++ xs) (first ++ front)
   front-more first xs front (rest, e) = (rest, ap (λ (l : List X). first ++ l) e ∙ sym (append_assoc first front rest))
 
-  pub front-longer : (xs behind front : List X) → BeginsWith xs front → BeginsWith (xs ++ behind) front
-  front-longer xs behind front (rest, e) = (rest ++ behind, ap (λ (l : List X). l ++ behind) e ∙ append_assoc front rest behind)
+  pub front-longer : (xs after_order front : List X) → BeginsWith xs front → BeginsWith (xs ++ after_order) front
+  front-longer xs after_order front (rest, e) = (rest ++ after_order, ap (λ (l : List X). l ++ after_order) e ∙ append_assoc front rest after_order)
 
   pub front-trans : (xs ys zs : List X) → BeginsWith xs ys → BeginsWith ys zs → BeginsWith xs zs
   front-trans xs ys zs (p, e) (q, f) = (q ++ p, e ∙ ap (λ (l : List X). l ++ p) f ∙ append_assoc zs q p)
@@ -46,13 +48,13 @@ front-flat lines front (rest, e) = (flat rest, ap flat e ∙ flat-append front r
 
 -- ---- what was printed
 
-pub Prints-behind : (old mid new : Option (List ℕ)) (first lines : List (List ℕ)) (right end : Result (Unit {0}) Ending)
+pub Prints-after_order : (old mid new : Option (List ℕ)) (first lines : List (List ℕ)) (right end : Result (Unit {0}) Ending)
     → Appends old mid (flat first) → Prints mid new lines right end → Prints old new (first ++ lines) right end
-Prints-behind old mid new first lines right end a (inl (e, b)) =
+Prints-after_order old mid new first lines right end a (inl (e, b)) =
     inl (e, subst (Appends old new) (sym (flat-append first lines)) (Appends-trans old mid new (flat first) (flat lines) a b))
-Prints-behind old mid new first lines right end a (inr (inl (e, (front, begins, b)))) =
+Prints-after_order old mid new first lines right end a (inr (inl (e, (front, begins, b)))) =
     inr (inl (e, (first ++ front, front-more first lines front begins, subst (Appends old new) (sym (flat-append first front)) (Appends-trans old mid new (flat first) (flat front) a b))))
-Prints-behind old mid new first lines right end a (inr (inr (e, (front, begins, b)))) =
+Prints-after_order old mid new first lines right end a (inr (inr (e, (front, begins, b)))) =
     inr (inr (
       e,
       (
@@ -63,17 +65,17 @@ Prints-behind old mid new first lines right end a (inr (inr (e, (front, begins, 
     ))
 
 -- an end that came early came early for what is longer too
-pub Prints-early : (old new : Option (List ℕ)) (lines behind : List (List ℕ)) (right : Result (Unit {0}) Ending) (early : Ending)
-    → Prints old new lines (Ok tt) (Err early) → Prints old new (lines ++ behind) right (Err early)
-Prints-early old new lines behind right early (inl (e, b)) = absurd (cc)
-Prints-early old new lines behind right early (inr (inl (e, (front, begins, b)))) =
-    inr (inl (e, (front, front-longer lines behind front begins, b)))
-Prints-early old new lines behind right early (inr (inr (e, (front, begins, b)))) =
+pub Prints-early : (old new : Option (List ℕ)) (lines after_order : List (List ℕ)) (right : Result (Unit {0}) Ending) (early : Ending)
+    → Prints old new lines (Ok tt) (Err early) → Prints old new (lines ++ after_order) right (Err early)
+Prints-early old new lines after_order right early (inl (e, b)) = absurd (cc)
+Prints-early old new lines after_order right early (inr (inl (e, (front, begins, b)))) =
+    inr (inl (e, (front, front-longer lines after_order front begins, b)))
+Prints-early old new lines after_order right early (inr (inr (e, (front, begins, b)))) =
     inr (inr (
       e,
       (
         front,
-        subst (λ (bytes : List ℕ). BeginsWith bytes front) (sym (flat-append lines behind)) (front-longer (flat lines) (flat behind) front begins),
+        subst (λ (bytes : List ℕ). BeginsWith bytes front) (sym (flat-append lines after_order)) (front-longer (flat lines) (flat after_order) front begins),
         b,
       ),
     ))
@@ -122,6 +124,89 @@ pub Prints-flushed : (old mid new : Option (List ℕ)) (lines : List (List ℕ))
     → Prints old mid lines right done → Keeps mid new → (end ≡ done) ⊎ (end ≡ Err Device) → Prints old new lines right end
 Prints-flushed old mid new lines right done end p k (inl e) = rw e (Prints-kept old mid new lines right done p k)
 Prints-flushed old mid new lines right done end p k (inr e) = rw e (Prints-device old mid new lines right done p k)
+
+-- ---- a copy after what was printed
+
+-- where no copy is refused the right end is the one without it
+end_copied-none : (right : Result (Unit {0}) Ending) → end_copied None right ≡ right
+end_copied-none (Ok done) = refl
+end_copied-none (Err early) = refl
+
+-- all is done, so that was the right end
+right_done : (old new : Option (List ℕ)) (lines : List (List ℕ)) (right : Result (Unit {0}) Ending) (done : Unit {0}) → Prints old new lines right (Ok done) → Ok done ≡ right
+right_done old new lines right done (inl (e, b)) = e
+right_done old new lines right done (inr (inl (e, p))) = absurd (cc)
+right_done old new lines right done (inr (inr (e, p))) = absurd (cc)
+
+-- what was printed before a copy was begun
+pub PrintsCopied-before : (copy : Option Settings) (m : List (List ℕ × List ℕ)) (old new : Option (List ℕ)) (lines : List (List ℕ)) (right end : Result (Unit {0}) Ending)
+    → Prints old new lines right end → PrintsCopied copy m old new lines right end
+PrintsCopied-before None m old new lines right end p = p
+PrintsCopied-before (Some settings) m old new lines right end p =
+    (None, tt, subst (λ (r : Result (Unit {0}) Ending). Prints old new lines r end) (sym (end_copied-none right)) p)
+
+-- all is done, and there is no copy for this reason
+uncopied : (settings : Settings) (m : List (List ℕ × List ℕ)) (old new : Option (List ℕ)) (lines : List (List ℕ)) (right : Result (Unit {0}) Ending) (done : Unit {0}) → Ok done ≡ right
+    → Appends old new (flat lines) → (early : Ending) → IsCopyEnd settings m early → PrintsCopied (Some settings) m old new lines right (Err early)
+uncopied settings m old new lines right done is a early (inl (fault, e, why)) =
+    (Some fault, why, inl (ap (λ (x : Ending). Err x) e ∙ ap (end_copied (Some fault)) is, a))
+uncopied settings m old new lines right done is a early (inr (inl e)) =
+    (None, tt, inr (inl (ap (λ (x : Ending). Err x) e, (lines, front-whole lines, a))))
+uncopied settings m old new lines right done is a early (inr (inr e)) =
+    (None, tt, inr (inr (ap (λ (x : Ending). Err x) e, (flat lines, front-whole (flat lines), a))))
+
+-- all is done, and then there is the copy, or there is none
+pub PrintsCopied-after : (copy : Option Settings) (m : List (List ℕ × List ℕ)) (old new : Option (List ℕ)) (lines : List (List ℕ)) (right : Result (Unit {0}) Ending) (done : Unit {0})
+    (end : Result (Unit {0}) Ending) → Prints old new lines right (Ok done) → CopiesTo copy m end → PrintsCopied copy m old new lines right end
+PrintsCopied-after None m old new lines right done end p e = subst (λ (r : Result (Unit {0}) Ending). Prints old new lines right r) (sym e) p
+PrintsCopied-after (Some settings) m old new lines right done (Ok all) p e = PrintsCopied-before (Some settings) m old new lines right (Ok all) p
+PrintsCopied-after (Some settings) m old new lines right done (Err early) p e =
+    uncopied settings m old new lines right done (right_done old new lines right done p) (Prints-all old new lines right done p) early e
+
+-- what a session leaves whose answers were handed on so: it ended early; or all is done, and then there is a copy of this map, or there is none
+abbrev pub IsLeft : Option Settings → List (List ℕ × List ℕ) → Result (Unit {0}) Ending → Result (Unit {0}) Ending → Type 0
+IsLeft copy held (Ok done) end = CopiesTo copy held end
+IsLeft copy held (Err early) end = end ≡ Err early
+
+pub PrintsCopied-left : (copy : Option Settings) (m held : List (List ℕ × List ℕ)) (old new : Option (List ℕ)) (lines : List (List ℕ)) (right flushed end : Result (Unit {0}) Ending)
+    → Prints old new lines right flushed → OnOk flushed (held ≡ m) → IsLeft copy held flushed end → PrintsCopied copy m old new lines right end
+PrintsCopied-left copy m held old new lines right (Ok done) end p same copies =
+    PrintsCopied-after copy m old new lines right done end p (subst (λ (map : List (List ℕ × List ℕ)). CopiesTo copy map end) same copies)
+PrintsCopied-left copy m held old new lines right (Err early) end p same e =
+    PrintsCopied-before copy m old new lines right end (subst (λ (r : Result (Unit {0}) Ending). Prints old new lines right r) (sym e) p)
+
+-- nothing was appended first
+pub PrintsCopied-asked : (copy : Option Settings) (m : List (List ℕ × List ℕ)) (old mid new : Option (List ℕ)) → Appends old mid [] → (lines : List (List ℕ)) (right end : Result (Unit {0}) Ending)
+    → PrintsCopied copy m mid new lines right end → PrintsCopied copy m old new lines right end
+PrintsCopied-asked None m old mid new asked lines right end p = Prints-asked old mid new asked lines right end p
+PrintsCopied-asked (Some settings) m old mid new asked lines right end (refused, why, p) = (refused, why, Prints-asked old mid new asked lines (end_copied refused right) end p)
+
+-- the same is printed without the copy, and the end is that, or comes after all is done
+pub PrintsCopied-plain : (copy : Option Settings) (m : List (List ℕ × List ℕ)) (old new : Option (List ℕ)) (lines : List (List ℕ)) (right end : Result (Unit {0}) Ending)
+    → PrintsCopied copy m old new lines right end → (plain : Result (Unit {0}) Ending) × Prints old new lines right plain × IsEndAfter plain end
+PrintsCopied-plain None m old new lines right end p = (end, p, inl refl)
+PrintsCopied-plain (Some settings) m old new lines right end (refused, why, inr p) = (end, inr p, inl refl)
+PrintsCopied-plain (Some settings) m old new lines right end (refused, why, inl (e, a)) = by right refused refl e
+  where
+    by : (r : Result (Unit {0}) Ending) (f : Option Fault) → r ≡ right → end ≡ end_copied f r → (plain : Result (Unit {0}) Ending) × Prints old new lines right plain × IsEndAfter plain end
+    by (Err early) f is e = (Err early, inl (is, a), inl e)
+    by (Ok done) None is e = (Ok done, inl (is, a), inl e)
+    by (Ok done) (Some fault) is e = (Ok done, inl (is, a), inr (refl, (fault, e)))
+
+-- an end that no copy has
+pub PrintsCopied-other : (copy : Option Settings) (m : List (List ℕ × List ℕ)) (old new : Option (List ℕ)) (lines : List (List ℕ)) (right end : Result (Unit {0}) Ending)
+    → ((fault : Fault) → end ≡ Err (endings.Fault fault) → ⊥) → PrintsCopied copy m old new lines right end → Prints old new lines right end
+PrintsCopied-other copy m old new lines right end other p = by (PrintsCopied-plain copy m old new lines right end p)
+  where
+    by : (plain : Result (Unit {0}) Ending) × Prints old new lines right plain × IsEndAfter plain end → Prints old new lines right end
+    by (plain, q, inl e) = subst (λ (r : Result (Unit {0}) Ending). Prints old new lines right r) (sym e) q
+    by (plain, q, inr (done, (fault, e))) = absurd (other fault e)
+
+-- whatever the end, what was printed is a front of the lines' text
+pub PrintsCopied-front : (copy : Option Settings) (m : List (List ℕ × List ℕ)) (old new : Option (List ℕ)) (lines : List (List ℕ)) (right end : Result (Unit {0}) Ending)
+    → PrintsCopied copy m old new lines right end → (front : List ℕ) × BeginsWith (flat lines) front × Appends old new front
+PrintsCopied-front None m old new lines right end p = Prints-front old new lines right end p
+PrintsCopied-front (Some settings) m old new lines right end (refused, why, p) = Prints-front old new lines (end_copied refused right) end p
 
 -- ---- the lines of replies
 

@@ -1,5 +1,5 @@
 -- Lemmas on the cleans that make room for flushes.
-use Rattle.std.proofs.Common.{◌≡◌, ◌≢◌, ◌⊎◌, ◌&&◌, ◌-◌, not, inl, inr, ℕ, zero, suc, Bool, true, false, List, [], ◌∷◌, ◌++◌, Option, Some, None, Result, Ok, Err, refl, sym, ap, ◌∙◌, subst, append-nil, arith}
+use Rattle.std.proofs.Common.{◌≡◌, ◌≢◌, ◌⊎◌, ◌&&◌, ◌-◌, not, inl, inr, ℕ, zero, suc, Bool, true, false, List, [], ◌∷◌, ◌++◌, Option, Some, None, Result, Ok, Err, refl, sym, ap, ◌∙◌, subst, arith}
 use Rattle.std.specs.Prelude.{filter, IsTrue}
 use Rattle.std.specs.Io.KnownBytes.{Appends}
 use Rattle.std.specs.List.{AllByRecursion, flat_map}
@@ -17,8 +17,9 @@ use Rattle.mapping.specs.Levels.{contents}
 use Rattle.bwsh.specs.declared.session.Ending.{Ending}
 use Rattle.bwsh.specs.declared.session.Ending.TheVariants.{Device}
 use Rattle.bwsh.specs.declared.session.Ending.TheVariants as endings
-use Rattle.bwsh.specs.Session.{BeginsWith, Prints, Reads, Runs, RunsFirst, RunsOn, RunsOrder, behind, flush_with_room, is_clean, is_full, later, own_lines, refusal_of, wants_clean, with_cleans}
-use Rattle.bwsh.proofs.BytesLemmas.{behind-same}
+use Rattle.bwsh.specs.declared.options.asked.Ways.{Ways}
+use Rattle.bwsh.specs.Session.{BeginsWith, Prints, Reads, Runs, RunsFirst, RunsOn, RunsOrder, Seen, after_order, flush_with_room, is_clean, is_full, later, map_after, own_lines, refusal_of, wants_clean, with_cleans}
+use Rattle.bwsh.proofs.BytesLemmas.{refusal-same}
 use Rattle.bwsh.proofs.FirstLemmas.{Leavable, RunsBy, RunsBy-asked, RunsBy-cut, RunsBy-goes_on, RunsBy-stops, RunsOrder-same, leave, leave_flush}
 use Rattle.bwsh.proofs.RunLemmas.{IsCut, first_shown}
 
@@ -26,14 +27,14 @@ use Rattle.bwsh.proofs.RunLemmas.{IsCut, first_shown}
 module _ {X : Type 0} (of : List Order → X) (skips : (orders : List Order) → of (Clean ∷ orders) ≡ of orders) (settings : Settings) where
   room_by : (next : Store → Reads → List Order) (all : X) → ((st : Store) (shown : Reads) → of (Flush ∷ next st shown) ≡ all)
       → (most : ℕ) (st : Store) (shown : Reads) → of (flush_with_room most settings st shown next) ≡ all
-  room_by next all same zero st shown = same (behind settings st (shown 0) Flush).0 (later shown)
+  room_by next all same zero st shown = same (after_order settings st (shown 0) Flush).0 (later shown)
   room_by next all same (suc most) st shown =
-      go (wants_clean settings st (shown 0)) refl (room_by next all same most (behind settings st (shown 0) Clean).0 (later shown))
+      go (wants_clean settings st (shown 0)) refl (room_by next all same most (after_order settings st (shown 0) Clean).0 (later shown))
     where
-      go : (b : Bool) → wants_clean settings st (shown 0) ≡ b → of (flush_with_room most settings (behind settings st (shown 0) Clean).0 (later shown) next) ≡ all
+      go : (b : Bool) → wants_clean settings st (shown 0) ≡ b → of (flush_with_room most settings (after_order settings st (shown 0) Clean).0 (later shown) next) ≡ all
           → of (flush_with_room (suc most) settings st shown next) ≡ all
       go true is further_on = rw is (skips _ ∙ further_on)
-      go false is further_on = rw is (same (behind settings st (shown 0) Flush).0 (later shown))
+      go false is further_on = rw is (same (after_order settings st (shown 0) Flush).0 (later shown))
 
 -- the commands are those of the orders
 pub commands-with_cleans : (settings : Settings) (st : Store) (shown : Reads) (orders : List Order)
@@ -43,11 +44,11 @@ commands-with_cleans settings st shown (Flush ∷ rest) =
     room_by (flat_map commands_of) (λ orders. refl) settings (λ now after. with_cleans settings now after rest) (flat_map commands_of rest)
     (λ now after. commands-with_cleans settings now after rest) settings.segments st shown
 commands-with_cleans settings st shown (Batch cs ∷ rest) =
-    ap (λ (l : List (Command Global)). cs ++ l) (commands-with_cleans settings (behind settings st (shown 0) (Batch cs)).0 (later shown) rest)
-commands-with_cleans settings st shown (Clean ∷ rest) = commands-with_cleans settings (behind settings st (shown 0) Clean).0 (later shown) rest
-commands-with_cleans settings st shown (Upgrade ∷ rest) = commands-with_cleans settings (behind settings st (shown 0) Upgrade).0 (later shown) rest
-commands-with_cleans settings st shown (Verify ∷ rest) = commands-with_cleans settings (behind settings st (shown 0) Verify).0 (later shown) rest
-commands-with_cleans settings st shown (Numbers ∷ rest) = commands-with_cleans settings (behind settings st (shown 0) Numbers).0 (later shown) rest
+    ap (λ (l : List (Command Global)). cs ++ l) (commands-with_cleans settings (after_order settings st (shown 0) (Batch cs)).0 (later shown) rest)
+commands-with_cleans settings st shown (Clean ∷ rest) = commands-with_cleans settings (after_order settings st (shown 0) Clean).0 (later shown) rest
+commands-with_cleans settings st shown (Upgrade ∷ rest) = commands-with_cleans settings (after_order settings st (shown 0) Upgrade).0 (later shown) rest
+commands-with_cleans settings st shown (Verify ∷ rest) = commands-with_cleans settings (after_order settings st (shown 0) Verify).0 (later shown) rest
+commands-with_cleans settings st shown (Numbers ∷ rest) = commands-with_cleans settings (after_order settings st (shown 0) Numbers).0 (later shown) rest
 
 -- without the cleans they are the orders
 pub others-with_cleans : (settings : Settings) (st : Store) (shown : Reads) (orders : List Order) → AllByRecursion IsNoClean orders
@@ -58,33 +59,47 @@ others-with_cleans settings st shown (Flush ∷ rest) none =
     (λ now after. ap (λ (os : List Order). Flush ∷ os) (others-with_cleans settings now after rest none.1)) settings.segments st shown
 others-with_cleans settings st shown (Clean ∷ rest) none = absurd none.0
 others-with_cleans settings st shown (Batch cs ∷ rest) none =
-    ap (λ (os : List Order). Batch cs ∷ os) (others-with_cleans settings (behind settings st (shown 0) (Batch cs)).0 (later shown) rest none.1)
+    ap (λ (os : List Order). Batch cs ∷ os) (others-with_cleans settings (after_order settings st (shown 0) (Batch cs)).0 (later shown) rest none.1)
 others-with_cleans settings st shown (Upgrade ∷ rest) none =
-    ap (λ (os : List Order). Upgrade ∷ os) (others-with_cleans settings (behind settings st (shown 0) Upgrade).0 (later shown) rest none.1)
+    ap (λ (os : List Order). Upgrade ∷ os) (others-with_cleans settings (after_order settings st (shown 0) Upgrade).0 (later shown) rest none.1)
 others-with_cleans settings st shown (Verify ∷ rest) none =
-    ap (λ (os : List Order). Verify ∷ os) (others-with_cleans settings (behind settings st (shown 0) Verify).0 (later shown) rest none.1)
+    ap (λ (os : List Order). Verify ∷ os) (others-with_cleans settings (after_order settings st (shown 0) Verify).0 (later shown) rest none.1)
 others-with_cleans settings st shown (Numbers ∷ rest) none =
-    ap (λ (os : List Order). Numbers ∷ os) (others-with_cleans settings (behind settings st (shown 0) Numbers).0 (later shown) rest none.1)
+    ap (λ (os : List Order). Numbers ∷ os) (others-with_cleans settings (after_order settings st (shown 0) Numbers).0 (later shown) rest none.1)
 
 -- ---- a flush that makes itself room
 
 -- what comes after it
-abbrev pub behind_flush : Settings → List Order → Store → Reads → List Order
-behind_flush settings rest now after = with_cleans settings now after rest
+abbrev pub orders_after_flush : Settings → List Order → Store → Reads → List Order
+orders_after_flush settings rest now after = with_cleans settings now after rest
+
+-- in the same ways, and flushes make themselves room
+abbrev pub roomy : Ways → Ways
+roomy ways = record ways { clean_when_full = true }
+
+roomy_is : (ways : Ways) → ways.clean_when_full ≡ true → roomy ways ≡ ways
+roomy_is ways full = ap (λ (b : Bool). record ways { clean_when_full = b }) (sym full)
+
+-- what is so where flushes make themselves room is so in ways in which they do
+pub as_roomy : (ways : Ways) → ways.clean_when_full ≡ true → (honest : Bool) (settings : Settings) (st : Store) (left : List ℕ) (old new : Option (List ℕ))
+    (end : Result (Unit {0}) Ending) (now : Store) (bytes : List ℕ) → RunsFirst (roomy ways) honest settings st left (Flush ∷ []) old new end now bytes
+    → RunsFirst ways honest settings st left (Flush ∷ []) old new end now bytes
+as_roomy ways full honest settings st left old new end now bytes p =
+    subst (λ (w : Ways). RunsFirst w honest settings st left (Flush ∷ []) old new end now bytes) (roomy_is ways full) p
 
 -- a flush with this number of cleans before it at most, of which nothing is done yet, prints after what stands there is, after what stood there
 -- first, what a flush does that makes itself room
-abbrev pub LeadsRoom : Bool → Settings → Store → List ℕ → Option (List ℕ) → ℕ → Store → List ℕ → Option (List ℕ) → Type 0
-LeadsRoom honest settings first file old most st seen now =
+abbrev pub LeadsRoom : Ways → Bool → Settings → Store → List ℕ → Option (List ℕ) → ℕ → Store → List ℕ → Option (List ℕ) → Type 0
+LeadsRoom ways honest settings first file old most st seen now =
     (rest : List Order) (new : Option (List ℕ)) (end : Result (Unit {0}) Ending)
-    → RunsBy honest settings st seen (λ shown. flush_with_room most settings st shown (behind_flush settings rest)) now new end
-    → RunsOn true honest settings first file (Flush ∷ rest) old new end
+    → RunsBy ways honest settings st seen (λ shown. flush_with_room most settings st shown (orders_after_flush settings rest)) now new end
+    → RunsOn (roomy ways) honest settings first file (Flush ∷ rest) old new end
 
-pub LeadsRoom-first : (honest : Bool) (settings : Settings) (st : Store) (seen : List ℕ) (old : Option (List ℕ)) → LeadsRoom honest settings st seen old settings.segments st seen old
-LeadsRoom-first honest settings st seen old rest new end p = p
+pub LeadsRoom-first : (ways : Ways) (honest : Bool) (settings : Settings) (st : Store) (seen : List ℕ) (old : Option (List ℕ)) → LeadsRoom ways honest settings st seen old settings.segments st seen old
+LeadsRoom-first ways honest settings st seen old rest new end p = p
 
-leavable_room : (settings : Settings) (rest : List Order) (most : ℕ) → Leavable settings (λ s shown. flush_with_room most settings s shown (behind_flush settings rest))
-leavable_room settings rest most = leave_flush settings (behind_flush settings rest) (leave true settings rest) most
+leavable_room : (settings : Settings) (rest : List Order) (most : ℕ) → Leavable settings (λ s shown. flush_with_room most settings s shown (orders_after_flush settings rest))
+leavable_room settings rest most = leave_flush settings (orders_after_flush settings rest) (leave true settings rest) most
 
 -- an order alone that ends early: by its right, with nothing printed, or for want of memory or since a device failed
 data Early (now new : Option (List ℕ)) (r : Option Fault) (early : Ending) : Type 0 where
@@ -120,7 +135,7 @@ early_of_some now new fault early (inr (inl (e, (front, begins, a)))) =
 early_of_some now new fault early (inr (inr (e, (front, begins, a)))) =
     refused_cut fault refl (inr (same_ending early Device e)) (subst (Appends now new) (nothing_front front begins) a)
 
-early_by : (settings : Settings) (st : Store) (file : List ℕ) (order : Order) (now new : Option (List ℕ)) (early : Ending) (r : Option Fault) → refusal_of settings st file order ≡ r
+early_by : (settings : Settings) (st : Store) (file : Seen) (order : Order) (now new : Option (List ℕ)) (early : Ending) (r : Option Fault) → refusal_of settings st file order ≡ r
     → Runs settings st (λ i. file) (order ∷ []) now new (Err early) → Early now new r early
 unfolding Runs
 early_by settings st file order now new early None none p =
@@ -131,33 +146,34 @@ early_by settings st file order now new early (Some fault) some p =
     early_of_some now new fault early own
 
 -- whether the flush wants a clean is known by why it and a clean are refused
-module _ (settings : Settings) (st : Store) (file : List ℕ) where
+module _ (settings : Settings) (st : Store) (file : Seen) where
   wants_by : (r q : Option Fault) → refusal_of settings st file Flush ≡ r → refusal_of settings st file Clean ≡ q → wants_clean settings st file ≡ is_full r && not (is_clean q)
   wants_by r q is_r is_q = rw (is_r, is_q) refl
 
   room_wanted : (most : ℕ) (next : Store → Reads → List Order) → wants_clean settings st file ≡ true → (shown : Reads)
-      → flush_with_room (suc most) settings st (first_shown file shown) next ≡ Clean ∷ flush_with_room most settings (behind settings st file Clean).0 shown next
+      → flush_with_room (suc most) settings st (first_shown file shown) next ≡ Clean ∷ flush_with_room most settings (after_order settings st file Clean).0 shown next
   room_wanted most next wants shown = rw wants refl
 
   room_made : (most : ℕ) (next : Store → Reads → List Order) → wants_clean settings st file ≡ false → (shown : Reads)
-      → flush_with_room most settings st (first_shown file shown) next ≡ Flush ∷ next (behind settings st file Flush).0 shown
+      → flush_with_room most settings st (first_shown file shown) next ≡ Flush ∷ next (after_order settings st file Flush).0 shown
   room_made zero next wants shown = refl
   room_made (suc most) next wants shown = rw wants refl
 
--- the log was full for a flush, of whichever bytes
-pub full_alike : (settings : Settings) (st : Store) (f g : List ℕ) → refusal_of settings st f Flush ≡ Some Full → refusal_of settings st g Flush ≡ Some Full
-full_alike settings st f g full = sym (behind-same settings st f g Flush tt).1 ∙ full
+-- the log was full for a flush, whatever is seen
+pub full_alike : (settings : Settings) (st : Store) (f g : Seen) → refusal_of settings st f Flush ≡ Some Full → refusal_of settings st g Flush ≡ Some Full
+unfolding refusal_of
+full_alike settings st f g full = sym (refusal-same settings st f.bytes g.bytes Flush tt) ∙ full
 
 -- a flush that is refused so alone
-full_alone : (settings : Settings) (st : Store) (file : List ℕ) (now new : Option (List ℕ)) → refusal_of settings st file Flush ≡ Some Full → Appends now new []
+full_alone : (settings : Settings) (st : Store) (file : Seen) (now new : Option (List ℕ)) → refusal_of settings st file Flush ≡ Some Full → Appends now new []
     → Runs settings st (λ i. file) (Flush ∷ []) now new (Err (endings.Fault Full))
 unfolding Runs
 full_alone settings st file now new full a = rw full (inl (refl, a))
 
 -- a flush that ends since the log is full is refused for that, and prints nothing
-pub is_refused_full : (honest : Bool) (settings : Settings) (st : Store) (seen : List ℕ) (now new : Option (List ℕ)) (after : Store) (bytes : List ℕ)
-    → (one : RunsOrder honest settings st seen Flush now new (Err (endings.Fault Full)) after bytes) → (refusal_of settings st one.0 Flush ≡ Some Full) × Appends now new []
-is_refused_full honest settings st seen now new after bytes (file, is, runs, none) =
+pub is_refused_full : (ways : Ways) (honest : Bool) (settings : Settings) (st : Store) (seen : List ℕ) (now new : Option (List ℕ)) (after : Store) (bytes : List ℕ)
+    → (one : RunsOrder ways honest settings st seen Flush now new (Err (endings.Fault Full)) after bytes) → (refusal_of settings st one.0 Flush ≡ Some Full) × Appends now new []
+is_refused_full ways honest settings st seen now new after bytes (file, is, runs, none) =
     by (refusal_of settings st file Flush) refl (early_by settings st file Flush now new (endings.Fault Full) (refusal_of settings st file Flush) refl runs)
   where
     by : (r : Option Fault) → refusal_of settings st file Flush ≡ r → Early now new r (endings.Fault Full) → (refusal_of settings st file Flush ≡ Some Full) × Appends now new []
@@ -167,18 +183,18 @@ is_refused_full honest settings st seen now new after bytes (file, is, runs, non
     by r is_r (cut none (inl e)) = absurd (cc)
     by r is_r (cut none (inr e)) = absurd (cc)
 
-module _ (honest : Bool) (settings : Settings) (first : Store) (file : List ℕ) (old : Option (List ℕ)) (most : ℕ) (st : Store) (seen : List ℕ) (now : Option (List ℕ))
-    (leads : LeadsRoom honest settings first file old most st seen now) where
+module _ (ways : Ways) (honest : Bool) (settings : Settings) (first : Store) (file : List ℕ) (old : Option (List ℕ)) (most : ℕ) (st : Store) (seen : List ℕ) (now : Option (List ℕ))
+    (leads : LeadsRoom ways honest settings first file old most st seen now) where
   -- the flush is answered, or refused for another reason than that the log is full; or nothing may be cleaned any more
   pub LeadsRoom-ends : (new : Option (List ℕ)) (end : Result (Unit {0}) Ending) (after : Store) (bytes : List ℕ) → (most ≡ 0) ⊎ (end ≢ Err (endings.Fault Full))
-      → RunsOrder honest settings st seen Flush now new end after bytes → RunsFirst true honest settings first file (Flush ∷ []) old new end after bytes
+      → RunsOrder ways honest settings st seen Flush now new end after bytes → RunsFirst (roomy ways) honest settings first file (Flush ∷ []) old new end after bytes
   LeadsRoom-ends new (Ok done) after bytes why (of, is, runs, leaves) = λ rest last ended q.
-      leads rest last ended (RunsBy-goes_on honest settings st seen Flush now new after bytes (λ shown. flush_with_room most settings st shown (behind_flush settings rest)) (behind_flush settings rest)
-      done (of, is, runs, leaves) (room_made settings st of most (behind_flush settings rest) (wants_by settings st of None (refusal_of settings st of Clean) leaves.unrefused refl)) last ended q)
+      leads rest last ended (RunsBy-goes_on ways honest settings st seen Flush now new after bytes (λ shown. flush_with_room most settings st shown (orders_after_flush settings rest)) (orders_after_flush settings rest)
+      done (of, is, runs, leaves) (room_made settings st of most (orders_after_flush settings rest) (wants_by settings st of None (refusal_of settings st of Clean) leaves.unrefused refl)) last ended q)
   LeadsRoom-ends new (Err early) after bytes (inl none_left) one = λ rest.
-      leads rest new (Err early) (RunsBy-stops honest settings st seen Flush now new after bytes (λ shown. flush_with_room most settings st shown (behind_flush settings rest)) (behind_flush settings rest)
+      leads rest new (Err early) (RunsBy-stops ways honest settings st seen Flush now new after bytes (λ shown. flush_with_room most settings st shown (orders_after_flush settings rest)) (orders_after_flush settings rest)
       (leave true settings rest) early one
-      (subst (λ (n : ℕ). (shown : Reads) → flush_with_room n settings st (first_shown one.0 shown) (behind_flush settings rest) ≡ Flush ∷ behind_flush settings rest (behind settings st one.0 Flush).0 shown)
+      (subst (λ (n : ℕ). (shown : Reads) → flush_with_room n settings st (first_shown one.0 shown) (orders_after_flush settings rest) ≡ Flush ∷ orders_after_flush settings rest (after_order settings st one.0 Flush).0 shown)
       (sym none_left) (λ shown. refl)))
   LeadsRoom-ends new (Err early) after bytes (inr other) (of, is, runs, none) = λ rest. leads rest new (Err early) (by rest (wants_clean settings st of) refl) where
     full_of : (r : Option Fault) → is_full r ≡ true → r ≡ Some Full
@@ -198,32 +214,32 @@ module _ (honest : Bool) (settings : Settings) (first : Store) (file : List ℕ)
     cut_off (refused_cut fault some how a) = (how, a)
     cut_off (cut unrefused how) = absurd (cc)
 
-    by : (rest : List Order) (b : Bool) → wants_clean settings st of ≡ b → RunsBy honest settings st seen (λ shown. flush_with_room most settings st shown (behind_flush settings rest)) now new (Err early)
+    by : (rest : List Order) (b : Bool) → wants_clean settings st of ≡ b → RunsBy ways honest settings st seen (λ shown. flush_with_room most settings st shown (orders_after_flush settings rest)) now new (Err early)
     by rest false wants =
-        RunsBy-stops honest settings st seen Flush now new after bytes (λ shown. flush_with_room most settings st shown (behind_flush settings rest)) (behind_flush settings rest)
-        (leave true settings rest) early (of, is, runs, none) (room_made settings st of most (behind_flush settings rest) wants)
+        RunsBy-stops ways honest settings st seen Flush now new after bytes (λ shown. flush_with_room most settings st shown (orders_after_flush settings rest)) (orders_after_flush settings rest)
+        (leave true settings rest) early (of, is, runs, none) (room_made settings st of most (orders_after_flush settings rest) wants)
     by rest true wants =
         let full = full_of (refusal_of settings st of Flush) (both_true _ _ wants) in
         let (how, a) = cut_off (early_by settings st of Flush now new early (Some Full) full runs) in
-        RunsBy-cut honest settings st seen (λ s shown. flush_with_room most settings s shown (behind_flush settings rest)) (leavable_room settings rest most) now new a early how
+        RunsBy-cut ways honest settings st seen (λ s shown. flush_with_room most settings s shown (orders_after_flush settings rest)) (leavable_room settings rest most) now new a early how
 
-module _ (honest : Bool) (settings : Settings) (first : Store) (file : List ℕ) (old : Option (List ℕ)) (most : ℕ) (st : Store) (seen : List ℕ) (now mid : Option (List ℕ))
-    (leads : LeadsRoom honest settings first file old (suc most) st seen now) (nothing : Appends now mid []) (of : List ℕ) (full : refusal_of settings st of Flush ≡ Some Full)
+module _ (ways : Ways) (honest : Bool) (settings : Settings) (first : Store) (file : List ℕ) (old : Option (List ℕ)) (most : ℕ) (st : Store) (seen : List ℕ) (now mid : Option (List ℕ))
+    (leads : LeadsRoom ways honest settings first file old (suc most) st seen now) (nothing : Appends now mid []) (of : Seen) (full : refusal_of settings st of Flush ≡ Some Full)
     (new : Option (List ℕ)) (after : Store) (bytes : List ℕ) where
   -- a clean is done
-  pub LeadsRoom-cleaned : (done : Unit {0}) → RunsOrder honest settings st seen Clean mid new (Ok done) after bytes → LeadsRoom honest settings first file old most after bytes new
+  pub LeadsRoom-cleaned : (done : Unit {0}) → RunsOrder ways honest settings st seen Clean mid new (Ok done) after bytes → LeadsRoom ways honest settings first file old most after bytes new
   LeadsRoom-cleaned done (at, is, runs, leaves) rest last end q =
-      leads rest last end (RunsBy-asked honest settings st seen (λ shown. flush_with_room (suc most) settings st shown (behind_flush settings rest)) now mid last nothing end
-      (RunsBy-goes_on honest settings st seen Clean mid new after bytes (λ shown. flush_with_room (suc most) settings st shown (behind_flush settings rest))
-      (λ s shown. flush_with_room most settings s shown (behind_flush settings rest)) done (at, is, runs, leaves)
-      (room_wanted settings st at most (behind_flush settings rest)
+      leads rest last end (RunsBy-asked ways honest settings st seen (λ shown. flush_with_room (suc most) settings st shown (orders_after_flush settings rest)) now mid last nothing end
+      (RunsBy-goes_on ways honest settings st seen Clean mid new after bytes (λ shown. flush_with_room (suc most) settings st shown (orders_after_flush settings rest))
+      (λ s shown. flush_with_room most settings s shown (orders_after_flush settings rest)) done (at, is, runs, leaves)
+      (room_wanted settings st at most (orders_after_flush settings rest)
       (wants_by settings st at (Some Full) None (full_alike settings st of at full) leaves.unrefused)) last end q))
 
   -- it is refused
   pub LeadsRoom-refused : (early result : Ending) → ((early ≡ endings.Fault NothingToClean) × (result ≡ endings.Fault Full)) ⊎ ((early ≢ endings.Fault NothingToClean) × (result ≡ early))
-      → RunsOrder honest settings st seen Clean mid new (Err early) after bytes → RunsFirst true honest settings first file (Flush ∷ []) old new (Err result) after bytes
+      → RunsOrder ways honest settings st seen Clean mid new (Err early) after bytes → RunsFirst (roomy ways) honest settings first file (Flush ∷ []) old new (Err result) after bytes
   LeadsRoom-refused early result want (at, is, runs, none) = λ rest.
-      leads rest new (Err result) (RunsBy-asked honest settings st seen (λ shown. flush_with_room (suc most) settings st shown (behind_flush settings rest)) now mid new nothing (Err result)
+      leads rest new (Err result) (RunsBy-asked ways honest settings st seen (λ shown. flush_with_room (suc most) settings st shown (orders_after_flush settings rest)) now mid new nothing (Err result)
       (by rest (refusal_of settings st at Clean) refl (early_by settings st at Clean mid new early (refusal_of settings st at Clean) refl runs) want))
     where
       full_here : refusal_of settings st at Flush ≡ Some Full
@@ -231,22 +247,22 @@ module _ (honest : Bool) (settings : Settings) (first : Store) (file : List ℕ)
 
       -- the clean stands in front, and is refused so
       stops : (rest : List Order) → wants_clean settings st at ≡ true
-          → RunsBy honest settings st seen (λ shown. flush_with_room (suc most) settings st shown (behind_flush settings rest)) mid new (Err early)
+          → RunsBy ways honest settings st seen (λ shown. flush_with_room (suc most) settings st shown (orders_after_flush settings rest)) mid new (Err early)
       stops rest wants =
-          RunsBy-stops honest settings st seen Clean mid new after bytes (λ shown. flush_with_room (suc most) settings st shown (behind_flush settings rest))
-          (λ s shown. flush_with_room most settings s shown (behind_flush settings rest)) (leavable_room settings rest most) early (at, is, runs, none)
-          (room_wanted settings st at most (behind_flush settings rest) wants)
+          RunsBy-stops ways honest settings st seen Clean mid new after bytes (λ shown. flush_with_room (suc most) settings st shown (orders_after_flush settings rest))
+          (λ s shown. flush_with_room most settings s shown (orders_after_flush settings rest)) (leavable_room settings rest most) early (at, is, runs, none)
+          (room_wanted settings st at most (orders_after_flush settings rest) wants)
 
-      as_is : (rest : List Order) → result ≡ early → RunsBy honest settings st seen (λ shown. flush_with_room (suc most) settings st shown (behind_flush settings rest)) mid new (Err early)
-          → RunsBy honest settings st seen (λ shown. flush_with_room (suc most) settings st shown (behind_flush settings rest)) mid new (Err result)
-      as_is rest same p = subst (λ (x : Ending). RunsBy honest settings st seen (λ shown. flush_with_room (suc most) settings st shown (behind_flush settings rest)) mid new (Err x)) (sym same) p
+      as_is : (rest : List Order) → result ≡ early → RunsBy ways honest settings st seen (λ shown. flush_with_room (suc most) settings st shown (orders_after_flush settings rest)) mid new (Err early)
+          → RunsBy ways honest settings st seen (λ shown. flush_with_room (suc most) settings st shown (orders_after_flush settings rest)) mid new (Err result)
+      as_is rest same p = subst (λ (x : Ending). RunsBy ways honest settings st seen (λ shown. flush_with_room (suc most) settings st shown (orders_after_flush settings rest)) mid new (Err x)) (sym same) p
 
       -- the flush stands in front, and the log is full for it
       flush_stops : (rest : List Order) → wants_clean settings st at ≡ false → Appends mid new []
-          → RunsBy honest settings st seen (λ shown. flush_with_room (suc most) settings st shown (behind_flush settings rest)) mid new (Err (endings.Fault Full))
+          → RunsBy ways honest settings st seen (λ shown. flush_with_room (suc most) settings st shown (orders_after_flush settings rest)) mid new (Err (endings.Fault Full))
       flush_stops rest wants a =
-          RunsBy-stops honest settings st seen Flush mid new after bytes (λ shown. flush_with_room (suc most) settings st shown (behind_flush settings rest)) (behind_flush settings rest)
-          (leave true settings rest) (endings.Fault Full) (at, is, full_alone settings st at mid new full_here a, tt) (room_made settings st at (suc most) (behind_flush settings rest) wants)
+          RunsBy-stops ways honest settings st seen Flush mid new after bytes (λ shown. flush_with_room (suc most) settings st shown (orders_after_flush settings rest)) (orders_after_flush settings rest)
+          (leave true settings rest) (endings.Fault Full) (at, is, full_alone settings st at mid new full_here a, tt) (room_made settings st at (suc most) (orders_after_flush settings rest) wants)
 
       wanted : (fault : Fault) → fault ≢ NothingToClean → (is_full (Some Full) && not (is_clean (Some fault))) ≡ true
       wanted NothingToClean other = absurd (other refl)
@@ -262,22 +278,22 @@ module _ (honest : Bool) (settings : Settings) (first : Store) (file : List ℕ)
 
       by : (rest : List Order) (r : Option Fault) → refusal_of settings st at Clean ≡ r → Early mid new r early
           → ((early ≡ endings.Fault NothingToClean) × (result ≡ endings.Fault Full)) ⊎ ((early ≢ endings.Fault NothingToClean) × (result ≡ early))
-          → RunsBy honest settings st seen (λ shown. flush_with_room (suc most) settings st shown (behind_flush settings rest)) mid new (Err result)
+          → RunsBy ways honest settings st seen (λ shown. flush_with_room (suc most) settings st shown (orders_after_flush settings rest)) mid new (Err result)
       by rest r is_r (cut unrefused how) w = as_is rest (kept how w) (stops rest (wants_by settings st at (Some Full) None full_here (is_r ∙ unrefused)))
       by rest r is_r (refused_cut fault some how a) w =
-          as_is rest (kept how w) (RunsBy-cut honest settings st seen (λ s shown. flush_with_room (suc most) settings s shown (behind_flush settings rest)) (leavable_room settings rest (suc most)) mid new a early how)
+          as_is rest (kept how w) (RunsBy-cut ways honest settings st seen (λ s shown. flush_with_room (suc most) settings s shown (orders_after_flush settings rest)) (leavable_room settings rest (suc most)) mid new a early how)
       by rest r is_r (by_right fault some e a) (inl (nothing_left, full_is)) =
           let same : fault ≡ NothingToClean = cc in
-          subst (λ (x : Ending). RunsBy honest settings st seen (λ shown. flush_with_room (suc most) settings st shown (behind_flush settings rest)) mid new (Err x)) (sym full_is)
+          subst (λ (x : Ending). RunsBy ways honest settings st seen (λ shown. flush_with_room (suc most) settings st shown (orders_after_flush settings rest)) mid new (Err x)) (sym full_is)
           (flush_stops rest (wants_by settings st at (Some Full) (Some NothingToClean) full_here (is_r ∙ some ∙ ap (λ (f : Fault). Some f) same)) a)
       by rest r is_r (by_right fault some e a) (inr (other, same)) =
           as_is rest same (stops rest (wants_by settings st at (Some Full) (Some fault) full_here (is_r ∙ some) ∙ wanted fault (λ (is_none : fault ≡ NothingToClean). other (e ∙ ap (λ (f : Fault). endings.Fault f) is_none))))
 
 -- an order's run is one of a disk that shows the same if it is honest, and of the same store
-RunsOrder-from : (honest : Bool) (settings : Settings) (st was : Store) (seen left : List ℕ) → was ≡ st → (IsTrue honest → left ≡ seen) → (order : Order) (old new : Option (List ℕ))
-    (end : Result (Unit {0}) Ending) (now : Store) (bytes : List ℕ) → RunsOrder honest settings was left order old new end now bytes → RunsOrder honest settings st seen order old new end now bytes
-RunsOrder-from honest settings st was seen left same shows order old new end now bytes (file, is, runs, leaves) =
-    subst (λ (s : Store). RunsOrder honest settings s seen order old new end now bytes) same (file, λ h. is h ∙ shows h, runs, leaves)
+RunsOrder-from : (ways : Ways) (honest : Bool) (settings : Settings) (st was : Store) (seen left : List ℕ) → was ≡ st → (IsTrue honest → left ≡ seen) → (order : Order) (old new : Option (List ℕ))
+    (end : Result (Unit {0}) Ending) (now : Store) (bytes : List ℕ) → RunsOrder ways honest settings was left order old new end now bytes → RunsOrder ways honest settings st seen order old new end now bytes
+RunsOrder-from ways honest settings st was seen left same shows order old new end now bytes (file, is, runs, leaves) =
+    subst (λ (s : Store). RunsOrder ways honest settings s seen order old new end now bytes) same (file, (is.0, λ h. is.1 h ∙ shows h), runs, leaves)
 
 -- a number that is not 0 is one more than another
 one_more : (n : ℕ) → n ≢ 0 → n ≡ suc (n - 1)
@@ -285,39 +301,48 @@ one_more zero some = absurd (some refl)
 one_more (suc n) some = omega arith
 
 -- a turn of the cleans: the flush, and a clean where the log is full for it
-module _ (honest : Bool) (settings : Settings) (first : Store) (file : List ℕ) (old : Option (List ℕ)) (left : ℕ) (st : Store) (seen : List ℕ) (now : Option (List ℕ))
-    (leads : LeadsRoom honest settings first file old left st seen now) (b : Bool) (b_is : b ≡ honest) (s : Settings) (s_is : s ≡ settings)
-    (mid : Option (List ℕ)) (end : Result (Unit {0}) Ending) (tried : Store) (shows : List ℕ) (flushed : RunsOrder b s st seen Flush now mid end tried shows) where
-  pub Room-ends : (left ≡ 0) ⊎ (end ≢ Err (endings.Fault Full)) → RunsFirst true honest settings first file (Flush ∷ []) old mid end tried shows
+module _ (ways : Ways) (honest : Bool) (settings : Settings) (first : Store) (file : List ℕ) (old : Option (List ℕ)) (left : ℕ) (st : Store) (seen : List ℕ) (now : Option (List ℕ))
+    (leads : LeadsRoom ways honest settings first file old left st seen now) (b : Bool) (b_is : b ≡ honest) (s : Settings) (s_is : s ≡ settings)
+    (mid : Option (List ℕ)) (end : Result (Unit {0}) Ending) (tried : Store) (shows : List ℕ) (flushed : RunsOrder ways b s st seen Flush now mid end tried shows) where
+  pub Room-ends : (left ≡ 0) ⊎ (end ≢ Err (endings.Fault Full)) → RunsFirst (roomy ways) honest settings first file (Flush ∷ []) old mid end tried shows
   Room-ends why =
-      LeadsRoom-ends honest settings first file old left st seen now leads mid end tried shows why (RunsOrder-same b honest s settings b_is s_is st seen Flush now mid end tried shows flushed)
+      LeadsRoom-ends ways honest settings first file old left st seen now leads mid end tried shows why (RunsOrder-same ways b honest s settings b_is s_is st seen Flush now mid end tried shows flushed)
 
   module _ (some : left ≢ 0) (full : end ≡ Err (endings.Fault Full)) (same : tried ≡ st) (unwritten : IsTrue b → shows ≡ seen) (c : Bool) (c_is : c ≡ b) (t : Settings) (t_is : t ≡ s)
-      (new : Option (List ℕ)) (ended : Result (Unit {0}) Ending) (after : Store) (bytes : List ℕ) (cleaned : RunsOrder c t tried shows Clean mid new ended after bytes) where
-    lower : LeadsRoom honest settings first file old (suc (left - 1)) st seen now
-    lower = subst (λ (n : ℕ). LeadsRoom honest settings first file old n st seen now) (one_more left some) leads
+      (new : Option (List ℕ)) (ended : Result (Unit {0}) Ending) (after : Store) (bytes : List ℕ) (cleaned : RunsOrder ways c t tried shows Clean mid new ended after bytes) where
+    lower : LeadsRoom ways honest settings first file old (suc (left - 1)) st seen now
+    lower = subst (λ (n : ℕ). LeadsRoom ways honest settings first file old n st seen now) (one_more left some) leads
 
-    own_flush : RunsOrder honest settings st seen Flush now mid (Err (endings.Fault Full)) tried shows
-    own_flush = subst (λ (e : Result (Unit {0}) Ending). RunsOrder honest settings st seen Flush now mid e tried shows) full
-        (RunsOrder-same b honest s settings b_is s_is st seen Flush now mid end tried shows flushed)
+    own_flush : RunsOrder ways honest settings st seen Flush now mid (Err (endings.Fault Full)) tried shows
+    own_flush = subst (λ (e : Result (Unit {0}) Ending). RunsOrder ways honest settings st seen Flush now mid e tried shows) full
+        (RunsOrder-same ways b honest s settings b_is s_is st seen Flush now mid end tried shows flushed)
 
-    own_clean : RunsOrder honest settings st seen Clean mid new ended after bytes
-    own_clean = RunsOrder-same b honest s settings b_is s_is st seen Clean mid new ended after bytes
-        (RunsOrder-from b s st tried seen shows same unwritten Clean mid new ended after bytes (RunsOrder-same c b t s c_is t_is tried shows Clean mid new ended after bytes cleaned))
+    own_clean : RunsOrder ways honest settings st seen Clean mid new ended after bytes
+    own_clean = RunsOrder-same ways b honest s settings b_is s_is st seen Clean mid new ended after bytes
+        (RunsOrder-from ways b s st tried seen shows same unwritten Clean mid new ended after bytes (RunsOrder-same ways c b t s c_is t_is tried shows Clean mid new ended after bytes cleaned))
 
-    pub Room-cleaned : (done : Unit {0}) → ended ≡ Ok done → LeadsRoom honest settings first file old (left - 1) after bytes new
+    pub Room-cleaned : (done : Unit {0}) → ended ≡ Ok done → LeadsRoom ways honest settings first file old (left - 1) after bytes new
     Room-cleaned done e =
-        let (refused, nothing) = is_refused_full honest settings st seen now mid tried shows own_flush in
-        LeadsRoom-cleaned honest settings first file old (left - 1) st seen now mid lower nothing own_flush.0 refused new after bytes done
-        (subst (λ (r : Result (Unit {0}) Ending). RunsOrder honest settings st seen Clean mid new r after bytes) e own_clean)
+        let (refused, nothing) = is_refused_full ways honest settings st seen now mid tried shows own_flush in
+        LeadsRoom-cleaned ways honest settings first file old (left - 1) st seen now mid lower nothing own_flush.0 refused new after bytes done
+        (subst (λ (r : Result (Unit {0}) Ending). RunsOrder ways honest settings st seen Clean mid new r after bytes) e own_clean)
 
     pub Room-refused : (early result : Ending) → ended ≡ Err early
         → ((early ≡ endings.Fault NothingToClean) × (result ≡ endings.Fault Full)) ⊎ ((early ≢ endings.Fault NothingToClean) × (result ≡ early))
-        → RunsFirst true honest settings first file (Flush ∷ []) old new (Err result) after bytes
+        → RunsFirst (roomy ways) honest settings first file (Flush ∷ []) old new (Err result) after bytes
     Room-refused early result e want =
-        let (refused, nothing) = is_refused_full honest settings st seen now mid tried shows own_flush in
-        LeadsRoom-refused honest settings first file old (left - 1) st seen now mid lower nothing own_flush.0 refused new after bytes early result want
-        (subst (λ (r : Result (Unit {0}) Ending). RunsOrder honest settings st seen Clean mid new r after bytes) e own_clean)
+        let (refused, nothing) = is_refused_full ways honest settings st seen now mid tried shows own_flush in
+        LeadsRoom-refused ways honest settings first file old (left - 1) st seen now mid lower nothing own_flush.0 refused new after bytes early result want
+        (subst (λ (r : Result (Unit {0}) Ending). RunsOrder ways honest settings st seen Clean mid new r after bytes) e own_clean)
+
+-- a flush leaves the map as it is
+pub map_after-flush : (order : Order) → is_flush order ≡ true → (m : List (List ℕ × List ℕ)) → map_after m order ≡ m
+map_after-flush Flush e m = refl
+map_after-flush (Batch cs) e m = absurd (cc)
+map_after-flush Clean e m = refl
+map_after-flush Upgrade e m = refl
+map_after-flush Verify e m = refl
+map_after-flush Numbers e m = refl
 
 -- what two tests say together
 pub both_so : (a b : Bool) → a ≡ true → b ≡ true → (a && b) ≡ true
@@ -330,13 +355,19 @@ not_both true b (inr e) = e
 not_both false b either = refl
 
 -- an order that is a flush, where flushes make themselves room
-pub RunsFirst-roomy : (cleans honest : Bool) (settings : Settings) (st : Store) (left : List ℕ) (order : Order) (old new : Option (List ℕ)) (end : Result (Unit {0}) Ending) (now : Store)
-    (bytes : List ℕ) → (cleans && is_flush order) ≡ true → RunsFirst true honest settings st left (Flush ∷ []) old new end now bytes
-    → RunsFirst cleans honest settings st left (order ∷ []) old new end now bytes
-RunsFirst-roomy false honest settings st left order old new end now bytes both p = absurd (cc)
-RunsFirst-roomy true honest settings st left Flush old new end now bytes both p = p
-RunsFirst-roomy true honest settings st left (Batch cs) old new end now bytes both p = absurd (cc)
-RunsFirst-roomy true honest settings st left Clean old new end now bytes both p = absurd (cc)
-RunsFirst-roomy true honest settings st left Upgrade old new end now bytes both p = absurd (cc)
-RunsFirst-roomy true honest settings st left Verify old new end now bytes both p = absurd (cc)
-RunsFirst-roomy true honest settings st left Numbers old new end now bytes both p = absurd (cc)
+both_are : (cleans : Bool) (order : Order) → (cleans && is_flush order) ≡ true → (order ≡ Flush) × (cleans ≡ true)
+both_are true Flush both = (refl, refl)
+both_are true (Batch cs) both = absurd (cc)
+both_are true Clean both = absurd (cc)
+both_are true Upgrade both = absurd (cc)
+both_are true Verify both = absurd (cc)
+both_are true Numbers both = absurd (cc)
+both_are false order both = absurd (cc)
+
+pub RunsFirst-roomy : (ways : Ways) (honest : Bool) (settings : Settings) (st : Store) (left : List ℕ) (order : Order) (old new : Option (List ℕ)) (end : Result (Unit {0}) Ending)
+    (now : Store) (bytes : List ℕ) → (ways.clean_when_full && is_flush order) ≡ true
+    → (ways.clean_when_full ≡ true → RunsFirst ways honest settings st left (Flush ∷ []) old new end now bytes)
+    → RunsFirst ways honest settings st left (order ∷ []) old new end now bytes
+RunsFirst-roomy ways honest settings st left order old new end now bytes both p =
+    let (is, full) = both_are ways.clean_when_full order both in
+    subst (λ (o : Order). RunsFirst ways honest settings st left (o ∷ []) old new end now bytes) (sym is) (p full)

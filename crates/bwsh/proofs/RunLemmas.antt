@@ -34,14 +34,20 @@ use Rattle.bwsh.specs.declared.batch_file.Order.TheVariants.{Batch, Flush, Clean
 use Rattle.bwsh.specs.declared.show.StoreNumbers.{StoreNumbers}
 use Rattle.bwsh.specs.declared.session.Ending.{Ending}
 use Rattle.bwsh.specs.declared.session.Ending.TheVariants as endings
-use Rattle.bwsh.specs.Session.{Stored, Reads, AreLeft, step_in, left_by, refused_by, behind_step, refusal_of_step, refusal_of, behind, map_behind, own_lines, answer_lines, accepted, orders_end, numbers_of, Prints, Runs, RunsOrder, LeavesStored}
+use Rattle.bwsh.specs.declared.options.asked.Ways.{Ways}
+use Rattle.bwsh.specs.Session.{Stored, Seen, Reads, AreLeft, AreUntidied, untidied, step_in, left_by, refused_by, left_by_step, refusal_of_step, refusal_of, tidied_after, after_order, map_after, map_left, own_lines, answer_lines, accepted, orders_end, numbers_of, Prints, Runs, RunsOrder, LeavesStored}
 use Rattle.bwsh.specs.Shown.{shown_flushed, shown_cleaned, shown_upgraded, shown_report, shown_numbers, shown_answer}
-use Rattle.bwsh.proofs.Prints.{Prints-all, Prints-behind, Prints-early}
+use Rattle.bwsh.proofs.Prints.{Prints-all, Prints-after_order, Prints-early}
 use Rattle.bwsh.proofs.StoreLemmas.{IsEndingOf}
 
 pub OnOk-always : {A B P : Type 0} (r : Result A B) → P → OnOk r P
 OnOk-always (Ok x) p = p
 OnOk-always (Err x) p = tt
+
+-- orders one after the other leave the map of the last ones on that of the first
+pub map_left-append : (m : List (List ℕ × List ℕ)) (xs ys : List Order) → map_left m (xs ++ ys) ≡ map_left (map_left m xs) ys
+map_left-append m [] ys = refl
+map_left-append m (order ∷ xs) ys = map_left-append (map_after m order) xs ys
 
 -- ---- an order
 
@@ -49,18 +55,18 @@ pub Runs-none : (settings : Settings) (st : Store) (shown : Reads) (old : Option
 unfolding Runs
 Runs-none settings st shown old = inl (refl, Appends-nil old)
 
--- the disk shows this before the first order, and then that
-abbrev pub first_shown : List ℕ → Reads → ℕ → List ℕ
+-- this is seen at the first order, and then that
+abbrev pub first_shown : Seen → Reads → ℕ → Seen
 first_shown file shown zero = file
 first_shown file shown (suc i) = shown i
 
-module _ (settings : Settings) (st : Store) (file : List ℕ) (order : Order) (old new : Option (List ℕ)) where
+module _ (settings : Settings) (st : Store) (file : Seen) (order : Order) (old new : Option (List ℕ)) where
   -- the lines of the order, and what it leaves
   abbrev lines : List (List ℕ)
   lines = own_lines settings st file (contents st.tree) order
 
   abbrev left : Stored
-  left = behind settings st file order
+  left = after_order settings st file order
 
   -- what the order does where it is the only one
   abbrev AloneIs : Result (Unit {0}) Ending → Type 0
@@ -90,7 +96,7 @@ module _ (settings : Settings) (st : Store) (file : List ℕ) (order : Order) (o
   module _ (rest : List Order) (shown : Reads) where
     -- the lines that orders answer after it
     abbrev further : Store → List (List ℕ)
-    further now = answer_lines settings now shown (map_behind (contents st.tree) order) (accepted settings now shown rest)
+    further now = answer_lines settings now shown (map_after (contents st.tree) order) (accepted settings now shown rest)
 
     -- it stops early: so do the orders that it stands before
     stops_by : (early : Ending) (r : Option Fault) → refusal_of settings st file order ≡ r → AloneIs (Err early) → Runs settings st (first_shown file shown) (order ∷ rest) old new (Err early)
@@ -108,7 +114,7 @@ module _ (settings : Settings) (st : Store) (file : List ℕ) (order : Order) (o
 
     -- all of it is done: what the rest prints comes after it
     pub Runs-goes_on : (now : Store) (last : Option (List ℕ)) (done : Unit {0}) (end : Result (Unit {0}) Ending) → refusal_of settings st file order ≡ None → now ≡ left.0
-        → contents now.tree ≡ map_behind (contents st.tree) order → AloneIs (Ok done) → Runs settings now shown rest new last end
+        → contents now.tree ≡ map_after (contents st.tree) order → AloneIs (Ok done) → Runs settings now shown rest new last end
         → Runs settings st (first_shown file shown) (order ∷ rest) old last end
     unfolding Runs
     Runs-goes_on now last done end none is holds p q =
@@ -116,20 +122,44 @@ module _ (settings : Settings) (st : Store) (file : List ℕ) (order : Order) (o
         let printed = Prints-all old new lines (Ok tt) done (subst (λ (l : List (List ℕ)). Prints old new l (Ok tt) (Ok done)) (append-nil lines) own) in
         let next = subst (λ (m : List (List ℕ × List ℕ)). Prints new last (answer_lines settings now shown m (accepted settings now shown rest)) (orders_end settings now shown rest) end) holds q in
         let then_on = subst (λ (t : Store). Prints new last (further t) (orders_end settings t shown rest) end) is next in
-        rw none (Prints-behind old new last lines (further left.0) (orders_end settings left.0 shown rest) end printed then_on)
+        rw none (Prints-after_order old new last lines (further left.0) (orders_end settings left.0 shown rest) end printed then_on)
 
 -- ---- what the disk shows is what was left
 
 -- what orders leave that begin with these bytes, before each of them
 abbrev pub left_shown : Settings → Store → List ℕ → List Order → Reads
-left_shown settings st file [] = λ i. file
+left_shown settings st file [] = λ i. untidied file
 left_shown settings st file (order ∷ rest) =
-    let left : Stored = behind settings st file order in first_shown file (left_shown settings left.0 left.1 rest)
+    let left : Stored = after_order settings st (untidied file) order in first_shown (untidied file) (left_shown settings left.0 left.1 rest)
 
 pub AreLeft-left_shown : (settings : Settings) (st : Store) (file : List ℕ) (orders : List Order) → AreLeft settings st file (left_shown settings st file orders) orders
 AreLeft-left_shown settings st file [] = tt
 AreLeft-left_shown settings st file (order ∷ rest) =
-    let left : Stored = behind settings st file order in (refl, AreLeft-left_shown settings left.0 left.1 rest)
+    let left : Stored = after_order settings st (untidied file) order in (refl, AreLeft-left_shown settings left.0 left.1 rest)
+
+-- no store is tidied, neither at the first nor later
+pub AreUntidied-first : (file : List ℕ) (shown : Reads) → AreUntidied shown → AreUntidied (first_shown (untidied file) shown)
+AreUntidied-first file shown none zero = refl
+AreUntidied-first file shown none (suc i) = none i
+
+pub AreUntidied-left_shown : (settings : Settings) (st : Store) (file : List ℕ) (orders : List Order) → AreUntidied (left_shown settings st file orders)
+AreUntidied-left_shown settings st file [] = λ i. refl
+AreUntidied-left_shown settings st file (order ∷ rest) =
+    let left : Stored = after_order settings st (untidied file) order in
+    AreUntidied-first file (left_shown settings left.0 left.1 rest) (AreUntidied-left_shown settings left.0 left.1 rest)
+
+-- an order after which the store is tidied by no batches leaves what its step leaves
+untidied_after : (order : Order) (settings : Settings) (at : Stored) → tidied_after order settings [] at ≡ at
+untidied_after (Batch cs) settings at = refl
+untidied_after Flush settings at = refl
+untidied_after Clean settings at = refl
+untidied_after Upgrade settings at = refl
+untidied_after Verify settings at = refl
+untidied_after Numbers settings at = refl
+
+pub after_order-untidied : (settings : Settings) (st : Store) (file : List ℕ) (order : Order) → after_order settings st (untidied file) order ≡ left_by_step settings (st, file) (step_in order)
+unfolding after_order
+after_order-untidied settings st file order = untidied_after order settings (left_by_step settings (st, file) (step_in order))
 
 -- ---- what a step answers
 
@@ -218,8 +248,8 @@ module _ (settings : Settings) (st : Store) where
   steps_to file y p = after_step (batching settings) settings st file y ≡ Ok p
 
   -- the lines of an order are those of what its step answers
-  lines_of : (file : List ℕ) (order : Order) (y : Step Global) (p : Answer Global × Stored) → step_in order ≡ Some y → steps_to file y p → behind settings st file order ≡ p.1
-      → own_lines settings st file (contents st.tree) order ≡ shown_answer p.0
+  lines_of : (file : List ℕ) (order : Order) (y : Step Global) (p : Answer Global × Stored) → step_in order ≡ Some y → steps_to file y p → after_order settings st (untidied file) order ≡ p.1
+      → own_lines settings st (untidied file) (contents st.tree) order ≡ shown_answer p.0
   lines_of file (Batch cs) y p is done left =
       let same : Step.Batch cs ≡ y = cc in
       sym (ap shown_answer (answered_batch _ _ _ file p (subst (λ (z : Step Global). steps_to file z p) (sym same) done)))
@@ -248,7 +278,7 @@ module _ (settings : Settings) (st : Store) where
 
   -- the map that a step leaves is that of its order
   map_of : PlansHold → CleansKeep → (file : List ℕ) (order : Order) (y : Step Global) (p : Answer Global × Stored) → step_in order ≡ Some y → steps_to file y p
-      → contents p.1.0.tree ≡ map_behind (contents st.tree) order
+      → contents p.1.0.tree ≡ map_after (contents st.tree) order
   map_of hold keep file (Batch cs) y p is done =
       let same : Step.Batch cs ≡ y = cc in
       ap (λ (s : Store). contents s.tree) (batch-leaves _ _ (plan settings st cs) file p (subst (λ (z : Step Global). steps_to file z p) (sym same) done)) ∙ hold cs
@@ -266,13 +296,13 @@ module _ (settings : Settings) (st : Store) where
   map_of hold keep file Numbers y p is done = absurd (cc)
 
 -- a step is played on a store whose disk had the bytes `seen`, for an order
-module _ (honest : Bool) (settings : Settings) (st : Store) (seen : List ℕ) (order : Order) (x : code_step.Step) (is : step_in order ≡ Some (step_of x)) where
-  right_by : (file : List ℕ) (fault : Fault) → after_step (batching settings) settings st file (step_of x) ≡ Err fault → refusal_of settings st file order ≡ Some fault
+module _ (ways : Ways) (honest : Bool) (settings : Settings) (st : Store) (seen : List ℕ) (order : Order) (x : code_step.Step) (is : step_in order ≡ Some (step_of x)) where
+  right_by : (file : List ℕ) (fault : Fault) → after_step (batching settings) settings st file (step_of x) ≡ Err fault → refusal_of settings st (untidied file) order ≡ Some fault
   unfolding refusal_of
   right_by file fault e = ap (refusal_of_step settings (st, file)) is ∙ ap refused_by e
 
   late_by : (file : List ℕ) (old new : ℕ) (z : code_step.Step) (fault : Fault) → fault ≢ Device → z ≡ x → IsStepFault settings st file old new (step_of z) fault
-      → (fault ≡ NoMemory) ⊎ (refusal_of settings st file order ≡ Some fault)
+      → (fault ≡ NoMemory) ⊎ (refusal_of settings st (untidied file) order ≡ Some fault)
   late_by file old new z fault other same (inl right) = inr (right_by file fault (subst (λ (y : code_step.Step). after_step (batching settings) settings st file (step_of y) ≡ Err fault) same right))
   late_by file old new (called.Batch cs) fault other same (inr late) = inl late.0
   late_by file old new called.Flush fault other same (inr (inl memory)) = inl memory.0
@@ -283,10 +313,10 @@ module _ (honest : Bool) (settings : Settings) (st : Store) (seen : List ℕ) (o
   late_by file old new called.Clean fault other same (inr (several, inr device)) = absurd (other device.0)
 
   why_by : (now : Store) (file : List ℕ) (old new place : ℕ) (fault : Fault) → place ≡ 0 → now ≡ st → fault ≢ Device → IsPlayFault settings now file old new (x ∷ []) place fault
-      → (fault ≡ NoMemory) ⊎ (refusal_of settings st file order ≡ Some fault)
+      → (fault ≡ NoMemory) ⊎ (refusal_of settings st (untidied file) order ≡ Some fault)
   why_by now file old new place fault first same other (inl memory) = inl memory.1
-  why_by now file old new place fault first same other (inr (z, rest, behind_is, refused)) =
-      let front : x ∷ [] ≡ z ∷ rest = subst (λ (n : ℕ). drop n (x ∷ []) ≡ z ∷ rest) first behind_is in
+  why_by now file old new place fault first same other (inr (z, rest, orders_left_is, refused)) =
+      let front : x ∷ [] ≡ z ∷ rest = subst (λ (n : ℕ). drop n (x ∷ []) ≡ z ∷ rest) first orders_left_is in
       let one : z ≡ x = cc in
       late_by file old new z fault other one (subst (λ (s : Store). IsStepFault settings s file old new (step_of z) fault) same refused)
 
@@ -294,24 +324,23 @@ module _ (honest : Bool) (settings : Settings) (st : Store) (seen : List ℕ) (o
   pub RunsOrder-refused : (text : Option (List ℕ)) (said : List code_answer.Answer) (now : Store) (file bytes : List ℕ) (old new place : ℕ) (fault : Fault) (early : Ending) → place < 1
       → IsEndingOf fault early → IsPlayed honest settings st seen (map step_of (take place (x ∷ []))) said now
       → (IsTrue honest → file ≡ (let p : Played Global = plays (batching settings) settings st seen (map step_of (take place (x ∷ []))) in p.bytes))
-      → IsPlayFault settings now file old new (x ∷ []) place fault → RunsOrder honest settings st seen order text text (Err early) now bytes
+      → IsPlayFault settings now file old new (x ∷ []) place fault → RunsOrder ways honest settings st seen order text text (Err early) now bytes
   RunsOrder-refused text said now file bytes old new place fault early below (inl device) played shown refused =
-      rw device.1 (seen, λ h. refl, cut_off settings st seen order text text refl, tt)
+      rw device.1 (untidied seen, (λ off. refl, λ h. refl), cut_off settings st (untidied seen) order text text refl, tt)
   RunsOrder-refused text said now file bytes old new place fault early below (inr other) played shown refused =
       let first : place ≡ 0 = omega (arith, below) in
       let none_played = subst (λ (n : ℕ). IsPlayed honest settings st seen (map step_of (take n (x ∷ []))) said now) first played in
       let of_seen = subst (λ (n : ℕ). IsTrue honest → file ≡ (let p : Played Global = plays (batching settings) settings st seen (map step_of (take n (x ∷ []))) in p.bytes)) first shown in
-      rw other.1 (file, of_seen, stopped settings st file order text text fault refl (why_by now file old new place fault first none_played.1 other.0 refused), tt)
+      rw other.1 (untidied file, (λ off. refl, of_seen), stopped settings st (untidied file) order text text fault refl (why_by now file old new place fault first none_played.1 other.0 refused), tt)
 
   module _ (a : code_answer.Answer) (mid : Store) (bytes : List ℕ) (done : IsStepDone honest settings st seen (step_of x) a mid bytes) where
     abbrev outcome : Answer Global × Stored
     outcome = (answer_of a, (mid, bytes))
 
-    left_is : behind settings st done.file order ≡ (mid, bytes)
-    unfolding behind
-    left_is = ap (behind_step settings (st, done.file)) is ∙ ap (left_by (st, done.file)) done.done
+    left_is : after_order settings st (untidied done.file) order ≡ (mid, bytes)
+    left_is = after_order-untidied settings st done.file order ∙ ap (left_by_step settings (st, done.file)) is ∙ ap (left_by (st, done.file)) done.done
 
-    none : refusal_of settings st done.file order ≡ None
+    none : refusal_of settings st (untidied done.file) order ≡ None
     unfolding refusal_of
     none = ap (refusal_of_step settings (st, done.file)) is ∙ ap refused_by done.done
 
@@ -323,7 +352,7 @@ module _ (honest : Bool) (settings : Settings) (st : Store) (seen : List ℕ) (o
 
     module _ (hold : PlansHold settings st) (keep : CleansKeep settings st) (now : Store) (now_is : now ≡ mid) (after : List ℕ)
         (after_is : IsTrue honest → after ≡ (alone settings st seen (step_of x)).bytes) where
-      leaves : LeavesStored honest settings st done.file order now after
+      leaves : LeavesStored honest settings st (untidied done.file) order now after
       leaves = record {
         unrefused = none;
         store = now_is ∙ ap (λ (q : Stored). q.0) (sym left_is);
@@ -331,22 +360,22 @@ module _ (honest : Bool) (settings : Settings) (st : Store) (seen : List ℕ) (o
         holds = ap (λ (s : Store). contents s.tree) now_is ∙ map_of settings st hold keep done.file order (step_of x) outcome is done.done;
       }
 
-      answers_of : (said : List code_answer.Answer) → said ≡ a ∷ [] → flat_map shown_answer (map answer_of said) ≡ own_lines settings st done.file (contents st.tree) order
+      answers_of : (said : List code_answer.Answer) → said ≡ a ∷ [] → flat_map shown_answer (map answer_of said) ≡ own_lines settings st (untidied done.file) (contents st.tree) order
       answers_of said said_is =
           ap (λ (s : List code_answer.Answer). flat_map shown_answer (map answer_of s)) said_is ∙ append-nil (shown_answer (answer_of a))
           ∙ sym (lines_of settings st done.file order (step_of x) outcome is done.done left_is)
 
       one_answered : (old new : Option (List ℕ)) (end : Result (Unit {0}) Ending) (said : List code_answer.Answer) → said ≡ a ∷ []
-          → Prints old new (flat_map shown_answer (map answer_of said)) (Ok tt) end → RunsOrder honest settings st seen order old new end now after
+          → Prints old new (flat_map shown_answer (map answer_of said)) (Ok tt) end → RunsOrder ways honest settings st seen order old new end now after
       one_answered old new end said said_is p =
           let printed = subst (λ (l : List (List ℕ)). Prints old new l (Ok tt) end) (answers_of said said_is) p in
-          (done.file, done.shown, answered settings st done.file order old new end none printed, OnOk-always end leaves)
+          (untidied done.file, (λ off. refl, done.shown), answered settings st (untidied done.file) order old new end none printed, OnOk-always end leaves)
 
   -- it is played, and its answers are written
   pub RunsOrder-answered : PlansHold settings st → CleansKeep settings st → (said : List code_answer.Answer) (now : Store) (after : List ℕ)
       → IsPlayed honest settings st seen (step_of x ∷ []) said now → (IsTrue honest → after ≡ (alone settings st seen (step_of x)).bytes)
       → (old new : Option (List ℕ)) (end : Result (Unit {0}) Ending) → Prints old new (flat_map shown_answer (map answer_of said)) (Ok tt) end
-      → RunsOrder honest settings st seen order old new end now after
+      → RunsOrder ways honest settings st seen order old new end now after
   RunsOrder-answered hold keep said now after (a, rest, said_is, mid, bytes, done, ended) after_is old new end p =
       one_answered a mid bytes done hold keep now ended.1 after after_is old new end said (said_is ∙ ap (λ (r : List code_answer.Answer). a ∷ r) ended.0) p
 
@@ -384,50 +413,50 @@ Runs-cut settings st shown orders old new none early (inr e) =
     inr (inr (ap (λ (x : Ending). Err x) e, ([], (flat (answer_lines settings st shown (contents st.tree) (accepted settings st shown orders)), refl), none)))
 
 -- memory is refused before anything of an order is done
-pub RunsOrder-forgone : (honest : Bool) (settings : Settings) (st : Store) (seen : List ℕ) (order : Order) (old : Option (List ℕ)) → RunsOrder honest settings st seen order old old (Err (endings.Fault NoMemory)) st seen
-RunsOrder-forgone honest settings st seen order old = (seen, λ h. refl, stopped settings st seen order old old NoMemory refl (inl refl), tt)
+pub RunsOrder-forgone : (ways : Ways) (honest : Bool) (settings : Settings) (st : Store) (seen : List ℕ) (order : Order) (old : Option (List ℕ)) → RunsOrder ways honest settings st seen order old old (Err (endings.Fault NoMemory)) st seen
+RunsOrder-forgone ways honest settings st seen order old = (untidied seen, (λ off. refl, λ h. refl), stopped settings st (untidied seen) order old old NoMemory refl (inl refl), tt)
 
 -- ---- what a verify answers
 
-module _ (honest : Bool) (settings : Settings) (st : Store) (seen : List ℕ) (order : Order) (order_is : order ≡ Verify) where
-  never_refused : (file : List ℕ) → refusal_of settings st file Verify ≡ None
+module _ (ways : Ways) (honest : Bool) (settings : Settings) (st : Store) (seen : List ℕ) (order : Order) (order_is : order ≡ Verify) where
+  never_refused : (file : Seen) → refusal_of settings st file Verify ≡ None
   unfolding refusal_of
   never_refused file = refl
 
-  pub RunsOrder-unverified : (old : Option (List ℕ)) (fault : Fault) → fault ≡ NoMemory → RunsOrder honest settings st seen order old old (Err (endings.Fault fault)) st seen
-  RunsOrder-unverified old fault e = (seen, λ h. refl, stopped settings st seen order old old fault refl (inl e), tt)
+  pub RunsOrder-unverified : (old : Option (List ℕ)) (fault : Fault) → fault ≡ NoMemory → RunsOrder ways honest settings st seen order old old (Err (endings.Fault fault)) st seen
+  RunsOrder-unverified old fault e = (untidied seen, (λ off. refl, λ h. refl), stopped settings st (untidied seen) order old old fault refl (inl e), tt)
 
-  unmoved : LeavesStored honest settings st seen Verify st seen
-  unfolding behind refusal_of
+  unmoved : LeavesStored honest settings st (untidied seen) Verify st seen
+  unfolding after_order refusal_of
   unmoved = record { unrefused = refl; store = refl; bytes = λ h. refl; holds = refl }
 
-  pub RunsOrder-verified : (old new : Option (List ℕ)) (end : Result (Unit {0}) Ending) (told : Report) → told ≡ report st.tree → Prints old new (shown_report told ∷ []) (Ok tt) end
-      → RunsOrder honest settings st seen order old new end st seen
-  RunsOrder-verified old new end told is p =
+  pub RunsOrder-verified : (old new : Option (List ℕ)) (end : Result (Unit {0}) Ending) (request : Report) → request ≡ report st.tree → Prints old new (shown_report request ∷ []) (Ok tt) end
+      → RunsOrder ways honest settings st seen order old new end st seen
+  RunsOrder-verified old new end request is p =
       let printed = subst (λ (r : Report). Prints old new (shown_report r ∷ []) (Ok tt) end) is p in
-      subst (λ (o : Order). RunsOrder honest settings st seen o old new end st seen) (sym order_is)
-      (seen, λ h. refl, answered settings st seen Verify old new end (never_refused seen) printed, OnOk-always end unmoved)
+      subst (λ (o : Order). RunsOrder ways honest settings st seen o old new end st seen) (sym order_is)
+      (untidied seen, (λ off. refl, λ h. refl), answered settings st (untidied seen) Verify old new end (never_refused (untidied seen)) printed, OnOk-always end unmoved)
 
 -- ---- the numbers of the store
 
-module _ (honest : Bool) (settings : Settings) (st : Store) (seen : List ℕ) (order : Order) (order_is : order ≡ Numbers) where
-  numbers_given : (file : List ℕ) → refusal_of settings st file Numbers ≡ None
+module _ (ways : Ways) (honest : Bool) (settings : Settings) (st : Store) (seen : List ℕ) (order : Order) (order_is : order ≡ Numbers) where
+  numbers_given : (file : Seen) → refusal_of settings st file Numbers ≡ None
   unfolding refusal_of
   numbers_given file = refl
 
-  still : LeavesStored honest settings st seen Numbers st seen
-  unfolding behind refusal_of
+  still : LeavesStored honest settings st (untidied seen) Numbers st seen
+  unfolding after_order refusal_of
   still = record { unrefused = refl; store = refl; bytes = λ h. refl; holds = refl }
 
-  pub RunsOrder-uncounted : (old : Option (List ℕ)) (fault : Fault) → fault ≡ NoMemory → RunsOrder honest settings st seen order old old (Err (endings.Fault fault)) st seen
-  RunsOrder-uncounted old fault e = (seen, λ h. refl, stopped settings st seen order old old fault refl (inl e), tt)
+  pub RunsOrder-uncounted : (old : Option (List ℕ)) (fault : Fault) → fault ≡ NoMemory → RunsOrder ways honest settings st seen order old old (Err (endings.Fault fault)) st seen
+  RunsOrder-uncounted old fault e = (untidied seen, (λ off. refl, λ h. refl), stopped settings st (untidied seen) order old old fault refl (inl e), tt)
 
   pub RunsOrder-counted : (old new : Option (List ℕ)) (end : Result (Unit {0}) Ending) (numbers : StoreNumbers) → numbers ≡ numbers_of settings st
-      → Prints old new (shown_numbers numbers ∷ []) (Ok tt) end → RunsOrder honest settings st seen order old new end st seen
+      → Prints old new (shown_numbers numbers ∷ []) (Ok tt) end → RunsOrder ways honest settings st seen order old new end st seen
   RunsOrder-counted old new end numbers is p =
       let printed = subst (λ (n : StoreNumbers). Prints old new (shown_numbers n ∷ []) (Ok tt) end) is p in
-      subst (λ (o : Order). RunsOrder honest settings st seen o old new end st seen) (sym order_is)
-      (seen, λ h. refl, answered settings st seen Numbers old new end (numbers_given seen) printed, OnOk-always end still)
+      subst (λ (o : Order). RunsOrder ways honest settings st seen o old new end st seen) (sym order_is)
+      (untidied seen, (λ off. refl, λ h. refl), answered settings st (untidied seen) Numbers old new end (numbers_given (untidied seen)) printed, OnOk-always end still)
 
 -- the orders from this place on
 pub orders_left : (orders : List Order) (i : ℕ) (order : Order) → i < length orders → order ≡ get_or orders i order → drop i orders ≡ order ∷ drop (i + 1) orders

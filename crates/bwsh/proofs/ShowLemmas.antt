@@ -18,13 +18,13 @@ OnErr-always (Ok x) p = tt
 OnErr-always (Err x) p = p
 
 -- so does an answer that is an error
-pub refused_behind : {A B : Type 0} (r : Result A B) (old more mid new : List ℕ) → mid ≡ old ++ more → take (length mid) new ≡ mid → OnErr r (take (length old) new ≡ old)
-refused_behind r old more mid new is kept = OnErr-always r (front_kept old more mid new is kept)
+pub refused_after : {A B : Type 0} (r : Result A B) (old more mid new : List ℕ) → mid ≡ old ++ more → take (length mid) new ≡ mid → OnErr r (take (length old) new ≡ old)
+refused_after r old more mid new is kept = OnErr-always r (front_kept old more mid new is kept)
 
 -- the same after two that were appended
-pub refused_behind_two : {A B : Type 0} (r : Result A B) (old first mid second last new : List ℕ) → mid ≡ old ++ first → last ≡ mid ++ second → take (length last) new ≡ last
+pub refused_after_two : {A B : Type 0} (r : Result A B) (old first mid second last new : List ℕ) → mid ≡ old ++ first → last ≡ mid ++ second → take (length last) new ≡ last
     → OnErr r (take (length old) new ≡ old)
-refused_behind_two r old first mid second last new is then_is kept = refused_behind r old first mid new is (front_kept mid second last new then_is kept)
+refused_after_two r old first mid second last new is then_is kept = refused_after r old first mid new is (front_kept mid second last new then_is kept)
 
 -- ---- rows
 
@@ -36,7 +36,7 @@ pub record AreShown (old out : List ℕ) (left rows : List (Bytes × Bytes)) : T
 
 -- ---- numbers
 
--- seven texts, each behind a word, and what ends them
+-- seven texts, each after a word, and what ends them
 module _ (a s b h c t d i e g f p j q end : List ℕ) where
   -- three and then four, each part joined from the last
   abbrev pub first_three : List ℕ

@@ -1,5 +1,5 @@
 -- The store that a session opens.
-use Rattle.std.proofs.Common.{◌≡◌, ◌≢◌, ◌⊎◌, inl, inr, ◌≤◌, ℕ, false, sym, List, Option, None, Some, Ok, Err, refl, ap, ◌∙◌, subst, arith}
+use Rattle.std.proofs.Common.{◌≡◌, ◌≢◌, ◌⊎◌, inl, inr, ◌≤◌, ℕ, false, sym, List, [], Option, None, Some, Ok, Err, refl, ap, ◌∙◌, subst, arith}
 use Rattle.std.specs.Prelude.{IsTrue, length, MatchOption, nat_lt}
 use Rattle.std.proofs.lemmas.Bool.Decides.{nat_tests}
 use Rattle.keys.specs.Limits.{first_bad_field}
@@ -15,11 +15,12 @@ use Rattle.flush_log.specs.Segments.{disk_size}
 use Rattle.recovery.specs.Recovered.{IsLate}
 use Rattle.recovery.specs.StoreOfDisk.{first_store, store_of_disk}
 use Rattle.engine.specs.Late.{create_refusal, made_unless, after_create}
+use Rattle.engine.specs.Copies.{IsCopyFault}
 use Rattle.engine.specs.State.{State}
 use Rattle.bwsh.specs.declared.session.Ending.{Ending}
 use Rattle.bwsh.specs.declared.session.Ending.TheVariants.{Device}
 use Rattle.bwsh.specs.declared.session.Ending.TheVariants as endings
-use Rattle.bwsh.specs.Session.{Start, Opens, IsUnopened, start_unless, start_by, first_stored, new_start, found_start}
+use Rattle.bwsh.specs.Session.{Start, IsCopyEnd, Opens, IsUnopened, start_unless, start_by, first_stored, new_start, found_start}
 
 -- an ending for a fault: a device's is reported as such
 abbrev pub IsEndingOf : Fault → Ending → Type 0
@@ -51,7 +52,7 @@ module _ (settings : Settings) (file : List ℕ) where
     is_new = start_by_field None good
 
     -- nothing refuses it on a disk with room
-    unrefused : (size : ℕ) → disk_size settings ≤ size → create_refusal settings size ≡ None
+    pub unrefused : (size : ℕ) → disk_size settings ≤ size → create_refusal settings size ≡ None
     unrefused size room =
         let no : nat_lt size (disk_size settings) ≡ false = grind (arith, nat_tests) in
         rw (good, no) refl
@@ -78,6 +79,20 @@ module _ (settings : Settings) (file : List ℕ) where
         → MatchOption (create_refusal settings size) (IsLate old new f) Other → IsEndingOf f early → IsUnopened (new_start settings file) early
     IsUnopened-unmade size old new f early Other room refused ending =
         late (new_start settings file) old new f early (subst (λ (o : Option Fault). MatchOption o (IsLate old new f) Other) (unrefused size room) refused) ending
+
+-- ---- a copy
+
+-- why there is none
+pub IsCopyEnd-refused : (settings : Settings) (m : List (List ℕ × List ℕ)) (size old new : ℕ) (f : Fault) (early : Ending) (Other : Fault → Type 0) → first_bad_field settings ≡ None
+    → disk_size settings ≤ size → MatchOption (create_refusal settings size) (IsCopyFault settings m old new f) Other → IsEndingOf f early → IsCopyEnd settings m early
+IsCopyEnd-refused settings m size old new f early Other good room refused ending =
+    by (subst (λ (o : Option Fault). MatchOption o (IsCopyFault settings m old new f) Other) (unrefused settings [] good size room) refused) ending
+  where
+    by : IsCopyFault settings m old new f → IsEndingOf f early → IsCopyEnd settings m early
+    by why (inl device) = inr (inr device.1)
+    by (inl (inl memory)) (inr other) = inr (inl (other.1 ∙ ap (λ (x : Fault). endings.Fault x) memory))
+    by (inl (inr device)) (inr other) = absurd (other.0 device.0)
+    by (inr why) (inr other) = inl (f, other.1, why)
 
 -- ---- the store of a file
 

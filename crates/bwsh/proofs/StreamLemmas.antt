@@ -8,6 +8,7 @@ use Rattle.std.specs.Io.KnownBytes.{Appends, IsAtEnd, Keeps, prepend_known}
 use Rattle.std.specs.declared.alloc.Global.{Global}
 use Rattle.std.proofs.KnownBytes.{Appends-nil}
 use Rattle.std.proofs.lemmas.Bool.{eqb-false, eqb-true, ltb-false, ltb-true}
+use Rattle.std.proofs.lemmas.Result.{on_ok_weaker}
 use Rattle.bstr.specs.Text.{line_len, lines_from, lines_of, without_terminator}
 use Rattle.keys.specs.Lists.{flat}
 use Rattle.keys.specs.declared.command.Command.{Command}
@@ -16,6 +17,8 @@ use Rattle.crew.specs.declared.limits.Crew.{Crew}
 use Rattle.keys.specs.declared.fault.Fault.{Fault}
 use Rattle.keys.specs.declared.fault.Fault.TheVariants.{BadCrew}
 use Rattle.keys.specs.declared.settings.Settings.{Settings}
+use Rattle.keys.specs.Limits.{first_bad_field}
+use Rattle.mapping.specs.Levels.{contents}
 use Rattle.mapping.specs.Tree.{Store}
 use Rattle.flush_log.specs.Disk.{View}
 use Rattle.engine.specs.State.{State}
@@ -31,12 +34,12 @@ use Rattle.bwsh.specs.declared.session.Ending.TheVariants.{Device}
 use Rattle.bwsh.specs.declared.session.Ending.TheVariants as endings
 use Rattle.bwsh.specs.BatchFile.{IsNextLine, ended_by, first_bad, last_order, streamed, text_says, unended, with_numbers}
 use Rattle.bwsh.specs.Line.{bad_of, line_says}
-use Rattle.bwsh.specs.Options.{Told}
-use Rattle.bwsh.specs.Session.{AreLeft, IsHonestStore, IsStart, IsStartBy, IsUnopened, Opens, Prints, Reads, Runs, RunsFirst, RunsOn, RunsOrder, Start, Streams, StreamsFrom, StreamsOn, bad_ending, end_streamed, first_refusal, lines_after, run_from, run_of, stopped_by, stream_end, stream_ended, stream_lines, without_value}
-use Rattle.bwsh.proofs.EndLemmas.{Prints-cut, leave_from, start_of, start_without_crew}
+use Rattle.bwsh.specs.Options.{Request, copy_of}
+use Rattle.bwsh.specs.Session.{AreLeft, IsHonestStore, IsStart, IsStartBy, IsUncopied, IsUnopened, IsEndAfter, Opens, Prints, Reads, Runs, RunsFirst, RunsOn, RunsOrder, Start, Streams, StreamsFrom, StreamsOn, bad_ending, end_streamed, first_refusal, lines_after, map_left, map_left_from, run_from, run_of, stopped_by, stream_end, stream_ended, stream_lines, untidied, without_value}
+use Rattle.bwsh.proofs.EndLemmas.{IsStart-plain, Prints-cut, leave_from, start_of, start_of_uncopied, start_without_crew}
 use Rattle.bwsh.proofs.FirstLemmas.{MakesNone, RunsFirst-early, RunsFirst-flushed, RunsFirst-joined, RunsFirst-none, RunsFirst-one, RunsFirst-same, RunsOn-cut, RunsOn-none}
-use Rattle.bwsh.proofs.Prints.{Prints-asked, Prints-flushed}
-use Rattle.bwsh.proofs.RunLemmas.{IsCut}
+use Rattle.bwsh.proofs.Prints.{IsLeft, Prints-flushed, PrintsCopied-asked, PrintsCopied-before, PrintsCopied-left, PrintsCopied-plain}
+use Rattle.bwsh.proofs.RunLemmas.{IsCut, OnOk-always, map_left-append}
 
 -- ---- the lines of a text
 
@@ -186,17 +189,12 @@ makes_none true commands = refl
 makes_none false commands = refl
 
 -- it is run, and its answers are handed on to the device
-pub RunsFirst-batch : (cleans honest : Bool) (settings : Settings) (st : Store) (left : List ℕ) (commands : List (Command Global)) (old mid new : Option (List ℕ))
-    (done end : Result (Unit {0}) Ending) (now : Store) (bytes : List ℕ) → RunsOrder honest settings st left (Batch commands) old mid done now bytes → Keeps mid new
-    → (end ≡ done) ⊎ (end ≡ Err Device) → RunsFirst cleans honest settings st left (Batch commands ∷ []) old new end now bytes
-RunsFirst-batch cleans honest settings st left commands old mid new done end now bytes one kept ended =
-    RunsFirst-flushed cleans honest settings mid new kept st left (Batch commands ∷ []) old done end now bytes
-    (RunsFirst-one cleans honest settings st left (Batch commands) old mid done now bytes (makes_none cleans commands) one) ended
-
--- what holds where all is done holds too where what was written is handed on
-pub OnOk-flushed : (done end : Result (Unit {0}) Ending) (P : Type 0) → (end ≡ done) ⊎ (end ≡ Err Device) → OnOk done P → OnOk end P
-OnOk-flushed done end P (inl e) p = subst (λ (r : Result (Unit {0}) Ending). OnOk r P) (sym e) p
-OnOk-flushed done end P (inr e) p = subst (λ (r : Result (Unit {0}) Ending). OnOk r P) (sym e) tt
+pub RunsFirst-batch : (ways : Ways) (honest : Bool) (settings : Settings) (st : Store) (left : List ℕ) (commands : List (Command Global)) (old mid new : Option (List ℕ))
+    (done end : Result (Unit {0}) Ending) (now : Store) (bytes : List ℕ) → RunsOrder ways honest settings st left (Batch commands) old mid done now bytes → Keeps mid new
+    → (end ≡ done) ⊎ (end ≡ Err Device) → RunsFirst ways honest settings st left (Batch commands ∷ []) old new end now bytes
+RunsFirst-batch ways honest settings st left commands old mid new done end now bytes one kept ended =
+    RunsFirst-flushed ways honest settings mid new kept st left (Batch commands ∷ []) old done end now bytes
+    (RunsFirst-one ways honest settings st left (Batch commands) old mid done now bytes (makes_none ways.clean_when_full commands) one) ended
 
 -- the order for pending commands, if there are any, and if there are none
 last_order-some : (pending : List (Command Global)) (n : ℕ) → n ≡ length pending → (n == 0) ≡ false → last_order pending ≡ Batch pending ∷ []
@@ -212,32 +210,40 @@ pub none_pending : (pending : List (Command Global)) (n : ℕ) → n ≡ length 
 none_pending [] n is none = refl
 none_pending (command ∷ commands) n is none = let zero_is : n ≡ 0 = eqb-true n 0 none in absurd (omega (arith, is, zero_is))
 
-module _ (cleans honest : Bool) (settings : Settings) (st : Store) (left : List ℕ) (pending : List (Command Global)) (old : Option (List ℕ)) where
-  pub RunsFirst-no_pending : (n : ℕ) → n ≡ length pending → (n == 0) ≡ true → (done : Unit {0}) → RunsFirst cleans honest settings st left (last_order pending) old old (Ok done) st left
+-- the map that is left then
+pub map_left-no_pending : (st : Store) (pending : List (Command Global)) (n : ℕ) → n ≡ length pending → (n == 0) ≡ true → contents st.tree ≡ map_left (contents st.tree) (last_order pending)
+map_left-no_pending st pending n is none = ap (map_left (contents st.tree)) (sym (last_order-none pending n is none))
+
+pub map_left-pending : (st : Store) (pending : List (Command Global)) (n : ℕ) → n ≡ length pending → (n == 0) ≡ false
+    → map_left (contents st.tree) (Batch pending ∷ []) ≡ map_left (contents st.tree) (last_order pending)
+map_left-pending st pending n is some = ap (map_left (contents st.tree)) (sym (last_order-some pending n is some))
+
+module _ (ways : Ways) (honest : Bool) (settings : Settings) (st : Store) (left : List ℕ) (pending : List (Command Global)) (old : Option (List ℕ)) where
+  pub RunsFirst-no_pending : (n : ℕ) → n ≡ length pending → (n == 0) ≡ true → (done : Unit {0}) → RunsFirst ways honest settings st left (last_order pending) old old (Ok done) st left
   RunsFirst-no_pending n is none done =
-      subst (λ (os : List Order). RunsFirst cleans honest settings st left os old old (Ok done) st left) (sym (last_order-none pending n is none))
-      (RunsFirst-none cleans honest settings st left old done)
+      subst (λ (os : List Order). RunsFirst ways honest settings st left os old old (Ok done) st left) (sym (last_order-none pending n is none))
+      (RunsFirst-none ways honest settings st left old done)
 
   pub RunsFirst-pending : (n : ℕ) → n ≡ length pending → (n == 0) ≡ false → (new : Option (List ℕ)) (end : Result (Unit {0}) Ending) (now : Store) (bytes : List ℕ)
-      → RunsFirst cleans honest settings st left (Batch pending ∷ []) old new end now bytes → RunsFirst cleans honest settings st left (last_order pending) old new end now bytes
+      → RunsFirst ways honest settings st left (Batch pending ∷ []) old new end now bytes → RunsFirst ways honest settings st left (last_order pending) old new end now bytes
   RunsFirst-pending n is some new end now bytes p =
-      subst (λ (os : List Order). RunsFirst cleans honest settings st left os old new end now bytes) (sym (last_order-some pending n is some)) p
+      subst (λ (os : List Order). RunsFirst ways honest settings st left os old new end now bytes) (sym (last_order-some pending n is some)) p
 
   module _ (order : Order) (mid : Option (List ℕ)) (between : Store) (after : List ℕ) where
     -- the pending commands are not all done
-    pub RunsFirst-stopped : (early : Ending) → RunsFirst cleans honest settings st left (last_order pending) old mid (Err early) between after
-        → RunsFirst cleans honest settings st left (last_order pending ++ order ∷ []) old mid (Err early) between after
-    RunsFirst-stopped early p = RunsFirst-early cleans honest settings st left (last_order pending) (order ∷ []) old mid between after early p between after
+    pub RunsFirst-stopped : (early : Ending) → RunsFirst ways honest settings st left (last_order pending) old mid (Err early) between after
+        → RunsFirst ways honest settings st left (last_order pending ++ order ∷ []) old mid (Err early) between after
+    RunsFirst-stopped early p = RunsFirst-early ways honest settings st left (last_order pending) (order ∷ []) old mid between after early p between after
 
     -- they are, and then an order is run, and its answers are handed on to the device
-    pub RunsFirst-ended : (done : Unit {0}) → RunsFirst cleans honest settings st left (last_order pending) old mid (Ok done) between after
+    pub RunsFirst-ended : (done : Unit {0}) → RunsFirst ways honest settings st left (last_order pending) old mid (Ok done) between after
         → (b : Bool) → b ≡ honest → (s : Settings) → s ≡ settings → (written new : Option (List ℕ)) (all end : Result (Unit {0}) Ending) (now : Store) (bytes : List ℕ)
-        → RunsFirst cleans b s between after (order ∷ []) mid written all now bytes → Keeps written new → (end ≡ all) ⊎ (end ≡ Err Device)
-        → RunsFirst cleans honest settings st left (last_order pending ++ order ∷ []) old new end now bytes
+        → RunsFirst ways b s between after (order ∷ []) mid written all now bytes → Keeps written new → (end ≡ all) ⊎ (end ≡ Err Device)
+        → RunsFirst ways honest settings st left (last_order pending ++ order ∷ []) old new end now bytes
     RunsFirst-ended done p b b_is s s_is written new all end now bytes q kept ended =
-        RunsFirst-joined cleans honest settings st left (last_order pending) (order ∷ []) old mid between after done p new end now bytes
-        (RunsFirst-flushed cleans honest settings written new kept between after (order ∷ []) mid all end now bytes
-        (RunsFirst-same cleans b honest s settings b_is s_is between after (order ∷ []) mid written all now bytes q) ended)
+        RunsFirst-joined ways honest settings st left (last_order pending) (order ∷ []) old mid between after done p new end now bytes
+        (RunsFirst-flushed ways honest settings written new kept between after (order ∷ []) mid all end now bytes
+        (RunsFirst-same ways b honest s settings b_is s_is between after (order ∷ []) mid written all now bytes q) ended)
 
 -- ---- line after line
 
@@ -246,87 +252,97 @@ module _ (cleans honest : Bool) (settings : Settings) (st : Store) (left : List 
 abbrev pub LeadsOn : Ways → Bool → Settings → Store → List ℕ → Option (List ℕ) → Option (List ℕ)
     → Settings → Store → List ℕ → List (Command Global) → ℕ → Option (List ℕ) → Option (List ℕ) → Type 0
 LeadsOn ways honest settings first file known old s st seen pending n left now =
-    (rest : List Says) → IfSome left (λ text. rest ≡ text_says text) → (new : Option (List ℕ)) (end : Result (Option (ℕ × Why)) Ending)
-    → RunsOn ways.clean_when_full honest s st seen (streamed ways.stat pending rest) now new (without_value end) → IfOk end (λ bad. bad ≡ first_bad n rest)
-    → StreamsOn ways honest settings first file known old new end
+    (rest : List Says) → IfSome left (λ text. rest ≡ text_says text) → (new : Option (List ℕ)) (end : Result (Option (ℕ × Why)) Ending) (final : Store)
+    → RunsOn ways honest s st seen (streamed ways.stat pending rest) now new (without_value end) → IfOk end (λ bad. bad ≡ first_bad n rest)
+    → OnOk end (contents final.tree ≡ map_left (contents st.tree) (streamed ways.stat pending rest)) → StreamsOn ways honest settings first file known old new end final
 
 -- before any line is read
 pub LeadsOn-first : (ways : Ways) (honest : Bool) (settings : Settings) (st : Store) (file : List ℕ) (known old : Option (List ℕ)) (pending : List (Command Global)) → pending ≡ []
     → LeadsOn ways honest settings st file known old settings st file pending 1 known old
-LeadsOn-first ways honest settings st file known old pending none rest is new end runs bad =
-    (rest, is, subst (λ (p : List (Command Global)). RunsOn ways.clean_when_full honest settings st file (streamed ways.stat p rest) old new (without_value end)) none runs, bad)
+LeadsOn-first ways honest settings st file known old pending none rest is new end final runs bad holds = (
+  rest,
+  is,
+  subst (λ (p : List (Command Global)). RunsOn ways honest settings st file (streamed ways.stat p rest) old new (without_value end)) none runs,
+  bad,
+  subst (λ (p : List (Command Global)). OnOk end (contents final.tree ≡ map_left (contents st.tree) (streamed ways.stat p rest))) none holds,
+)
 
 module _ (ways : Ways) (honest : Bool) (settings : Settings) (first : Store) (file : List ℕ) (known old : Option (List ℕ)) (s : Settings) (st : Store) (seen : List ℕ)
     (pending : List (Command Global)) (n : ℕ) (left now : Option (List ℕ)) (leads : LeadsOn ways honest settings first file known old s st seen pending n left now) where
-  abbrev cleans : Bool
-  cleans = ways.clean_when_full
-
   -- it ends early, before anything else is run
-  pub LeadsOn-cut : (early : Ending) → IsCut early → StreamsOn ways honest settings first file known old now (Err early)
+  pub LeadsOn-cut : (early : Ending) → IsCut early → StreamsOn ways honest settings first file known old now (Err early) st
   LeadsOn-cut early cut =
       let (rest, is) = some_said left in
-      leads rest is now (Err early) (RunsOn-cut cleans honest s st seen (streamed ways.stat pending rest) now early cut) tt
+      leads rest is now (Err early) st (RunsOn-cut ways honest s st seen (streamed ways.stat pending rest) now early cut) tt tt
 
   -- what is run on a disk that is as honest, and on a store with the same settings
   module _ (b : Bool) (b_is : b ≡ honest) (t : Settings) (t_is : t ≡ s) (new : Option (List ℕ)) (after : Store) (bytes : List ℕ) where
-    same_run : (orders : List Order) (end : Result (Unit {0}) Ending) → RunsFirst cleans b t st seen orders now new end after bytes
-        → RunsFirst cleans honest s st seen orders now new end after bytes
-    same_run orders end p = RunsFirst-same cleans b honest t s b_is t_is st seen orders now new end after bytes p
+    same_run : (orders : List Order) (end : Result (Unit {0}) Ending) → RunsFirst ways b t st seen orders now new end after bytes
+        → RunsFirst ways honest s st seen orders now new end after bytes
+    same_run orders end p = RunsFirst-same ways b honest t s b_is t_is st seen orders now new end after bytes p
 
     -- there is no line more: what is left is run
     module _ (more : Option (List ℕ)) (line : List ℕ) (none : IsNextLine left more line false) where
       abbrev left_over : List Order
       left_over = with_numbers ways.stat (last_order pending)
 
-      without_more : (end : Result (Unit {0}) Ending) → RunsOn cleans honest s st seen (left_over ++ []) now new end → RunsOn cleans honest s st seen left_over now new end
-      without_more end p = subst (λ (os : List Order). RunsOn cleans honest s st seen os now new end) (append-nil left_over) p
+      without_more : (end : Result (Unit {0}) Ending) → RunsOn ways honest s st seen (left_over ++ []) now new end → RunsOn ways honest s st seen left_over now new end
+      without_more end p = subst (λ (os : List Order). RunsOn ways honest s st seen os now new end) (append-nil left_over) p
 
-      pub LeadsOn-end : (done : Unit {0}) → RunsFirst cleans b t st seen left_over now new (Ok done) after bytes → StreamsOn ways honest settings first file known old new (Ok None)
-      LeadsOn-end done runs =
-          let all = same_run left_over (Ok done) runs [] new (Ok tt) (RunsOn-none cleans honest s after bytes new) in
-          leads [] (said_none left more line none) new (Ok None) (without_more (Ok tt) all) refl
+      pub LeadsOn-end : (done : Unit {0}) → RunsFirst ways b t st seen left_over now new (Ok done) after bytes → contents after.tree ≡ map_left (contents st.tree) left_over
+          → StreamsOn ways honest settings first file known old new (Ok None) after
+      LeadsOn-end done runs holds =
+          let all = same_run left_over (Ok done) runs [] new (Ok tt) (RunsOn-none ways honest s after bytes new) in
+          leads [] (said_none left more line none) new (Ok None) after (without_more (Ok tt) all) refl holds
 
-      pub LeadsOn-unended : (early : Ending) → RunsFirst cleans b t st seen left_over now new (Err early) after bytes
-          → StreamsOn ways honest settings first file known old new (Err early)
+      pub LeadsOn-unended : (early : Ending) → RunsFirst ways b t st seen left_over now new (Err early) after bytes
+          → StreamsOn ways honest settings first file known old new (Err early) after
       LeadsOn-unended early runs =
-          let all = same_run left_over (Err early) runs [] in leads [] (said_none left more line none) new (Err early) (without_more (Err early) all) tt
+          let all = same_run left_over (Err early) runs [] in leads [] (said_none left more line none) new (Err early) after (without_more (Err early) all) tt tt
 
   module _ (more : Option (List ℕ)) (line : List ℕ) (next : IsNextLine left more line true) (said : Says) (said_is : said ≡ line_says (without_terminator line)) where
     -- the line is bad
-    pub LeadsOn-bad : (why : Why) → bad_of said ≡ Some why → StreamsOn ways honest settings first file known old now (Ok (Some (n, why)))
+    pub LeadsOn-bad : (why : Why) → bad_of said ≡ Some why → StreamsOn ways honest settings first file known old now (Ok (Some (n, why))) st
     LeadsOn-bad why is_bad =
         let bad = bad_by said why is_bad in
         let (rest, is) = some_said more in
-        leads (Bad why ∷ rest) (said_first left more line (Bad why) rest next (sym bad ∙ said_is) is) now (Ok (Some (n, why))) (RunsOn-none cleans honest s st seen now) refl
+        leads (Bad why ∷ rest) (said_first left more line (Bad why) rest next (sym bad ∙ said_is) is) now (Ok (Some (n, why))) st (RunsOn-none ways honest s st seen now) refl refl
 
     -- it isn't
     module _ (good : bad_of said ≡ None) (b : Bool) (b_is : b ≡ honest) (t : Settings) (t_is : t ≡ s) (new : Option (List ℕ)) (after : Store) (bytes : List ℕ) where
       abbrev later_on : List Says → List Order
       later_on rest = streamed ways.stat (unended pending (said ∷ [])) rest
 
-      as_streamed : (rest : List Says) (last : Option (List ℕ)) (end : Result (Unit {0}) Ending) → RunsOn cleans honest s st seen (ended_by pending said ++ later_on rest) now last end
-          → RunsOn cleans honest s st seen (streamed ways.stat pending (said ∷ rest)) now last end
-      as_streamed rest last end p = subst (λ (os : List Order). RunsOn cleans honest s st seen os now last end) (sym (streamed-first ways.stat pending said rest good)) p
+      as_streamed : (rest : List Says) (last : Option (List ℕ)) (end : Result (Unit {0}) Ending) → RunsOn ways honest s st seen (ended_by pending said ++ later_on rest) now last end
+          → RunsOn ways honest s st seen (streamed ways.stat pending (said ∷ rest)) now last end
+      as_streamed rest last end p = subst (λ (os : List Order). RunsOn ways honest s st seen os now last end) (sym (streamed-first ways.stat pending said rest good)) p
 
       numbered : (rest : List Says) (end : Result (Option (ℕ × Why)) Ending) → IfOk end (λ bad. bad ≡ first_bad (n + 1) rest) → IfOk end (λ bad. bad ≡ first_bad n (said ∷ rest))
       numbered rest (Ok bad) is_bad = is_bad ∙ sym (first_bad-next n said rest good)
       numbered rest (Err early) is_bad = tt
 
       -- what it ends is not all done
-      pub LeadsOn-stops : (early : Ending) → RunsFirst cleans b t st seen (ended_by pending said) now new (Err early) after bytes
-          → StreamsOn ways honest settings first file known old new (Err early)
+      pub LeadsOn-stops : (early : Ending) → RunsFirst ways b t st seen (ended_by pending said) now new (Err early) after bytes
+          → StreamsOn ways honest settings first file known old new (Err early) after
       LeadsOn-stops early runs =
           let (rest, is) = some_said more in
           let all = same_run b b_is t t_is new after bytes (ended_by pending said) (Err early) runs (later_on rest) in
-          leads (said ∷ rest) (said_first left more line said rest next said_is is) new (Err early) (as_streamed rest new (Err early) all) tt
+          leads (said ∷ rest) (said_first left more line said rest next said_is is) new (Err early) after (as_streamed rest new (Err early) all) tt tt
 
       -- what it ends is done
-      pub LeadsOn-next : (done : Unit {0}) → RunsFirst cleans b t st seen (ended_by pending said) now new (Ok done) after bytes → (behind : List (Command Global))
-          → behind ≡ unended pending (said ∷ []) → LeadsOn ways honest settings first file known old s after bytes behind (n + 1) more new
-      LeadsOn-next done runs behind behind_is rest is last end further bad =
-          let on = subst (λ (p : List (Command Global)). RunsOn cleans honest s after bytes (streamed ways.stat p rest) new last (without_value end)) behind_is further in
+      pub LeadsOn-next : (done : Unit {0}) → RunsFirst ways b t st seen (ended_by pending said) now new (Ok done) after bytes
+          → contents after.tree ≡ map_left (contents st.tree) (ended_by pending said) → (after_order : List (Command Global))
+          → after_order ≡ unended pending (said ∷ []) → LeadsOn ways honest settings first file known old s after bytes after_order (n + 1) more new
+      LeadsOn-next done runs holds after_order orders_left_is rest is last end final further bad held =
+          let on = subst (λ (p : List (Command Global)). RunsOn ways honest s after bytes (streamed ways.stat p rest) new last (without_value end)) orders_left_is further in
           let all = same_run b b_is t t_is new after bytes (ended_by pending said) (Ok done) runs (later_on rest) last (without_value end) on in
-          leads (said ∷ rest) (said_first left more line said rest next said_is is) last end (as_streamed rest last (without_value end) all) (numbered rest end bad)
+          let whole : map_left (contents after.tree) (streamed ways.stat after_order rest) ≡ map_left (contents st.tree) (streamed ways.stat pending (said ∷ rest)) =
+          ap (λ (p : List (Command Global)). map_left (contents after.tree) (streamed ways.stat p rest)) orders_left_is
+          ∙ ap (λ (m : List (List ℕ × List ℕ)). map_left m (later_on rest)) holds
+          ∙ sym (map_left-append (contents st.tree) (ended_by pending said) (later_on rest))
+          ∙ ap (map_left (contents st.tree)) (sym (streamed-first ways.stat pending said rest good)) in
+          leads (said ∷ rest) (said_first left more line said rest next said_is is) last end final (as_streamed rest last (without_value end) all) (numbered rest end bad)
+          (on_ok_weaker end (λ kept. kept ∙ whole) held)
 
 -- ---- the whole stream
 
@@ -352,6 +368,13 @@ Prints-streamed old new printed r bad (Ok b) (inr (inr (e, p))) is = absurd (cc)
 Prints-streamed old new printed r bad (Err early) (inr (inl (e, p))) is = inr (inl (e, p))
 Prints-streamed old new printed r bad (Err early) (inr (inr (e, p))) is = inr (inr (e, p))
 
+-- what holds where lines are all run does where what was written is handed on
+held_where_done : (done : Result (Option (ℕ × Why)) Ending) (flushed : Result (Unit {0}) Ending) (P : Type 0) → (flushed ≡ stream_ended done) ⊎ (flushed ≡ Err Device) → OnOk done P
+    → OnOk flushed P
+held_where_done (Ok bad) flushed P ended p = OnOk-always flushed p
+held_where_done (Err early) flushed P (inl e) p = subst (λ (r : Result (Unit {0}) Ending). OnOk r P) (sym e) tt
+held_where_done (Err early) flushed P (inr e) p = subst (λ (r : Result (Unit {0}) Ending). OnOk r P) (sym e) tt
+
 -- there is no store: nothing is printed
 Prints-no_store : (old : Option (List ℕ)) (shown : Reads) (orders : List Order) (bad : Option (ℕ × Why)) (start : Start) (early : Ending) → IsUnopened start early
     → Prints old old (lines_after None start shown orders) (end_streamed bad start shown orders) (Err early)
@@ -361,32 +384,42 @@ Prints-no_store old shown orders bad start early (inr (inr e)) = inr (inr (ap (�
 
 module _ (ways : Ways) (known old : Option (List ℕ)) (start : Start) {D : Type 0} (view : D → View) (opened : Result (State D) Ending) (opens : Opens view start opened) where
   -- there is no store
-  pub StreamsFrom-unopened : (early : Ending) → opened ≡ Err early → StreamsFrom ways (IsHonestStore view opened) start known old old (Err early)
+  pub StreamsFrom-unopened : (early : Ending) → opened ≡ Err early → (copy : Option Settings) → StreamsFrom ways copy (IsHonestStore view opened) start known old old (Err early)
   unfolding StreamsFrom
-  StreamsFrom-unopened early e =
+  StreamsFrom-unopened early e copy =
       let (said, is) = some_said known in
       let orders : List Order = streamed ways.stat [] said in
-      let (shown, are) = leave_from ways.clean_when_full start orders in
-      (said, is, shown, λ h. are, Prints-no_store old shown (run_from ways.clean_when_full start shown orders) (first_bad 1 said) start early (subst (Opens view start) e opens))
+      let (shown, none, are) = leave_from ways.clean_when_full start orders in
+      let ran : List Order = run_from ways.clean_when_full start shown orders in (
+        said,
+        is,
+        shown,
+        (λ off. none, λ h. are),
+        PrintsCopied-before copy (map_left_from start orders) old old (lines_after None start shown ran) (end_streamed (first_bad 1 said) start shown ran) (Err early)
+            (Prints-no_store old shown ran (first_bad 1 said) start early (subst (Opens view start) e opens)),
+      )
 
-  -- there is one: the lines are run on it
-  pub StreamsFrom-opened : (x : State D) (mid new : Option (List ℕ)) (done : Result (Option (ℕ × Why)) Ending) (end : Result (Unit {0}) Ending) → opened ≡ Ok x
-      → StreamsOn ways (view x.disk).is_honest x.settings x.store (view x.disk).seen known old mid done → Keeps mid new → (end ≡ stream_ended done) ⊎ (end ≡ Err Device)
-      → StreamsFrom ways (IsHonestStore view opened) start known old new end
+  -- there is one: the lines are run on it, and then there is the copy of what they leave, or there is none
+  pub StreamsFrom-opened : (x : State D) (mid new : Option (List ℕ)) (done : Result (Option (ℕ × Why)) Ending) (after : Store) (flushed : Result (Unit {0}) Ending) → opened ≡ Ok x
+      → StreamsOn ways (view x.disk).is_honest x.settings x.store (view x.disk).seen known old mid done after → Keeps mid new → (flushed ≡ stream_ended done) ⊎ (flushed ≡ Err Device)
+      → (copy : Option Settings) (end : Result (Unit {0}) Ending) → IsLeft copy (contents after.tree) flushed end → StreamsFrom ways copy (IsHonestStore view opened) start known old new end
   unfolding StreamsFrom Runs
-  StreamsFrom-opened x mid new done end e (said, is, (shown, are, runs), bad) kept ended =
+  StreamsFrom-opened x mid new done after flushed e (said, is, (shown, are, runs), bad, holds) kept ended copy end left =
       let (file, start_is, seen_is) = subst (Opens view start) e opens in
       let orders : List Order = run_of ways.clean_when_full x.settings x.store shown (streamed ways.stat [] said) in
       let is_left : IsHonestStore view opened → AreLeft x.settings x.store file shown orders = λ honest.
       let h : IsTrue (view x.disk).is_honest = subst (IsHonestStore view) e honest in
-      subst (λ (f : List ℕ). AreLeft x.settings x.store f shown orders) (seen_is h) (are h) in
+      subst (λ (f : List ℕ). AreLeft x.settings x.store f shown orders) (seen_is h) (are.1 h) in
       rw start_is (
         said,
         is,
         shown,
-        is_left,
-        Prints-flushed old mid new (lines_after None (Ok (x.settings, (x.store, file))) shown orders) (end_streamed (first_bad 1 said) (Ok (x.settings, (x.store, file))) shown orders)
-            (stream_ended done) end (Prints-streamed old mid _ (first_refusal x.settings x.store shown orders) (first_bad 1 said) done runs bad) kept ended,
+        (are.0, is_left),
+        PrintsCopied-left copy (map_left (contents x.store.tree) (streamed ways.stat [] said)) (contents after.tree) old new (lines_after None (Ok (x.settings, (x.store, file))) shown orders)
+            (end_streamed (first_bad 1 said) (Ok (x.settings, (x.store, file))) shown orders) flushed end
+            (Prints-flushed old mid new (lines_after None (Ok (x.settings, (x.store, file))) shown orders) (end_streamed (first_bad 1 said) (Ok (x.settings, (x.store, file))) shown orders)
+            (stream_ended done) flushed (Prints-streamed old mid _ (first_refusal x.settings x.store shown orders) (first_bad 1 said) done runs bad) kept ended)
+            (held_where_done done flushed _ ended holds) left,
       )
 
 -- ---- what is right for a stream
@@ -399,47 +432,102 @@ prepend-none (Some bytes) = refl
 buffered : (capacity : ℕ) (held : List ℕ) (known : Option (List ℕ)) → capacity ≡ 8192 → held ≡ [] → (if capacity == 0 then None else prepend_known held known) ≡ known
 buffered capacity held known some none = rw (some, none) (prepend-none known)
 
-module _ (told : Told) (known old : Option (List ℕ)) where
+module _ (request : Request) (known old : Option (List ℕ)) where
   -- it ends before any line is run, for want of memory or since a device failed
-  pub Streams-cut : (early : Ending) → IsCut early → Streams told known old old (Err early)
+  pub Streams-cut : (early : Ending) → IsCut early → Streams request known old old (Err early)
   unfolding Streams
   Streams-cut early cut =
       let (said, is_known) = some_said known in
-      let (start, is) = start_of (is_crew told.crew) told.settings told.disk told.create in
-      let (shown, are) = leave_from told.ways.clean_when_full start (streamed told.ways.stat [] said) in
-      (said, is_known, start, is, shown, λ memory. are, Prints-cut old (stream_lines told start shown said) (stream_end told start shown said) early cut)
+      let (start, is) = start_of (is_crew request.crew) request.settings request.disk request.create (copy_of request) in
+      let (shown, none, are) = leave_from request.ways.clean_when_full start (streamed request.ways.stat [] said) in (
+        said,
+        is_known,
+        start,
+        is,
+        shown,
+        (λ off. none, λ memory. are),
+        PrintsCopied-before (copy_of request) (map_left_from start (streamed request.ways.stat [] said)) old old (stream_lines request start shown said) (stream_end request start shown said) (Err early)
+            (Prints-cut old (stream_lines request start shown said) (stream_end request start shown said) early cut),
+      )
+
+  -- there is no store
+  pub Streams-no_store : (fault : Fault) → IsStart request (Err fault) → Streams request known old old (Err (endings.Fault fault))
+  unfolding Streams
+  Streams-no_store fault is =
+      let (said, is_known) = some_said known in
+      let start : Start = Err fault in
+      let shown : Reads = λ i. untidied [] in (
+        said,
+        is_known,
+        start,
+        is,
+        shown,
+        (λ off i. refl, λ memory. tt),
+        PrintsCopied-before (copy_of request) (map_left_from start (streamed request.ways.stat [] said)) old old (stream_lines request start shown said) (stream_end request start shown said)
+            (Err (endings.Fault fault)) (inl (refl, Appends-nil old)),
+      )
 
   -- the crew is out of range
-  pub Streams-no_crew : is_crew told.crew ≡ false → Streams told known old old (Err (endings.Fault BadCrew))
-  unfolding Streams
-  Streams-no_crew out_of_range =
-      let (said, is_known) = some_said known in
-      let start : Start = Err BadCrew in
-      (said, is_known, start, start_without_crew told out_of_range, λ i. [], λ memory. tt, inl (refl, Appends-nil old))
+  pub Streams-no_crew : is_crew request.crew ≡ false → Streams request known old old (Err (endings.Fault BadCrew))
+  Streams-no_crew out_of_range = Streams-no_store BadCrew (start_without_crew request out_of_range)
+
+  -- the settings of a copy are refused, or its file is
+  pub Streams-uncopied : IsTrue (is_crew request.crew) → (early : Ending) → IsUncopied (copy_of request) early → Streams request known old old (Err early)
+  Streams-uncopied in_range early why = by (start_of_uncopied request in_range early why)
+    where
+      by : ((fault : Fault) × IsStart request (Err fault) × (early ≡ endings.Fault fault)) ⊎ (early ≡ Device) → Streams request known old old (Err early)
+      by (inl (fault, is, e)) = subst (λ (x : Ending). Streams request known old old (Err x)) (sym e) (Streams-no_store fault is)
+      by (inr e) = Streams-cut early (inr e)
 
 -- it is run from a right start
-pub Streams-run : (told : Told) (known old new : Option (List ℕ)) (end : Result (Unit {0}) Ending) (start : Start) → IsStart told start → (IsHonest : Type 0)
-    → (told.disk ≡ None → IsHonest) → StreamsFrom told.ways IsHonest start known old new end → Streams told known old new end
+pub Streams-run : (request : Request) (known old new : Option (List ℕ)) (end : Result (Unit {0}) Ending) (start : Start) → IsStart request start → (IsHonest : Type 0)
+    → (request.disk ≡ None → IsHonest) → (copy : Option Settings) → copy ≡ copy_of request → StreamsFrom request.ways copy IsHonest start known old new end → Streams request known old new end
 unfolding Streams StreamsFrom
-Streams-run told known old new end start is IsHonest honest (said, is_known, shown, are, p) = (said, is_known, start, is, shown, λ memory. are (honest memory), p)
+Streams-run request known old new end start is IsHonest honest copy e_copy p =
+    let (said, is_known, shown, are, q) = subst (λ (c : Option Settings). StreamsFrom request.ways c IsHonest start known old new end) e_copy p in
+    (said, is_known, start, is, shown, (are.0, λ memory. are.1 (honest memory)), q)
+
+-- a session without the copy prints the same, and ends so, or all is done
+pub Streams-plain : (request : Request) → first_bad_field request.settings ≡ None → (known old new : Option (List ℕ)) (end : Result (Unit {0}) Ending) → Streams request known old new end
+    → (plain : Result (Unit {0}) Ending) × Streams (record request { copy_to = None }) known old new plain × IsEndAfter plain end
+unfolding Streams
+Streams-plain request good known old new end (said, is_known, start, is, shown, is_shown, p) =
+    let (plain, q, after) =
+    PrintsCopied-plain (copy_of request) (map_left_from start (streamed request.ways.stat [] said)) old new (stream_lines request start shown said) (stream_end request start shown said) end p in
+    (plain, (said, is_known, start, IsStart-plain request good start is, shown, is_shown, q), after)
 
 -- another crew that is in range where this one is
-pub Streams-crew : (told : Told) (crew : Crew) → is_crew crew ≡ is_crew told.crew → (known old new : Option (List ℕ)) (end : Result (Unit {0}) Ending)
-    → Streams told known old new end → Streams (record told { crew = crew }) known old new end
+pub Streams-crew : (request : Request) (crew : Crew) → is_crew crew ≡ is_crew request.crew → (known old new : Option (List ℕ)) (end : Result (Unit {0}) Ending)
+    → Streams request known old new end → Streams (record request { crew = crew }) known old new end
 unfolding Streams
-Streams-crew told crew same known old new end (said, is_known, start, is, shown, is_shown, printed_so) =
-    let is_right : Bool → Type 0 = λ b. MatchBool b (IsStartBy told.settings told.disk told.create start) (start ≡ Err BadCrew) in
+Streams-crew request crew same known old new end (said, is_known, start, is, shown, is_shown, printed_so) =
+    let is_right : Bool → Type 0 = λ b. MatchBool b (IsStartBy request.settings request.disk request.create (copy_of request) start) (start ≡ Err BadCrew) in
     (said, is_known, start, subst is_right (sym same) is, shown, is_shown, printed_so)
 
 -- nothing was appended first
-pub Streams-asked : (old mid new : Option (List ℕ)) → Appends old mid [] → (told : Told) (known : Option (List ℕ)) (end : Result (Unit {0}) Ending) → Streams told known mid new end
-    → Streams told known old new end
+pub Streams-asked : (old mid new : Option (List ℕ)) → Appends old mid [] → (request : Request) (known : Option (List ℕ)) (end : Result (Unit {0}) Ending) → Streams request known mid new end
+    → Streams request known old new end
 unfolding Streams
-Streams-asked old mid new asked told known end (said, is_known, start, is, shown, is_shown, p) =
-    (said, is_known, start, is, shown, is_shown, Prints-asked old mid new asked (stream_lines told start shown said) (stream_end told start shown said) end p)
+Streams-asked old mid new asked request known end (said, is_known, start, is, shown, is_shown, p) = (
+  said,
+  is_known,
+  start,
+  is,
+  shown,
+  is_shown,
+  PrintsCopied-asked (copy_of request) (map_left_from start (streamed request.ways.stat [] said)) old mid new asked (stream_lines request start shown said) (stream_end request start shown said) end p,
+)
+
+-- what was known was kept, before the lines were read
+pub Streams-kept : (request : Request) (known left : Option (List ℕ)) → Keeps known left → (old new : Option (List ℕ)) (end : Result (Unit {0}) Ending) → Streams request left old new end
+    → Streams request known old new end
+unfolding Streams
+Streams-kept request None left kept old new end (said, is_known, start, is, shown, is_shown, p) = (said, tt, start, is, shown, is_shown, p)
+Streams-kept request (Some xs) None kept old new end p = absurd kept
+Streams-kept request (Some xs) (Some ys) kept old new end p = subst (λ (bytes : List ℕ). Streams request (Some bytes) old new end) kept p
 
 -- the lines are read by way of a buffer, which holds nothing first
-pub Streams-buffered : (capacity : ℕ) (held : List ℕ) (inner known : Option (List ℕ)) → capacity ≡ 8192 → held ≡ [] → inner ≡ known → (told : Told) (old new : Option (List ℕ))
-    (end : Result (Unit {0}) Ending) → Streams told (if capacity == 0 then None else prepend_known held inner) old new end → Streams told known old new end
-Streams-buffered capacity held inner known some none same told old new end p =
-    subst (λ (bytes : Option (List ℕ)). Streams told bytes old new end) (buffered capacity held inner some none ∙ same) p
+pub Streams-buffered : (capacity : ℕ) (held : List ℕ) (inner known : Option (List ℕ)) → capacity ≡ 8192 → held ≡ [] → inner ≡ known → (request : Request) (old new : Option (List ℕ))
+    (end : Result (Unit {0}) Ending) → Streams request (if capacity == 0 then None else prepend_known held inner) old new end → Streams request known old new end
+Streams-buffered capacity held inner known some none same request old new end p =
+    subst (λ (bytes : Option (List ℕ)). Streams request bytes old new end) (buffered capacity held inner some none ∙ same) p

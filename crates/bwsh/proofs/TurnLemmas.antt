@@ -36,10 +36,10 @@ any_of P (known ∷ rest) all name e = go (bytes_eq known name) refl e (any_of P
 
 -- an option that takes nothing takes no number and no text
 pub no_number : (name : Text) → takes_nothing name ≡ true → takes_number name ≡ false
-no_number = any_of (λ name. takes_number name ≡ false) flag_names (refl, (refl, (refl, (refl, (refl, (refl, tt))))))
+no_number = any_of (λ name. takes_number name ≡ false) flag_names (refl, (refl, (refl, (refl, (refl, (refl, (refl, tt)))))))
 
 no_text : (name : Text) → takes_nothing name ≡ true → takes_text name ≡ false
-no_text = any_of (λ name. takes_text name ≡ false) flag_names (refl, (refl, (refl, (refl, (refl, (refl, tt))))))
+no_text = any_of (λ name. takes_text name ≡ false) flag_names (refl, (refl, (refl, (refl, (refl, (refl, (refl, tt)))))))
 
 -- an option that takes a text, with these defaults, and checked so
 abbrev pub taking : Text → List Text → ValueParser → Rule

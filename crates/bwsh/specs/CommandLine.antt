@@ -9,7 +9,7 @@ use Rattle.clap.specs.declared.builder.value_parser.ValueParser.TheVariants as v
 use Rattle.clap.specs.declared.builder.value_parser.Reading.{Reading}
 use Rattle.clap.specs.declared.builder.value_parser.Reading.TheVariants.{AsWritten, WithoutMinus}
 use Rattle.clap.specs.declared.parser.matches.ValueSource.TheVariants.{CommandLine}
-use Rattle.bwsh.specs.Options.{Text, Given, fits, flag_names, takes_nothing, takes_number}
+use Rattle.bwsh.specs.Options.{Text, Given, fits, flag_names, path_names, takes_nothing, takes_number}
 
 -- an option that takes a number
 abbrev pub number_rule : Text → Text → Rule
@@ -34,24 +34,28 @@ plain_bwsh = on_top (λ s. record s { no_binary_name = true }) (new_app (codes "
 
 -- the program with its options
 abbrev pub bwsh : App
-bwsh = with_rule (with_rule (with_rule (with_rule (with_rule (with_rule (with_rule (with_rule (with_rule (with_rule (with_rule (with_rule (with_rule (with_rule (with_rule plain_bwsh
+bwsh = with_rule (with_rule (with_rule (with_rule (with_rule (with_rule (with_rule (with_rule (with_rule (with_rule (with_rule (with_rule (with_rule (with_rule (with_rule (with_rule (with_rule (with_rule plain_bwsh
     (number_rule (codes "fan") (codes "16"))) (number_rule (codes "chain") (codes "4")))
     (number_rule (codes "max-key") (codes "64"))) (number_rule (codes "max-value") (codes "256")))
     (number_rule (codes "seg-size") (codes "65536"))) (number_rule (codes "segments") (codes "64")))
     (number_rule (codes "workers") (codes "1"))) (number_rule (codes "grain") (codes "64")))
-    (text_rule (codes "disk"))) (flag_rule (codes "create"))) (flag_rule (codes "version"))) (flag_rule (codes "explain")))
-    (flag_rule (codes "stat"))) (flag_rule (codes "clean-when-full")))
-    (flag_rule (codes "stream"))
+    (number_rule (codes "tidy") (codes "0"))) (text_rule (codes "disk"))) (text_rule (codes "copy-to"))) (flag_rule (codes "create"))) (flag_rule (codes "version")))
+    (flag_rule (codes "explain"))) (flag_rule (codes "stat"))) (flag_rule (codes "clean-when-full"))) (flag_rule (codes "stream")))
+    (flag_rule (codes "progress"))
 
 -- the options that take a number, each with the text of its default
 abbrev pub number_defaults : List (Text × Text)
 number_defaults = (codes "fan", codes "16") ∷ (codes "chain", codes "4") ∷ (codes "max-key", codes "64")
     ∷ (codes "max-value", codes "256") ∷ (codes "seg-size", codes "65536") ∷ (codes "segments", codes "64")
-    ∷ (codes "workers", codes "1") ∷ (codes "grain", codes "64") ∷ []
+    ∷ (codes "workers", codes "1") ∷ (codes "grain", codes "64") ∷ (codes "tidy", codes "0") ∷ []
 
 -- an option of these as a parse reads it
 abbrev pub built_number : Text × Text → Rule
 built_number p = filled (number_rule p.0 p.1)
+
+-- an option that takes a path as a parse reads it
+abbrev pub built_path : Text → Rule
+built_path name = filled (text_rule name)
 
 -- an option that takes nothing as a parse reads it
 abbrev pub built_flag : Text → Rule
@@ -59,7 +63,7 @@ built_flag name = filled (flag_rule name)
 
 -- all options as a parse reads them
 abbrev pub built_rules : List Rule
-built_rules = map built_number number_defaults ++ filled (text_rule (codes "disk")) ∷ map built_flag flag_names
+built_rules = map built_number number_defaults ++ map built_path path_names ++ map built_flag flag_names
 
 -- how the text of an option is read
 abbrev pub reading_at : Text → Reading

@@ -4,6 +4,7 @@ pub mod KeptBatch
 pub mod Line
 pub mod Number
 pub mod Options
+pub mod Progress
 pub mod Session
 pub mod Shown
 pub mod Token

@@ -76,29 +76,29 @@ alone says _ = Bad WordCount
 
 -- what is said by this word and those after it, where it is none of a command
 abbrev pub order_says : Bytes → List Bytes → Says
-order_says word behind =
-    if bytes_eq word (codes "go") then alone Go behind else (
-    if bytes_eq word (codes "flush") then alone Flush behind else (
-    if bytes_eq word (codes "clean") then alone Clean behind else (
-    if bytes_eq word (codes "upgrade") then alone Upgrade behind else (
-    if bytes_eq word (codes "verify") then alone Verify behind else
+order_says word following =
+    if bytes_eq word (codes "go") then alone Go following else (
+    if bytes_eq word (codes "flush") then alone Flush following else (
+    if bytes_eq word (codes "clean") then alone Clean following else (
+    if bytes_eq word (codes "upgrade") then alone Upgrade following else (
+    if bytes_eq word (codes "verify") then alone Verify following else
     Bad UnknownCommand))))
 
 -- what is said by this word and those after it
 abbrev pub command_says : Bytes → List Bytes → Says
-command_says word behind =
-    if bytes_eq word (codes "put") then command_or_bad (λ (k, v). Put k v) (key_and_value behind) else (
-    if bytes_eq word (codes "add") then command_or_bad (λ (k, v). Add k v) (key_and_value behind) else (
-    if bytes_eq word (codes "get") then command_or_bad Get (only_key behind) else (
-    if bytes_eq word (codes "del") then command_or_bad Del (only_key behind) else (
-    if bytes_eq word (codes "scan") then scan_says behind else (
-    if bytes_eq word (codes "wipe") then wipe_says behind else
-    order_says word behind)))))
+command_says word following =
+    if bytes_eq word (codes "put") then command_or_bad (λ (k, v). Put k v) (key_and_value following) else (
+    if bytes_eq word (codes "add") then command_or_bad (λ (k, v). Add k v) (key_and_value following) else (
+    if bytes_eq word (codes "get") then command_or_bad Get (only_key following) else (
+    if bytes_eq word (codes "del") then command_or_bad Del (only_key following) else (
+    if bytes_eq word (codes "scan") then scan_says following else (
+    if bytes_eq word (codes "wipe") then wipe_says following else
+    order_says word following)))))
 
 -- what a line of these words says: nothing where there are none, or where the first begins with `#`
 abbrev pub words_say : List Bytes → Says
 words_say [] = Nothing
-words_say (word ∷ behind) = if starts_with nat_eq word (codes "#") then Nothing else command_says word behind
+words_say (word ∷ following) = if starts_with nat_eq word (codes "#") then Nothing else command_says word following
 
 -- what the line says
 abbrev pub line_says : Bytes → Says

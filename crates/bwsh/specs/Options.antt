@@ -25,19 +25,28 @@ texts = map string_bytes
 -- the options that take a number
 abbrev pub number_names : List Text
 number_names = codes "fan" ∷ codes "chain" ∷ codes "max-key" ∷ codes "max-value" ∷ codes "seg-size" ∷ codes "segments"
-    ∷ codes "workers" ∷ codes "grain" ∷ []
+    ∷ codes "workers" ∷ codes "grain" ∷ codes "tidy" ∷ []
 
 -- the option takes a number
 abbrev pub takes_number : Text → Bool
 takes_number name = list_any (λ known. bytes_eq known name) number_names
 
--- the option takes a text: a number, or the path of the file in which the store is
+-- the options that take the path of a file
+abbrev pub path_names : List Text
+path_names = codes "disk" ∷ codes "copy-to" ∷ []
+
+-- the option takes a path
+abbrev pub takes_path : Text → Bool
+takes_path name = list_any (λ known. bytes_eq known name) path_names
+
+-- the option takes a text: a number, or the path of a file
 abbrev pub takes_text : Text → Bool
-takes_text name = takes_number name || bytes_eq (codes "disk") name
+takes_text name = takes_number name || takes_path name
 
 -- the options that take nothing
 abbrev pub flag_names : List Text
-flag_names = codes "create" ∷ codes "version" ∷ codes "explain" ∷ codes "stat" ∷ codes "clean-when-full" ∷ codes "stream" ∷ []
+flag_names = codes "create" ∷ codes "version" ∷ codes "explain" ∷ codes "stat" ∷ codes "clean-when-full" ∷ codes "stream"
+    ∷ codes "progress" ∷ []
 
 -- the option takes nothing
 abbrev pub takes_nothing : Text → Bool
@@ -153,9 +162,9 @@ settings_of given = record {
 abbrev pub crew_of : Given → Crew
 crew_of given = record { workers = number_or 1 (codes "workers") given; grain = number_or 64 (codes "grain") given }
 
--- the path that was given, if one was
-abbrev pub disk_of : Given → Option Text
-disk_of given = option_map (λ g. g.1) (find (λ g. bytes_eq g.0 (codes "disk")) given)
+-- the path that was given for the option, if one was
+abbrev pub path_of : Text → Given → Option Text
+path_of name given = option_map (λ g. g.1) (find (λ g. bytes_eq g.0 name) given)
 
 -- the ways of what was given
 abbrev pub ways_of : Given → Ways
@@ -165,34 +174,49 @@ ways_of given = record {
   stat = is_given (codes "stat") given;
   clean_when_full = is_given (codes "clean-when-full") given;
   stream = is_given (codes "stream") given;
+  tidy = number_or 0 (codes "tidy") given;
+  progress = is_given (codes "progress") given;
 }
 
--- what words ask for: the six settings, the crew, the file in which the store is, if it is in one, whether that file is made anew, and in
--- which ways the session differs from a plain one
-pub record Told : Type 0 where
+-- what words ask for: the six settings, the crew, the file in which the store is, if it is in one, whether that file is made anew, the new
+-- file into which the store is copied, if it is, and in which ways the session differs from a plain one
+pub record Request : Type 0 where
   pub settings : Settings
   pub crew : Crew
   pub disk : Option Text
   pub create : Bool
+  pub copy_to : Option Text
   pub ways : Ways
 
 -- what was given asks for this
-abbrev pub told_by : Given → Told
-told_by given = record {
+abbrev pub request_by : Given → Request
+request_by given = record {
   settings = settings_of given;
   crew = crew_of given;
-  disk = disk_of given;
+  disk = path_of (codes "disk") given;
   create = is_given (codes "create") given;
+  copy_to = path_of (codes "copy-to") given;
   ways = ways_of given;
 }
 
 -- the words ask for these
-abbrev pub AsksFor : List Text → Told → Type 0
-AsksFor words told = (given : Given) × (asked words ≡ options given) × (told ≡ told_by given)
+abbrev pub AsksFor : List Text → Request → Type 0
+AsksFor words request = (given : Given) × (asked words ≡ options given) × (request ≡ request_by given)
 
 -- what the options of the code say, as text
-abbrev pub told_of : Options → Told
-told_of o = record { settings = o.settings; crew = o.crew; disk = option_map string_bytes o.disk; create = o.create; ways = o.ways }
+abbrev pub request_of : Options → Request
+request_of o = record {
+  settings = o.settings;
+  crew = o.crew;
+  disk = option_map string_bytes o.disk;
+  create = o.create;
+  copy_to = option_map string_bytes o.copy_to;
+  ways = o.ways;
+}
+
+-- the settings of the copy that words ask for, if they ask for one: those of the command line
+abbrev pub copy_of : Request → Option Settings
+copy_of request = option_map (λ path. request.settings) request.copy_to
 
 -- the words ask for help
 abbrev pub AsksForHelp : List Text → Type 0
@@ -200,15 +224,19 @@ AsksForHelp words = asked words ≡ help
 
 -- the words ask for the version
 abbrev pub AsksForVersion : List Text → Type 0
-AsksForVersion words = (told : Told) × AsksFor words told × (told.ways.version ≡ true)
+AsksForVersion words = (request : Request) × AsksFor words request × (request.ways.version ≡ true)
 
 -- the words ask for an explanation of the end
 abbrev pub AsksToExplain : List Text → Type 0
-AsksToExplain words = (told : Told) × AsksFor words told × (told.ways.explain ≡ true)
+AsksToExplain words = (request : Request) × AsksFor words request × (request.ways.explain ≡ true)
 
 -- the words ask for a stream
 abbrev pub AsksToStream : List Text → Type 0
-AsksToStream words = (told : Told) × AsksFor words told × (told.ways.stream ≡ true)
+AsksToStream words = (request : Request) × AsksFor words request × (request.ways.stream ≡ true)
+
+-- the words ask for progress
+abbrev pub AsksForProgress : List Text → Type 0
+AsksForProgress words = (request : Request) × AsksFor words request × (request.ways.progress ≡ true)
 
 -- the words ask for a text, and for nothing to be read: for help, or for the version
 abbrev pub AsksForText : List Text → Type 0

@@ -1,7 +1,8 @@
 -- What a session starts on, what it runs and prints, and how it ends.
-use Rattle.std.specs.Prelude.{◌≡◌, ◌⊎◌, ◌+◌, ◌-◌, ◌&&◌, ℕ, zero, suc, Bool, not, true, false, IsTrue, ⊤, List, [], ◌∷◌, ◌++◌, map, is_some, codes, replicate, if◌then◌else◌, Option, Some, None, IfSome, Result, Ok, Err, IfOk, OnOk}
+use Rattle.std.specs.Prelude.{◌≡◌, ◌⊎◌, ◌+◌, ◌-◌, ◌&&◌, ℕ, zero, suc, Bool, not, true, false, IsTrue, ⊤, List, [], ◌∷◌, ◌++◌, map, is_some, codes, replicate, if◌then◌else◌, Option, Some, None, IfSome, Result, Ok, Err, IfOk, IfErr, OnOk}
 use Rattle.std.specs.Bool.{MatchBool}
 use Rattle.std.specs.Option.{option_map, option_or}
+use Rattle.std.specs.Str.{bytes_eq}
 use Rattle.std.specs.Fmt.{decimal}
 use Rattle.std.specs.Io.KnownBytes.{Appends}
 use Rattle.std.specs.declared.alloc.Global.{Global}
@@ -10,17 +11,20 @@ use Rattle.keys.specs.Bytes.{Bytes, Pairs}
 use Rattle.keys.specs.Lists.{flat}
 use Rattle.keys.specs.Limits.{first_bad_field}
 use Rattle.keys.specs.Step.{replies_to, map_after_all}
+use Rattle.keys.specs.declared.command.Command.{Command}
 use Rattle.keys.specs.declared.settings.Settings.{Settings}
 use Rattle.keys.specs.declared.settings.Field.{Field}
 use Rattle.keys.specs.declared.fault.Fault.{Fault}
 use Rattle.keys.specs.declared.fault.Fault.TheVariants.{BadCrew, BadSettings, Full, NoMemory, NothingToClean}
-use Rattle.mapping.specs.Tree.{Store}
+use Rattle.mapping.specs.Tree.{Store, Tree, with_tree}
 use Rattle.mapping.specs.Levels.{contents}
 use Rattle.verify.specs.Report.{report}
 use Rattle.flush_log.specs.Disk.{View}
 use Rattle.flush_log.specs.NewStore.{disk_of_new}
 use Rattle.flush_log.specs.Segments.{disk_size, last_segment}
 use Rattle.recovery.specs.StoreOfDisk.{first_store, store_of_disk}
+use Rattle.engine.specs.Batches.{tree_in_turn}
+use Rattle.engine.specs.Copies.{IsFilledFault, IsPutFault}
 use Rattle.engine.specs.State.{State}
 use Rattle.engine.specs.Steps.{Step, Stepped, batching, after_step}
 use Rattle.bwsh.specs.declared.line.Says.{Says}
@@ -36,7 +40,8 @@ use Rattle.bwsh.specs.declared.session.Ending.TheVariants as endings
 use Rattle.bwsh.specs.declared.show.StoreNumbers.{StoreNumbers}
 use Rattle.bwsh.specs.BatchFile.{text_says, first_bad, orders_of, streamed, with_numbers}
 use Rattle.bwsh.specs.Line.{why_text}
-use Rattle.bwsh.specs.Options.{Text, Told, AsksFor, AsksForText, AsksToExplain, AreRefused}
+use Rattle.bwsh.specs.Options.{Text, Request, AsksFor, AsksForProgress, AsksForText, AsksToExplain, AreRefused, copy_of}
+use Rattle.bwsh.specs.Progress.{Sight, shown_sight}
 use Rattle.bwsh.specs.Shown.{shown_reply, shown_flushed, shown_cleaned, shown_upgraded, shown_report, shown_numbers}
 
 -- the exit status of a session that ends before all is done
@@ -59,9 +64,9 @@ ending_text (endings.Fault fault) = None
 ending_text Device = Some (codes "fault 9 Device" ++ 10 ∷ [])
 
 -- the message for an end, where a clause can say it: none for one with all done
-abbrev pub told_text : Result (Unit {0}) Ending → Option Bytes
-told_text (Ok done) = Some []
-told_text (Err early) = ending_text early
+abbrev pub reported_text : Result (Unit {0}) Ending → Option Bytes
+reported_text (Ok done) = Some []
+reported_text (Err early) = ending_text early
 
 -- the message for words that cannot be read, with its line feed
 abbrev pub unread_text : Bytes
@@ -93,6 +98,11 @@ abbrev pub start_unless : Option Field → Settings → Stored → Start
 start_unless None settings at = Ok (settings, at)
 start_unless (Some field) settings at = Err (BadSettings field)
 
+-- this start, unless there is a bad field
+abbrev pub start_unless_bad : Option Field → Start → Start
+start_unless_bad None start = start
+start_unless_bad (Some field) start = Err (BadSettings field)
+
 -- a new store under these settings, on a disk that had these bytes
 abbrev pub new_start : Settings → Bytes → Start
 new_start settings file = start_unless (first_bad_field settings) settings (first_stored settings file)
@@ -105,21 +115,39 @@ start_by file (Err fault) = Err fault
 abbrev pub found_start : Bytes → Start
 found_start file = start_by file (store_of_disk file)
 
--- this is a right start under these settings for a store that is kept in this file, if in one, which is made anew or is not. In
--- memory it is a new store, on a disk of zeros; in a file that is made anew too, whatever bytes this had; else it is what the
--- bytes of the file stand for, whichever they are.
-abbrev pub IsStartBy : Settings → Option Text → Bool → Start → Type 0
-IsStartBy settings None create start = start ≡ new_start settings (replicate (disk_size settings) 0)
-IsStartBy settings (Some path) true start = (file : Bytes) × (start ≡ new_start settings file)
-IsStartBy settings (Some path) false start = (file : Bytes) × (start ≡ found_start file)
+-- this start, where there is to be no copy; else this, unless the settings of the copy have a bad field
+abbrev pub start_for_copy : Option Settings → Start → Start
+start_for_copy None start = start
+start_for_copy (Some settings) start = start_unless_bad (first_bad_field settings) start
+
+-- this is a right start under these settings for a store that is kept in this file, if in one, which is made anew or is not, and that is to be
+-- copied under some settings or isn't. In memory it is a new store, on a disk of zeros; in a file that is made anew too, whatever bytes this had;
+-- else it is what the bytes of the file stand for, whichever they are.
+abbrev pub IsStartBy : Settings → Option Text → Bool → Option Settings → Start → Type 0
+IsStartBy settings None create copy start = start ≡ new_start settings (replicate (disk_size settings) 0)
+IsStartBy settings (Some path) true copy start = (file : Bytes) × (start ≡ new_start settings file)
+IsStartBy settings (Some path) false copy start = (file : Bytes) × (start ≡ start_for_copy copy (found_start file))
 
 -- it is for what the words give: with a crew that is in range this, whichever the crew is; else there is no store, whatever else they give
-abbrev pub IsStart : Told → Start → Type 0
-IsStart told start = MatchBool (is_crew told.crew) (IsStartBy told.settings told.disk told.create start) (start ≡ Err BadCrew)
+abbrev pub IsStart : Request → Start → Type 0
+IsStart request start = MatchBool (is_crew request.crew) (IsStartBy request.settings request.disk request.create (copy_of request) start) (start ≡ Err BadCrew)
 
--- what a read of the disk gives before each order, counted from 0
+-- batches by which a store is tidied, one after the other
+abbrev pub Batches : Type 0
+Batches = List (List (Command Global))
+
+-- what is seen at an order: what a read of the disk gives before it, and by which batches the store is tidied after it, where it is a flush
+pub record Seen : Type 0 where
+  pub bytes : Bytes
+  pub tidying : Batches
+
+-- the same where nothing is tidied
+abbrev pub untidied : Bytes → Seen
+untidied file = record { bytes = file; tidying = [] }
+
+-- what is seen at each order, counted from 0
 abbrev pub Reads : Type 0
-Reads = ℕ → Bytes
+Reads = ℕ → Seen
 
 -- and before each of those after the first
 abbrev pub later : Reads → Reads
@@ -144,30 +172,61 @@ refused_by (Ok p) = None
 refused_by (Err fault) = Some fault
 
 -- the same of a step that there may be
-abbrev pub behind_step : Settings → Stored → Option (Step Global) → Stored
-behind_step settings at None = at
-behind_step settings at (Some x) = left_by at (after_step (batching settings) settings at.0 at.1 x)
+abbrev pub left_by_step : Settings → Stored → Option (Step Global) → Stored
+left_by_step settings at None = at
+left_by_step settings at (Some x) = left_by at (after_step (batching settings) settings at.0 at.1 x)
 
 abbrev pub refusal_of_step : Settings → Stored → Option (Step Global) → Option Fault
 refusal_of_step settings at None = None
 refusal_of_step settings at (Some x) = refused_by (after_step (batching settings) settings at.0 at.1 x)
 
--- what an order leaves of a store whose disk shows these bytes
-unfoldable pub behind : Settings → Store → Bytes → Order → Stored
-behind settings st file order = behind_step settings (st, file) (step_in order)
+-- two maps are one
+abbrev pub is_same_map : Pairs Bytes → Pairs Bytes → Bool
+is_same_map [] [] = true
+is_same_map (p ∷ ps) (q ∷ qs) = bytes_eq p.0 q.0 && bytes_eq p.1 q.1 && is_same_map ps qs
+is_same_map _ _ = false
 
--- why a store of these settings, whose disk shows these bytes, refuses the order by its right, if it does
-unfoldable pub refusal_of : Settings → Store → Bytes → Order → Option Fault
-refusal_of settings st file order = refusal_of_step settings (st, file) (step_in order)
+-- this tree in place of another one, if it holds what that holds; else that one
+abbrev pub if_it_holds : Tree → Tree → Tree
+if_it_holds now old = if is_same_map (contents now) (contents old) then now else old
+
+-- what tidying leaves of what is stored: the tree that its batches leave, each planned on what the one before it left, where that holds what
+-- the tree held
+abbrev pub tidied : Settings → Batches → Stored → Stored
+tidied settings [] at = at
+tidied settings (b ∷ bs) at = (with_tree at.0 (if_it_holds (tree_in_turn settings at.0.tree (b ∷ bs)) at.0.tree), at.1)
+
+-- what it leaves after an order: after a flush the store is tidied, and after no other
+abbrev pub tidied_after : Order → Settings → Batches → Stored → Stored
+tidied_after Flush settings tidying at = tidied settings tidying at
+tidied_after _ settings tidying at = at
+
+-- what an order leaves of a store at which this is seen
+unfoldable pub after_order : Settings → Store → Seen → Order → Stored
+after_order settings st seen order = tidied_after order settings seen.tidying (left_by_step settings (st, seen.bytes) (step_in order))
+
+-- why a store of these settings, at which this is seen, refuses the order by its right, if it does
+unfoldable pub refusal_of : Settings → Store → Seen → Order → Option Fault
+refusal_of settings st seen order = refusal_of_step settings (st, seen.bytes) (step_in order)
 
 -- the map that an order leaves
-abbrev pub map_behind : Pairs Bytes → Order → Pairs Bytes
-map_behind m (Batch commands) = map_after_all m commands
-map_behind m Flush = m
-map_behind m Clean = m
-map_behind m Upgrade = m
-map_behind m Verify = m
-map_behind m Numbers = m
+abbrev pub map_after : Pairs Bytes → Order → Pairs Bytes
+map_after m (Batch commands) = map_after_all m commands
+map_after m Flush = m
+map_after m Clean = m
+map_after m Upgrade = m
+map_after m Verify = m
+map_after m Numbers = m
+
+-- the map that orders leave, one after the other
+abbrev pub map_left : Pairs Bytes → List Order → Pairs Bytes
+map_left m [] = m
+map_left m (order ∷ rest) = map_left (map_after m order) rest
+
+-- and from this start
+abbrev pub map_left_from : Start → List Order → Pairs Bytes
+map_left_from (Ok p) orders = map_left (contents p.1.0.tree) orders
+map_left_from (Err fault) orders = []
 
 -- the numbers of a store of these settings
 abbrev pub numbers_of : Settings → Store → StoreNumbers
@@ -181,24 +240,24 @@ numbers_of settings st = record {
   pairs = (report st.tree).pairs;
 }
 
--- the lines that an order answers, with their line feeds, where the store holds this map before it, and its disk shows these bytes:
+-- the lines that an order answers, with their line feeds, where the store holds this map before it, and this is seen at it:
 -- to a batch the replies of the map, the lines of each as one text; to a flush and to an upgrade the sequence number that it leaves;
 -- to a clean the head segment; to a verify the report on the tree; and the numbers of the store
-abbrev pub own_lines : Settings → Store → Bytes → Pairs Bytes → Order → List Bytes
-own_lines settings st file m (Batch commands) = map shown_reply (replies_to m commands)
-own_lines settings st file m Flush = shown_flushed (behind settings st file Flush).0.sequence ∷ []
-own_lines settings st file m Clean = shown_cleaned (behind settings st file Clean).0.head ∷ []
-own_lines settings st file m Upgrade = shown_upgraded (behind settings st file Upgrade).0.sequence ∷ []
-own_lines settings st file m Verify = shown_report (report st.tree) ∷ []
-own_lines settings st file m Numbers = shown_numbers (numbers_of settings st) ∷ []
+abbrev pub own_lines : Settings → Store → Seen → Pairs Bytes → Order → List Bytes
+own_lines settings st seen m (Batch commands) = map shown_reply (replies_to m commands)
+own_lines settings st seen m Flush = shown_flushed (after_order settings st seen Flush).0.sequence ∷ []
+own_lines settings st seen m Clean = shown_cleaned (after_order settings st seen Clean).0.head ∷ []
+own_lines settings st seen m Upgrade = shown_upgraded (after_order settings st seen Upgrade).0.sequence ∷ []
+own_lines settings st seen m Verify = shown_report (report st.tree) ∷ []
+own_lines settings st seen m Numbers = shown_numbers (numbers_of settings st) ∷ []
 
--- the lines that orders answer one after the other, of a store whose disk shows these bytes before each; each leaves its store and its
+-- the lines that orders answer one after the other, of a store at which this is seen at each; each leaves its store and its
 -- map to the next
 abbrev pub answer_lines : Settings → Store → Reads → Pairs Bytes → List Order → List Bytes
 answer_lines settings st shown m [] = []
 answer_lines settings st shown m (order ∷ rest) =
     own_lines settings st (shown 0) m order
-    ++ answer_lines settings (behind settings st (shown 0) order).0 (later shown) (map_behind m order) rest
+    ++ answer_lines settings (after_order settings st (shown 0) order).0 (later shown) (map_after m order) rest
 
 -- the text of these lines
 abbrev pub printed : Settings → Store → Reads → Pairs Bytes → List Order → Bytes
@@ -213,14 +272,14 @@ printed_by (Err fault) shown orders = []
 abbrev pub first_refusal : Settings → Store → Reads → List Order → Option Fault
 first_refusal settings st shown [] = None
 first_refusal settings st shown (order ∷ rest) =
-    option_or (refusal_of settings st (shown 0) order) (first_refusal settings (behind settings st (shown 0) order).0 (later shown) rest)
+    option_or (refusal_of settings st (shown 0) order) (first_refusal settings (after_order settings st (shown 0) order).0 (later shown) rest)
 
 -- the orders in front of that one, or all of them
 abbrev pub accepted : Settings → Store → Reads → List Order → List Order
 accepted settings st shown [] = []
 accepted settings st shown (order ∷ rest) =
     if is_some (refusal_of settings st (shown 0) order) then []
-    else order ∷ accepted settings (behind settings st (shown 0) order).0 (later shown) rest
+    else order ∷ accepted settings (after_order settings st (shown 0) order).0 (later shown) rest
 
 -- it is refused since the log is full
 abbrev pub is_full : Option Fault → Bool
@@ -232,22 +291,22 @@ abbrev pub is_clean : Option Fault → Bool
 is_clean (Some NothingToClean) = true
 is_clean _ = false
 
--- a flush of a store, whose disk shows these bytes, takes a clean in front of it: the log is full, and there is something to clean
-abbrev pub wants_clean : Settings → Store → Bytes → Bool
-wants_clean settings st file = is_full (refusal_of settings st file Flush) && not (is_clean (refusal_of settings st file Clean))
+-- a flush of a store, at which this is seen, takes a clean in front of it: the log is full, and there is something to clean
+abbrev pub wants_clean : Settings → Store → Seen → Bool
+wants_clean settings st seen = is_full (refusal_of settings st seen Flush) && not (is_clean (refusal_of settings st seen Clean))
 
 -- a flush with as many cleans in front of it as it takes, at most this number, and then what is run on what they leave
 abbrev pub flush_with_room : ℕ → Settings → Store → Reads → (Store → Reads → List Order) → List Order
-flush_with_room zero settings st shown next = Flush ∷ next (behind settings st (shown 0) Flush).0 (later shown)
+flush_with_room zero settings st shown next = Flush ∷ next (after_order settings st (shown 0) Flush).0 (later shown)
 flush_with_room (suc most) settings st shown next =
-    if wants_clean settings st (shown 0) then Clean ∷ flush_with_room most settings (behind settings st (shown 0) Clean).0 (later shown) next
-    else Flush ∷ next (behind settings st (shown 0) Flush).0 (later shown)
+    if wants_clean settings st (shown 0) then Clean ∷ flush_with_room most settings (after_order settings st (shown 0) Clean).0 (later shown) next
+    else Flush ∷ next (after_order settings st (shown 0) Flush).0 (later shown)
 
 -- orders with the cleans among them that make room for their flushes: in front of each as many as it takes, at most one a segment
 abbrev pub with_cleans : Settings → Store → Reads → List Order → List Order
 with_cleans settings st shown [] = []
 with_cleans settings st shown (Flush ∷ rest) = flush_with_room settings.segments settings st shown (λ now reads. with_cleans settings now reads rest)
-with_cleans settings st shown (order ∷ rest) = order ∷ with_cleans settings (behind settings st (shown 0) order).0 (later shown) rest
+with_cleans settings st shown (order ∷ rest) = order ∷ with_cleans settings (after_order settings st (shown 0) order).0 (later shown) rest
 
 -- what is run of orders: themselves; or, where a flush makes itself room, with these cleans among them
 abbrev pub run_of : Bool → Settings → Store → Reads → List Order → List Order
@@ -263,16 +322,28 @@ run_from cleans (Err fault) shown orders = orders
 abbrev pub AreLeft : Settings → Store → Bytes → Reads → List Order → Type 0
 AreLeft settings st file shown [] = ⊤
 AreLeft settings st file shown (order ∷ rest) =
-    (shown 0 ≡ file) × AreLeft settings (behind settings st (shown 0) order).0 (behind settings st (shown 0) order).1 (later shown) rest
+    ((shown 0).bytes ≡ file) × AreLeft settings (after_order settings st (shown 0) order).0 (after_order settings st (shown 0) order).1 (later shown) rest
 
 -- the same from this start
 abbrev pub AreLeftFrom : Start → Reads → List Order → Type 0
 AreLeftFrom (Ok p) shown orders = AreLeft p.0 p.1.0 p.1.1 shown orders
 AreLeftFrom (Err fault) shown orders = ⊤
 
--- the disk can show this before each of these orders, where the words give this: in memory what was left, in a file anything
-abbrev pub IsShown : Told → Start → Reads → List Order → Type 0
-IsShown told start shown orders = told.disk ≡ None → AreLeftFrom start shown orders
+-- no store is tidied
+abbrev pub AreUntidied : Reads → Type 0
+AreUntidied shown = (i : ℕ) → (shown i).tidying ≡ []
+
+-- stores are tidied by the same batches
+abbrev pub AreTidiedAlike : Reads → Reads → Type 0
+AreTidiedAlike shown other = (i : ℕ) → (shown i).tidying ≡ (other i).tidying
+
+-- a store is tidied only where that is asked for
+abbrev pub TidiesBy : Ways → Reads → Type 0
+TidiesBy ways shown = ways.tidy ≡ 0 → AreUntidied shown
+
+-- this can be seen at each of these orders, where the words give this: the disk shows in memory what was left, in a file anything
+abbrev pub IsShown : Request → Start → Reads → List Order → Type 0
+IsShown request start shown orders = TidiesBy request.ways shown × (request.disk ≡ None → AreLeftFrom start shown orders)
 
 -- whether all is done, whatever else is returned then
 abbrev pub without_value : {X : Type 0} → Result X Ending → Result (Unit {0}) Ending
@@ -314,35 +385,35 @@ end_streamed bad (Ok p) shown orders =
 
 -- the orders of a session on this text that starts so: what its lines order, and then the numbers, where the words ask for them; and among
 -- them the cleans that make room for flushes, where they ask for these
-abbrev pub session_orders : Told → Start → Reads → Bytes → List Order
-session_orders told start shown text = run_from told.ways.clean_when_full start shown (with_numbers told.ways.stat (orders_of [] (text_says text)))
+abbrev pub session_orders : Request → Start → Reads → Bytes → List Order
+session_orders request start shown text = run_from request.ways.clean_when_full start shown (with_numbers request.ways.stat (orders_of [] (text_says text)))
 
 -- how a session on this text ends by its right
-abbrev pub session_end : Told → Start → Reads → Bytes → Result (Unit {0}) Ending
-session_end told start shown text = end_after (first_bad 1 (text_says text)) start shown (session_orders told start shown text)
+abbrev pub session_end : Request → Start → Reads → Bytes → Result (Unit {0}) Ending
+session_end request start shown text = end_after (first_bad 1 (text_says text)) start shown (session_orders request start shown text)
 
 -- the lines that a session on this text prints by its right
-abbrev pub session_lines : Told → Start → Reads → Bytes → List Bytes
-session_lines told start shown text = lines_after (first_bad 1 (text_says text)) start shown (session_orders told start shown text)
+abbrev pub session_lines : Request → Start → Reads → Bytes → List Bytes
+session_lines request start shown text = lines_after (first_bad 1 (text_says text)) start shown (session_orders request start shown text)
 
 -- the same of a stream of lines that say this, up to the first bad one: what it runs, how it ends, and the lines that it prints
-abbrev pub stream_orders : Told → Start → Reads → List Says → List Order
-stream_orders told start shown said = run_from told.ways.clean_when_full start shown (streamed told.ways.stat [] said)
+abbrev pub stream_orders : Request → Start → Reads → List Says → List Order
+stream_orders request start shown said = run_from request.ways.clean_when_full start shown (streamed request.ways.stat [] said)
 
-abbrev pub stream_end : Told → Start → Reads → List Says → Result (Unit {0}) Ending
-stream_end told start shown said = end_streamed (first_bad 1 said) start shown (stream_orders told start shown said)
+abbrev pub stream_end : Request → Start → Reads → List Says → Result (Unit {0}) Ending
+stream_end request start shown said = end_streamed (first_bad 1 said) start shown (stream_orders request start shown said)
 
-abbrev pub stream_lines : Told → Start → Reads → List Says → List Bytes
-stream_lines told start shown said = lines_after None start shown (stream_orders told start shown said)
+abbrev pub stream_lines : Request → Start → Reads → List Says → List Bytes
+stream_lines request start shown said = lines_after None start shown (stream_orders request start shown said)
 
 -- what is run of this text, by a stream or not
-abbrev pub run_by : Bool → Told → Start → Reads → Bytes → List Order
-run_by true told start shown text = stream_orders told start shown (text_says text)
-run_by false told start shown text = session_orders told start shown text
+abbrev pub run_by : Bool → Request → Start → Reads → Bytes → List Order
+run_by true request start shown text = stream_orders request start shown (text_says text)
+run_by false request start shown text = session_orders request start shown text
 
 -- and by a session that is asked for this
-abbrev pub orders_run : Told → Start → Reads → Bytes → List Order
-orders_run told start shown text = run_by told.ways.stream told start shown text
+abbrev pub orders_run : Request → Start → Reads → Bytes → List Order
+orders_run request start shown text = run_by request.ways.stream request start shown text
 
 -- a session whose text has this first bad line, if it has one, can end so before anything is run
 abbrev pub IsReadEnding : Option (ℕ × Why) → Ending → Type 0
@@ -360,12 +431,37 @@ abbrev pub IsBegun : Option Bytes → Option Bytes → Bytes → Type 0
 IsBegun old new text = (front : Bytes) × BeginsWith text front × Appends old new front
 
 -- known bytes grow by a beginning of what is reported of this end, where a clause can say what that is, and of this after it
-abbrev pub IsToldWith : Bytes → Result (Unit {0}) Ending → Option Bytes → Option Bytes → Type 0
-IsToldWith more end old new = IfSome (told_text end) (λ text. IsBegun old new (text ++ more))
+abbrev pub IsReportedWith : Bytes → Result (Unit {0}) Ending → Option Bytes → Option Bytes → Type 0
+IsReportedWith more end old new = IfSome (reported_text end) (λ text. IsBegun old new (text ++ more))
 
 -- so it is, and more than that is reported only for words that ask for an explanation
-abbrev pub IsTold : List Bytes → Result (Unit {0}) Ending → Option Bytes → Option Bytes → Type 0
-IsTold words end old new = (more : Bytes) × (AsksToExplain words ⊎ (more ≡ [])) × IsToldWith more end old new
+abbrev pub IsReported : List Bytes → Result (Unit {0}) Ending → Option Bytes → Option Bytes → Type 0
+IsReported words end old new = (more : Bytes) × (AsksToExplain words ⊎ (more ≡ [])) × IsReportedWith more end old new
+
+-- known bytes grow by what is written to show some sights one after the other, or a beginning of that, where a write failed
+abbrev pub IsProgress : Option Bytes → Option Bytes → Type 0
+IsProgress old new = (sights : List Sight) × IsBegun old new (flat (map shown_sight sights))
+
+-- what holds these contents gets progress while it is shown: some sights, one after the other, or a beginning of that, where a write failed
+-- and so it is shown no more; where it isn't shown, nothing
+abbrev pub Shows : {E : Type 0} → (E → Option Bytes) → Bool → E → Bool → E → Type 0
+Shows contents false old on new = (on ≡ false) × (new ≡ old)
+Shows contents true old true new = (sights : List Sight) × Appends (contents old) (contents new) (flat (map shown_sight sights))
+Shows contents true old false new = IsProgress (contents old) (contents new)
+
+-- it gets nothing but progress, where that is asked for, and else nothing
+abbrev pub ShowsOnly : {E : Type 0} → (E → Option Bytes) → Bool → E → E → Type 0
+ShowsOnly contents false old new = new ≡ old
+ShowsOnly contents true old new = IsProgress (contents old) (contents new)
+
+-- it is as it was; or it got progress and nothing else, and the words ask for that
+abbrev pub IsQuiet : {E : Type 0} → (E → Option Bytes) → List Bytes → E → E → Type 0
+IsQuiet contents words old new = (new ≡ old) ⊎ (AsksForProgress words × IsProgress (contents old) (contents new))
+
+-- an end is reported, where the words ask for progress after some of that
+abbrev pub IsReportedAfterProgress : List Bytes → Result (Unit {0}) Ending → Option Bytes → Option Bytes → Type 0
+IsReportedAfterProgress words end old new =
+    IsReported words end old new ⊎ (AsksForProgress words × ((shown : Option Bytes) × IsProgress old shown × IsReported words end shown new))
 
 -- known bytes grow by all of the lines where the end is the right one; memory can be refused after some whole lines, and a device can fail
 -- anywhere
@@ -375,70 +471,118 @@ Prints old new lines right end =
     ⊎ ((end ≡ Err (endings.Fault NoMemory)) × ((front : List Bytes) × BeginsWith lines front × Appends old new (flat front)))
     ⊎ ((end ≡ Err Device) × ((front : Bytes) × BeginsWith (flat lines) front × Appends old new front))
 
--- what these orders print of a store of these settings, whose disk shows these bytes before each, and how they end, is right but for
+-- a copy of a store that holds this map, under these settings, is refused so: by its pairs, or by a flush of all of them
+abbrev pub IsCopyRefusal : Settings → Pairs Bytes → Fault → Type 0
+IsCopyRefusal settings m fault = IsPutFault settings m fault ⊎ IsFilledFault settings m fault
+
+-- why there is no copy: it is refused so, or there is no memory, or a device failed
+abbrev pub IsCopyEnd : Settings → Pairs Bytes → Ending → Type 0
+IsCopyEnd settings m early =
+    ((fault : Fault) × (early ≡ endings.Fault fault) × IsCopyRefusal settings m fault) ⊎ (early ≡ endings.Fault NoMemory) ⊎ (early ≡ Device)
+
+-- what a copy under some settings comes to, if there is to be one
+abbrev pub CopiesTo : Option Settings → Pairs Bytes → Result (Unit {0}) Ending → Type 0
+CopiesTo None m end = end ≡ Ok tt
+CopiesTo (Some settings) m end = IfErr end (IsCopyEnd settings m)
+
+-- why a session that is to leave such a copy ends before anything is run: the settings have a bad field, or a device failed
+abbrev pub IsUncopied : Option Settings → Ending → Type 0
+IsUncopied None early = ⊥
+IsUncopied (Some settings) early =
+    ((field : Field) × (first_bad_field settings ≡ Some field) × (early ≡ endings.Fault (BadSettings field))) ⊎ (early ≡ Device)
+
+-- the right end of a session whose orders end so, and whose copy is refused by this fault, if it is
+abbrev pub end_copied : Option Fault → Result (Unit {0}) Ending → Result (Unit {0}) Ending
+end_copied refused (Ok done) = stopped_by (option_map (λ fault. endings.Fault fault) refused)
+end_copied refused (Err early) = Err early
+
+-- an end is this one, or this is with all done and a fault comes after it
+abbrev pub IsEndAfter : Result (Unit {0}) Ending → Result (Unit {0}) Ending → Type 0
+IsEndAfter plain end = (end ≡ plain) ⊎ ((plain ≡ Ok tt) × ((fault : Fault) × (end ≡ Err (endings.Fault fault))))
+
+-- The same of a session whose orders leave this map, and which is to leave a copy under some settings, if it is: where it isn't, word for word.
+-- Where it is, nothing else is printed; and where all orders are done, the right end can be why a copy of this map is refused.
+abbrev pub PrintsCopied : Option Settings → Pairs Bytes → Option Bytes → Option Bytes → List Bytes → Result (Unit {0}) Ending → Result (Unit {0}) Ending → Type 0
+PrintsCopied None m old new lines right end = Prints old new lines right end
+PrintsCopied (Some settings) m old new lines right end =
+    (refused : Option Fault) × IfSome refused (IsCopyRefusal settings m) × Prints old new lines (end_copied refused right) end
+
+-- what these orders print of a store of these settings, at which this is seen at each, and how they end, is right but for
 -- memory and devices
 unfoldable pub Runs : Settings → Store → Reads → List Order → Option Bytes → Option Bytes → Result (Unit {0}) Ending → Type 0
 Runs settings st shown orders old new end =
     Prints old new (answer_lines settings st shown (contents st.tree) (accepted settings st shown orders))
     (orders_end settings st shown orders) end
 
--- so it is where flushes make themselves room or don't, and the disk shows some bytes before each that is run: if it is honest, what was
--- left, and these before the first
-abbrev pub RunsOn : Bool → Bool → Settings → Store → Bytes → List Order → Option Bytes → Option Bytes → Result (Unit {0}) Ending → Type 0
-RunsOn cleans honest settings st left orders old new end =
-    (shown : Reads) × (IsTrue honest → AreLeft settings st left shown (run_of cleans settings st shown orders))
-    × Runs settings st shown (run_of cleans settings st shown orders) old new end
+-- this can be seen at each of these orders, in such ways: the disk shows, if it is honest, what was left, and these bytes before the first
+abbrev pub AreSeen : Ways → Bool → Settings → Store → Bytes → Reads → List Order → Type 0
+AreSeen ways honest settings st left shown orders = TidiesBy ways shown × (IsTrue honest → AreLeft settings st left shown orders)
 
--- the order is accepted, where the disk shows these bytes, and leaves this store, with its map; and on an honest disk these bytes
-pub record LeavesStored (honest : Bool) (settings : Settings) (st : Store) (file : Bytes) (order : Order) (now : Store) (left : Bytes) : Type 0 where
-  pub unrefused : refusal_of settings st file order ≡ None
-  pub store : now ≡ (behind settings st file order).0
-  pub bytes : IsTrue honest → left ≡ (behind settings st file order).1
-  pub holds : contents now.tree ≡ map_behind (contents st.tree) order
+-- so it is in such ways, in which flushes make themselves room or don't, where some such reads are seen at each order that is run
+abbrev pub RunsOn : Ways → Bool → Settings → Store → Bytes → List Order → Option Bytes → Option Bytes → Result (Unit {0}) Ending → Type 0
+RunsOn ways honest settings st left orders old new end =
+    (shown : Reads) × AreSeen ways honest settings st left shown (run_of ways.clean_when_full settings st shown orders)
+    × Runs settings st shown (run_of ways.clean_when_full settings st shown orders) old new end
 
--- what one order prints, and how it ends, is right but for memory and devices, where the disk shows some bytes: if it is honest, these.
+-- the order is accepted, where this is seen, and leaves this store, with its map; and on an honest disk these bytes
+pub record LeavesStored (honest : Bool) (settings : Settings) (st : Store) (seen : Seen) (order : Order) (now : Store) (left : Bytes) : Type 0 where
+  pub unrefused : refusal_of settings st seen order ≡ None
+  pub store : now ≡ (after_order settings st seen order).0
+  pub bytes : IsTrue honest → left ≡ (after_order settings st seen order).1
+  pub holds : contents now.tree ≡ map_after (contents st.tree) order
+
+-- this can be seen at an order, in such ways: the disk shows, if it is honest, these bytes
+abbrev pub IsSeen : Ways → Bool → Bytes → Seen → Type 0
+IsSeen ways honest left seen = (ways.tidy ≡ 0 → seen.tidying ≡ []) × (IsTrue honest → seen.bytes ≡ left)
+
+-- What one order prints, and how it ends, is right but for memory and devices, where something is seen that can be, in such ways.
 -- Where all of it is done it leaves this store, and on an honest disk the bytes that come last.
-abbrev pub RunsOrder : Bool → Settings → Store → Bytes → Order → Option Bytes → Option Bytes → Result (Unit {0}) Ending → Store → Bytes → Type 0
-RunsOrder honest settings st left order old new end now bytes =
-    (file : Bytes) × (IsTrue honest → file ≡ left) × Runs settings st (λ i. file) (order ∷ []) old new end
-    × OnOk end (LeavesStored honest settings st file order now bytes)
+abbrev pub RunsOrder : Ways → Bool → Settings → Store → Bytes → Order → Option Bytes → Option Bytes → Result (Unit {0}) Ending → Store → Bytes → Type 0
+RunsOrder ways honest settings st left order old new end now bytes =
+    (seen : Seen) × IsSeen ways honest left seen × Runs settings st (λ i. seen) (order ∷ []) old new end
+    × OnOk end (LeavesStored honest settings st seen order now bytes)
 
 -- What these orders print, and how they end, is right in front of any others that are run next: all of them are done, and the others go on
 -- with this store and, on an honest disk, these bytes; or they stop early, and so do all.
-abbrev pub RunsFirst : Bool → Bool → Settings → Store → Bytes → List Order → Option Bytes → Option Bytes → Result (Unit {0}) Ending → Store → Bytes → Type 0
-RunsFirst cleans honest settings st left orders old new (Ok done) now bytes =
-    (rest : List Order) (last : Option Bytes) (end : Result (Unit {0}) Ending) → RunsOn cleans honest settings now bytes rest new last end
-    → RunsOn cleans honest settings st left (orders ++ rest) old last end
-RunsFirst cleans honest settings st left orders old new (Err early) now bytes =
-    (rest : List Order) → RunsOn cleans honest settings st left (orders ++ rest) old new (Err early)
+abbrev pub RunsFirst : Ways → Bool → Settings → Store → Bytes → List Order → Option Bytes → Option Bytes → Result (Unit {0}) Ending → Store → Bytes → Type 0
+RunsFirst ways honest settings st left orders old new (Ok done) now bytes =
+    (rest : List Order) (last : Option Bytes) (end : Result (Unit {0}) Ending) → RunsOn ways honest settings now bytes rest new last end
+    → RunsOn ways honest settings st left (orders ++ rest) old last end
+RunsFirst ways honest settings st left orders old new (Err early) now bytes =
+    (rest : List Order) → RunsOn ways honest settings st left (orders ++ rest) old new (Err early)
 
 -- What a stream of lines prints of this store, and how it ends, is right but for memory and devices, for what some lines say, which are
--- those of the known text: the orders up to the first bad one, which is returned where all of these are done.
-abbrev pub StreamsOn : Ways → Bool → Settings → Store → Bytes → Option Bytes → Option Bytes → Option Bytes → Result (Option (ℕ × Why)) Ending → Type 0
-StreamsOn ways honest settings st left known old new end =
+-- those of the known text: the orders up to the first bad one, which is returned where all of these are done. Then this store is left, with
+-- their map.
+abbrev pub StreamsOn : Ways → Bool → Settings → Store → Bytes → Option Bytes → Option Bytes → Option Bytes → Result (Option (ℕ × Why)) Ending → Store → Type 0
+StreamsOn ways honest settings st left known old new end now =
     (said : List Says) × IfSome known (λ text. said ≡ text_says text)
-    × RunsOn ways.clean_when_full honest settings st left (streamed ways.stat [] said) old new (without_value end)
-    × IfOk end (λ bad. bad ≡ first_bad 1 said)
+    × RunsOn ways honest settings st left (streamed ways.stat [] said) old new (without_value end)
+    × IfOk end (λ bad. bad ≡ first_bad 1 said) × OnOk end (contents now.tree ≡ map_left (contents st.tree) (streamed ways.stat [] said))
 
 -- how it ends, where a bad line is returned
 abbrev pub stream_ended : Result (Option (ℕ × Why)) Ending → Result (Unit {0}) Ending
 stream_ended (Ok bad) = stopped_by (option_map bad_ending bad)
 stream_ended (Err early) = Err early
 
--- the same from this start, with the bad line as the end
-unfoldable pub StreamsFrom : Ways → Type 0 → Start → Option Bytes → Option Bytes → Option Bytes → Result (Unit {0}) Ending → Type 0
-StreamsFrom ways IsHonest start known old new end =
+-- the same from this start, with the bad line as the end; and then there is a copy under some settings, if there is to be one
+unfoldable pub StreamsFrom : Ways → Option Settings → Type 0 → Start → Option Bytes → Option Bytes → Option Bytes → Result (Unit {0}) Ending → Type 0
+StreamsFrom ways copy IsHonest start known old new end =
     (said : List Says) × IfSome known (λ text. said ≡ text_says text) × (shown : Reads)
-    × (IsHonest → AreLeftFrom start shown (run_from ways.clean_when_full start shown (streamed ways.stat [] said)))
-    × Prints old new (lines_after None start shown (run_from ways.clean_when_full start shown (streamed ways.stat [] said)))
+    × (TidiesBy ways shown × (IsHonest → AreLeftFrom start shown (run_from ways.clean_when_full start shown (streamed ways.stat [] said))))
+    × PrintsCopied copy (map_left_from start (streamed ways.stat [] said)) old new
+    (lines_after None start shown (run_from ways.clean_when_full start shown (streamed ways.stat [] said)))
     (end_streamed (first_bad 1 said) start shown (run_from ways.clean_when_full start shown (streamed ways.stat [] said))) end
 
--- what these orders print from this start, and how they end, is right but for memory and devices, where flushes make themselves room or
--- don't, and the disk shows some bytes before each that is run: what was left, where it is honest
-unfoldable pub RunsFrom : Bool → Type 0 → Start → List Order → Option Bytes → Option Bytes → Result (Unit {0}) Ending → Type 0
-RunsFrom cleans IsHonest start orders old new end =
-    (shown : Reads) × (IsHonest → AreLeftFrom start shown (run_from cleans start shown orders))
-    × Prints old new (lines_after None start shown (run_from cleans start shown orders)) (end_after None start shown (run_from cleans start shown orders)) end
+-- what these orders print from this start, and how they end, is right but for memory and devices, in such ways, in which flushes make
+-- themselves room or don't, and where something is seen at each that is run: the disk shows what was left, where it is honest. Then there is a
+-- copy under some settings, if there is to be one.
+unfoldable pub RunsFrom : Ways → Option Settings → Type 0 → Start → List Order → Option Bytes → Option Bytes → Result (Unit {0}) Ending → Type 0
+RunsFrom ways copy IsHonest start orders old new end =
+    (shown : Reads) × (TidiesBy ways shown × (IsHonest → AreLeftFrom start shown (run_from ways.clean_when_full start shown orders)))
+    × PrintsCopied copy (map_left_from start orders) old new
+    (lines_after None start shown (run_from ways.clean_when_full start shown orders))
+    (end_after None start shown (run_from ways.clean_when_full start shown orders)) end
 
 -- a session that starts so can end so before anything is run
 abbrev pub IsUnopened : Start → Ending → Type 0
@@ -455,25 +599,25 @@ Opens view start (Err early) = IsUnopened start early
 abbrev pub IsHonestStore : {D : Type 0} → (D → View) → Result (State D) Ending → Type 0
 IsHonestStore view opened = IfOk opened (λ x. IsTrue (view x.disk).is_honest)
 
--- what a session prints that is given this, and how it ends, is right for a text, which is the known one, for a start, and for what the
--- disk shows before each order, but for memory and devices
-unfoldable pub Answers : Told → Option Bytes → Option Bytes → Option Bytes → Result (Unit {0}) Ending → Type 0
-Answers told known old new end =
-    (text : Bytes) × IfSome known (λ bytes. text ≡ bytes) × (start : Start) × IsStart told start
-    × (shown : Reads) × IsShown told start shown (session_orders told start shown text)
-    × Prints old new (session_lines told start shown text) (session_end told start shown text) end
+-- what a session prints that is given this, and how it ends, is right for a text, which is the known one, for a start, and for what is
+-- seen at each order, but for memory and devices. Where it is to leave a copy, that is of the map that all of its orders leave.
+unfoldable pub Answers : Request → Option Bytes → Option Bytes → Option Bytes → Result (Unit {0}) Ending → Type 0
+Answers request known old new end =
+    (text : Bytes) × IfSome known (λ bytes. text ≡ bytes) × (start : Start) × IsStart request start
+    × (shown : Reads) × IsShown request start shown (session_orders request start shown text)
+    × PrintsCopied (copy_of request) (map_left_from start (with_numbers request.ways.stat (orders_of [] (text_says text)))) old new (session_lines request start shown text) (session_end request start shown text) end
 
 -- The same of a stream, for what some lines say, which are those of the known text: each of its orders is run and answered before the next line
 -- is read, up to the first bad line.
-unfoldable pub Streams : Told → Option Bytes → Option Bytes → Option Bytes → Result (Unit {0}) Ending → Type 0
-Streams told known old new end =
-    (said : List Says) × IfSome known (λ text. said ≡ text_says text) × (start : Start) × IsStart told start
-    × (shown : Reads) × IsShown told start shown (stream_orders told start shown said)
-    × Prints old new (stream_lines told start shown said) (stream_end told start shown said) end
+unfoldable pub Streams : Request → Option Bytes → Option Bytes → Option Bytes → Result (Unit {0}) Ending → Type 0
+Streams request known old new end =
+    (said : List Says) × IfSome known (λ text. said ≡ text_says text) × (start : Start) × IsStart request start
+    × (shown : Reads) × IsShown request start shown (stream_orders request start shown said)
+    × PrintsCopied (copy_of request) (map_left_from start (streamed request.ways.stat [] said)) old new (stream_lines request start shown said) (stream_end request start shown said) end
 
 -- and of a session that is asked for this
-abbrev pub IsAnswered : Told → Option Bytes → Option Bytes → Option Bytes → Result (Unit {0}) Ending → Type 0
-IsAnswered told known old new end = MatchBool told.ways.stream (Streams told known old new end) (Answers told known old new end)
+abbrev pub IsAnswered : Request → Option Bytes → Option Bytes → Option Bytes → Result (Unit {0}) Ending → Type 0
+IsAnswered request known old new end = MatchBool request.ways.stream (Streams request known old new end) (Answers request known old new end)
 
 -- a text is printed, but for memory and devices
 abbrev pub PrintsOneText : Option Bytes → Option Bytes → Result (Unit {0}) Ending → Type 0
@@ -489,11 +633,11 @@ IsForWords (Err _) = ⊥
 -- with nothing read, and help or the version where they ask for it; or with nothing printed either, where they are refused
 abbrev pub EndsBy : List Bytes → Option Bytes → Option Bytes → Option Bytes → Type 0 → Type 0 → Result (Unit {0}) Ending → Type 0
 EndsBy words known old new unread untouched end =
-    ((told : Told) × AsksFor words told × (told.ways.version ≡ false) × IsAnswered told known old new end)
+    ((request : Request) × AsksFor words request × (request.ways.version ≡ false) × IsAnswered request known old new end)
     ⊎ (unread × AsksForText words × PrintsOneText old new end)
     ⊎ (unread × untouched × ((AreRefused words × IsForWords end) ⊎ (end ≡ Err (endings.Fault NoMemory))))
 
 -- a session with these words ends with this status: it has an end that is right as `EndsBy` says, and that is reported
-abbrev pub EndsTold : List Bytes → Option Bytes → Option Bytes → Option Bytes → Option Bytes → Option Bytes → Type 0 → Type 0 → ℕ → Type 0
-EndsTold words known old new told_old told_new unread untouched status =
-    (end : Result (Unit {0}) Ending) × (status ≡ status_of_end end) × EndsBy words known old new unread untouched end × IsTold words end told_old told_new
+abbrev pub EndsReported : List Bytes → Option Bytes → Option Bytes → Option Bytes → Option Bytes → Option Bytes → Type 0 → Type 0 → ℕ → Type 0
+EndsReported words known old new err_old err_new unread untouched status =
+    (end : Result (Unit {0}) Ending) × (status ≡ status_of_end end) × EndsBy words known old new unread untouched end × IsReportedAfterProgress words end err_old err_new

@@ -89,7 +89,7 @@ fn push_pending(
 }
 
 // Orders the pending commands to be run, if there are any, and then this. None are pending any more.
-fn push_behind(
+fn push_ended(
     alloc: Global,
     pending: &mut Vec<Command<Global>>,
     line: &[u8],
@@ -130,10 +130,10 @@ pub fn parse(alloc: Global, text: &[u8]) -> Result<Vec<Order>, TextFault>
                 let batch = Batch::take(alloc, &mut pending, said)?;
                 orders.push(Order::Batch(batch))?;
             }
-            Says::Flush => push_behind(alloc, &mut pending, said, Order::Flush, &mut orders)?,
-            Says::Clean => push_behind(alloc, &mut pending, said, Order::Clean, &mut orders)?,
-            Says::Upgrade => push_behind(alloc, &mut pending, said, Order::Upgrade, &mut orders)?,
-            Says::Verify => push_behind(alloc, &mut pending, said, Order::Verify, &mut orders)?,
+            Says::Flush => push_ended(alloc, &mut pending, said, Order::Flush, &mut orders)?,
+            Says::Clean => push_ended(alloc, &mut pending, said, Order::Clean, &mut orders)?,
+            Says::Upgrade => push_ended(alloc, &mut pending, said, Order::Upgrade, &mut orders)?,
+            Says::Verify => push_ended(alloc, &mut pending, said, Order::Verify, &mut orders)?,
             Says::Bad(why) => return Err(TextFault::Bad { line, why }),
         }
     }

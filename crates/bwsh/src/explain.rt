@@ -8,19 +8,87 @@ use std::alloc::{AllocError, Global};
 use std::io;
 use std::io::ErrorKind;
 
-// What to do about a file where a call failed for this reason.
-fn advice(reason: &io::Error) -> &'static str {
+// What to do about the file of the store where a call failed for this reason.
+fn advice(asked: &Options, reason: &io::Error) -> &'static str {
     match reason.kind() {
         ErrorKind::NotFound => "; --create makes a new store there",
         ErrorKind::PermissionDenied => {
             "; a session that flushes, cleans, upgrades or creates has to be allowed to write it"
         }
         ErrorKind::ReadOnlyFilesystem => "; a store there can only be read",
+        ErrorKind::WouldBlock if asked.copy_to.is_some() => {
+            "; another program holds or shares it, or it is the file of --copy-to too"
+        }
         ErrorKind::WouldBlock => "; another program holds or shares it: wait until that has ended",
         ErrorKind::StorageFull => "; its device has no room left",
         ErrorKind::IsADirectory => "; a store stands in a file",
         _ => "",
     }
+}
+
+// What to do about the file of a copy where a call failed for this reason.
+fn copy_advice(reason: &io::Error) -> &'static str {
+    match reason.kind() {
+        ErrorKind::AlreadyExists => {
+            "; what stands there stays as it was: a copy takes a path where nothing stands, or an empty file"
+        }
+        ErrorKind::NotFound => "; the folder of a copy has to be there",
+        ErrorKind::PermissionDenied => "; the file of a copy has to be one that can be written",
+        ErrorKind::WouldBlock => "; another program holds or shares it",
+        ErrorKind::StorageFull => "; its device has no room left",
+        ErrorKind::IsADirectory => "; a copy stands in a file",
+        _ => "",
+    }
+}
+
+// How much was done before the copy failed.
+fn before_copy(notes: &Notes) -> &'static str {
+    if notes.is_copying() {
+        "all orders are done, but the store is not copied"
+    } else {
+        "nothing was run"
+    }
+}
+
+// The path of the copy.
+fn copy_path(asked: &Options) -> &str {
+    asked.copy_to.as_deref().unwrap_or("the copy")
+}
+
+// A call of the copy's file failed for this reason.
+fn of_copy_file(
+    alloc: Global,
+    asked: &Options,
+    notes: &Notes,
+    reason: &io::Error,
+) -> Result<String, AllocError> {
+    let (path, advice) = (copy_path(asked), copy_advice(reason));
+    format!(in alloc; "{path}: {reason}{advice}; {}\n", before_copy(notes))
+}
+
+// What to do about a fault of the copy.
+fn rule_of_copy(fault: &Fault) -> &'static str {
+    match fault {
+        Fault::KeyTooLong(_) => "a key is too long for it; it takes a greater --max-key",
+        Fault::ValueTooLong(_) => "a value is too long for it; it takes a greater --max-value",
+        Fault::Full => {
+            "its log has no room for all pairs; it takes more --segments, or a greater --seg-size"
+        }
+        Fault::NoMemory => "there was not enough memory",
+        Fault::Spent => "it needs more levels than a store can have; it takes a greater --fan",
+        _ => "its settings are refused",
+    }
+}
+
+// The copy was refused by this fault.
+fn of_copy(
+    alloc: Global,
+    asked: &Options,
+    notes: &Notes,
+    fault: &Fault,
+) -> Result<String, AllocError> {
+    let (path, rule) = (copy_path(asked), rule_of_copy(fault));
+    format!(in alloc; "{path}: {}: {rule}\n", before_copy(notes))
 }
 
 // The path of the store.
@@ -36,8 +104,9 @@ fn of_failure(alloc: Global, asked: &Options, notes: &mut Notes) -> Result<Strin
         ),
         Some((Source::Input, reason)) => format!(in alloc; "standard input: {reason}\n"),
         Some((Source::File, reason)) => {
-            format!(in alloc; "{}: {reason}{}\n", path(asked), advice(&reason))
+            format!(in alloc; "{}: {reason}{}\n", path(asked), advice(asked, &reason))
         }
+        Some((Source::Copy, reason)) => of_copy_file(alloc, asked, notes, &reason),
     }
 }
 
@@ -116,6 +185,12 @@ fn of_fault(
     notes: &mut Notes,
     fault: &Fault,
 ) -> Result<String, AllocError> {
+    if notes.is_copying() {
+        return of_copy(alloc, asked, notes, fault);
+    }
+    if let Some(line) = notes.unread() {
+        return format!(in alloc; "line {line}: there was not enough memory to read it\n");
+    }
     if let Some(lines) = notes.lines() {
         if let Some(text) = of_order(alloc, &lines, fault)? {
             return Ok(text);

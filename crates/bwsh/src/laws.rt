@@ -5,12 +5,15 @@ ghost use Rattle.std.specs.declared.alloc.Global.{Global};
 ghost use Rattle.crew.specs.Crew.{is_crew};
 ghost use Rattle.crew.specs.declared.limits.Crew.{Crew};
 ghost use Rattle.keys.specs.Bytes.{Bytes, Pairs};
+ghost use Rattle.keys.specs.Limits.{first_bad_field};
 ghost use Rattle.keys.specs.declared.command.Command.{Command};
 ghost use Rattle.keys.specs.Step.{replies_to, map_after_all};
 ghost use Rattle.keys.specs.declared.fault.Fault.TheVariants.{BadCrew};
 ghost use Rattle.keys.specs.declared.settings.Settings.{Settings};
-ghost use Rattle.mapping.specs.Tree.{Store};
+ghost use Rattle.mapping.specs.Levels.{contents};
+ghost use Rattle.mapping.specs.Tree.{Store, with_tree};
 ghost use Rattle.verify.specs.Report.{report};
+ghost use Rattle.engine.specs.Tidied.{IsTidied};
 ghost use Rattle.bwsh.specs.declared.batch_file.Order.{Order};
 ghost use Rattle.bwsh.specs.declared.batch_file.Order.TheVariants.{Batch, Flush, Clean, Upgrade, Verify, Numbers};
 ghost use Rattle.bwsh.specs.declared.line.Says.{Says};
@@ -18,8 +21,8 @@ ghost use Rattle.bwsh.specs.declared.line.Says.TheVariants.{Bad};
 ghost use Rattle.bwsh.specs.declared.line.Why.{Why};
 ghost use Rattle.bwsh.specs.declared.session.Ending.{Ending};
 ghost use Rattle.bwsh.specs.BatchFile.{orders_of, commands_of, commands_said, batch_lines, IsBatch, IsForBatches, IsNoClean, cleans_nothing, first_bad, last_order, streamed, unended, with_numbers};
-ghost use Rattle.bwsh.specs.Options.{Told};
-ghost use Rattle.bwsh.specs.Session.{Answers, AreLeft, IsStart, Reads, Start, Streams, accepted, answer_lines, behind, end_after, end_streamed, later, numbers_of, orders_end, printed, with_cleans};
+ghost use Rattle.bwsh.specs.Options.{Request, AsksForProgress};
+ghost use Rattle.bwsh.specs.Session.{Answers, AreLeft, AreTidiedAlike, AreUntidied, Batches, IsStart, Reads, Start, Stored, Streams, accepted, answer_lines, after_order, left_by_step, end_after, end_streamed, later, numbers_of, orders_end, printed, step_in, tidied, untidied, with_cleans, IsAnswered, IsEndAfter, IsReported, IsReportedAfterProgress};
 ghost use Rattle.bwsh.specs.Shown.{shown_reply, shown_flushed, shown_cleaned, shown_upgraded, shown_report, shown_numbers};
 ghost use Rattle.bwsh.specs.Token.{token_bytes, shown_token};
 ghost use Rattle.bwsh.specs.Words.{words_of};
@@ -55,23 +58,23 @@ pub fn each_order_prints_its_answer()
         (commands : List (Command Global)) → (rest : List Order) →
         printed settings st shown m (Batch commands ∷ rest)
         ≡ flat_map shown_reply (replies_to m commands)
-        ++ printed settings (behind settings st (shown 0) (Batch commands)).0 (later shown)
+        ++ printed settings (after_order settings st (shown 0) (Batch commands)).0 (later shown)
         (map_after_all m commands) rest }
     ensures flush { (settings : Settings) → (st : Store) → (shown : Reads) → (m : Pairs Bytes) →
         (rest : List Order) →
         printed settings st shown m (Flush ∷ rest)
-        ≡ shown_flushed (behind settings st (shown 0) Flush).0.sequence
-        ++ printed settings (behind settings st (shown 0) Flush).0 (later shown) m rest }
+        ≡ shown_flushed (after_order settings st (shown 0) Flush).0.sequence
+        ++ printed settings (after_order settings st (shown 0) Flush).0 (later shown) m rest }
     ensures clean { (settings : Settings) → (st : Store) → (shown : Reads) → (m : Pairs Bytes) →
         (rest : List Order) →
         printed settings st shown m (Clean ∷ rest)
-        ≡ shown_cleaned (behind settings st (shown 0) Clean).0.head
-        ++ printed settings (behind settings st (shown 0) Clean).0 (later shown) m rest }
+        ≡ shown_cleaned (after_order settings st (shown 0) Clean).0.head
+        ++ printed settings (after_order settings st (shown 0) Clean).0 (later shown) m rest }
     ensures upgrade { (settings : Settings) → (st : Store) → (shown : Reads) → (m : Pairs Bytes) →
         (rest : List Order) →
         printed settings st shown m (Upgrade ∷ rest)
-        ≡ shown_upgraded (behind settings st (shown 0) Upgrade).0.sequence
-        ++ printed settings (behind settings st (shown 0) Upgrade).0 (later shown) m rest }
+        ≡ shown_upgraded (after_order settings st (shown 0) Upgrade).0.sequence
+        ++ printed settings (after_order settings st (shown 0) Upgrade).0 (later shown) m rest }
     ensures verify { (settings : Settings) → (st : Store) → (shown : Reads) → (m : Pairs Bytes) →
         (rest : List Order) →
         printed settings st shown m (Verify ∷ rest)
@@ -97,36 +100,38 @@ pub fn the_commands_are_answered_in_order()
 {}
 
 /// Where no order is a clean, what orders answer, which of them are accepted and how they end doesn't depend on the bytes of the disk:
-/// it makes no difference what it shows, but where a store is read of it.
+/// it makes no difference what it shows, but where a store is read of it. The store is tidied alike in both cases: not at all, or after
+/// each flush by the same batches.
 pub fn the_bytes_of_the_disk_do_not_matter()
     ensures lines { (settings : Settings) → (st : Store) → (shown other : Reads) →
+        AreTidiedAlike shown other →
         (m : Pairs Bytes) → (orders : List Order) → All IsNoClean orders →
         answer_lines settings st shown m orders ≡ answer_lines settings st other m orders }
     ensures accepted { (settings : Settings) → (st : Store) → (shown other : Reads) →
-        (orders : List Order) → All IsNoClean orders →
+        AreTidiedAlike shown other → (orders : List Order) → All IsNoClean orders →
         accepted settings st shown orders ≡ accepted settings st other orders }
     ensures end { (settings : Settings) → (st : Store) → (shown other : Reads) →
-        (orders : List Order) → All IsNoClean orders →
+        AreTidiedAlike shown other → (orders : List Order) → All IsNoClean orders →
         orders_end settings st shown orders ≡ orders_end settings st other orders }
 {}
 
 /// Where the disk shows what was left, all of that is decided by the store and by the bytes of the disk before the first order, with
-/// cleans too. There is such a disk.
+/// cleans too, for stores that are tidied alike. There is such a disk, on which nothing is tidied.
 pub fn what_was_left_decides_the_answers()
     ensures lines { (settings : Settings) → (st : Store) → (file : Bytes) → (shown other : Reads) →
-        (m : Pairs Bytes) → (orders : List Order) →
+        AreTidiedAlike shown other → (m : Pairs Bytes) → (orders : List Order) →
         AreLeft settings st file shown orders → AreLeft settings st file other orders →
         answer_lines settings st shown m orders ≡ answer_lines settings st other m orders }
     ensures accepted { (settings : Settings) → (st : Store) → (file : Bytes) →
-        (shown other : Reads) → (orders : List Order) →
+        (shown other : Reads) → AreTidiedAlike shown other → (orders : List Order) →
         AreLeft settings st file shown orders → AreLeft settings st file other orders →
         accepted settings st shown orders ≡ accepted settings st other orders }
     ensures end { (settings : Settings) → (st : Store) → (file : Bytes) → (shown other : Reads) →
-        (orders : List Order) →
+        AreTidiedAlike shown other → (orders : List Order) →
         AreLeft settings st file shown orders → AreLeft settings st file other orders →
         orders_end settings st shown orders ≡ orders_end settings st other orders }
     ensures some { (settings : Settings) → (st : Store) → (file : Bytes) → (orders : List Order) →
-        (shown : Reads) × AreLeft settings st file shown orders }
+        (shown : Reads) × AreUntidied shown × AreLeft settings st file shown orders }
 {}
 
 /// The cleans that make room for flushes change nothing else of the orders: the commands are the same, and without the cleans the orders
@@ -138,6 +143,30 @@ pub fn cleans_alone_are_put_among_orders()
     ensures others { (settings : Settings) → (st : Store) → (shown : Reads) →
         (orders : List Order) → All IsNoClean orders →
         filter cleans_nothing (with_cleans settings st shown orders) ≡ orders }
+{}
+
+/// Tidying changes no reply: whatever is seen at each order, and so by whichever batches the store is tidied after its flushes, a batch
+/// prints the replies of an ordered map that took all commands that were ordered before. A tidied store holds what it held; its log and
+/// the bytes of its disk are as they were. What `Store::tidy` leaves is a store that is tidied so; and where a store is tidied by no
+/// batches, each order leaves what its step leaves.
+pub fn tidying_changes_no_replies()
+    ensures replies { (settings : Settings) → (st : Store) → (shown : Reads) → (m : Pairs Bytes) →
+        (front : List Order) → (commands : List (Command Global)) → (rest : List Order) →
+        (last : List Bytes) × (answer_lines settings st shown m (front ++ Batch commands ∷ rest)
+        ≡ answer_lines settings st shown m front
+        ++ (map shown_reply (replies_to (map_after_all m (flat_map commands_of front)) commands)
+        ++ last)) }
+    ensures holds { (settings : Settings) → (batches : Batches) → (at : Stored) →
+        contents (tidied settings batches at).0.tree ≡ contents at.0.tree }
+    ensures log { (settings : Settings) → (batches : Batches) → (at : Stored) →
+        ((tidied settings batches at).0 ≡ with_tree at.0 (tidied settings batches at).0.tree)
+        × ((tidied settings batches at).1 ≡ at.1) }
+    ensures tidies { (settings : Settings) → (st now : Store) → IsTidied settings st now →
+        (batches : Batches) × ((file : Bytes) →
+        tidied settings batches (st, file) ≡ (now, file)) }
+    ensures untidied { (settings : Settings) → (st : Store) → (file : Bytes) → (order : Order) →
+        after_order settings st (untidied file) order
+        ≡ left_by_step settings (st, file) (step_in order) }
 {}
 
 /// A stream orders what a session does that reads all first: all of it where no line is bad, and it ends as that does; else what the lines before
@@ -155,15 +184,42 @@ pub fn a_stream_orders_what_stands_before_a_bad_line()
         (rest : List Says) → first_bad 1 (front ++ Bad why ∷ rest) ≡ Some (length front + 1, why) }
 {}
 
+/// A session that is to leave a copy under good settings prints what it prints without that, and ends so; or that ends with all done, and it ends
+/// by a fault, which is why there is no copy. Where the settings are refused nothing is run.
+pub fn a_copy_changes_only_the_end()
+    ensures answers { (request : Request) → first_bad_field request.settings ≡ None →
+        (known old new : Option Bytes) → (end : Result (Unit {0}) Ending) →
+        Answers request known old new end → (plain : Result (Unit {0}) Ending)
+        × Answers (record request { copy_to = None }) known old new plain × IsEndAfter plain end }
+    ensures streams { (request : Request) → first_bad_field request.settings ≡ None →
+        (known old new : Option Bytes) → (end : Result (Unit {0}) Ending) →
+        Streams request known old new end → (plain : Result (Unit {0}) Ending)
+        × Streams (record request { copy_to = None }) known old new plain × IsEndAfter plain end }
+{}
+
 /// It makes no difference to what a session may print and how it may end who its crew is, but for whether that is in range. With one
 /// that isn't there is no store, whatever else the words give.
 pub fn the_crew_does_not_matter()
-    ensures same { (told : Told) → (crew : Crew) → is_crew crew ≡ is_crew told.crew →
+    ensures same { (request : Request) → (crew : Crew) → is_crew crew ≡ is_crew request.crew →
         (known old new : Option Bytes) → (end : Result (Unit {0}) Ending) →
-        Answers told known old new end → Answers (record told { crew = crew }) known old new end }
-    ensures streams { (told : Told) → (crew : Crew) → is_crew crew ≡ is_crew told.crew →
+        Answers request known old new end →
+        Answers (record request { crew = crew }) known old new end }
+    ensures streams { (request : Request) → (crew : Crew) → is_crew crew ≡ is_crew request.crew →
         (known old new : Option Bytes) → (end : Result (Unit {0}) Ending) →
-        Streams told known old new end → Streams (record told { crew = crew }) known old new end }
-    ensures refused { (told : Told) → is_crew told.crew ≡ false → (start : Start) →
-        IsStart told start → start ≡ Err BadCrew }
+        Streams request known old new end →
+        Streams (record request { crew = crew }) known old new end }
+    ensures refused { (request : Request) → is_crew request.crew ≡ false → (start : Start) →
+        IsStart request start → start ≡ Err BadCrew }
+{}
+
+/// Progress changes standard error alone: what a session may print on its output, and how it may end, is the same with it and without. Where
+/// the words don't ask for it, nothing stands on standard error but the report of the end.
+pub fn progress_changes_standard_error_alone()
+    ensures same { (request : Request) → (asked : Bool) → (known old new : Option Bytes) →
+        (end : Result (Unit {0}) Ending) → IsAnswered request known old new end →
+        IsAnswered (record request { ways = record request.ways { progress = asked } })
+        known old new end }
+    ensures report { (words : List Bytes) → (AsksForProgress words → ⊥) →
+        (end : Result (Unit {0}) Ending) → (old new : Option Bytes) →
+        IsReportedAfterProgress words end old new → IsReported words end old new }
 {}

@@ -3,6 +3,7 @@
 
 mod batch;
 mod batch_file;
+mod copying;
 mod explain;
 mod laws;
 mod line;
@@ -12,6 +13,7 @@ mod opening;
 mod options;
 mod output;
 mod program;
+mod progress;
 mod running;
 mod session;
 mod show;

@@ -5,7 +5,7 @@ use engine::{Disk, FileDisk, LockFile, MemDisk};
 use std::alloc::{AllocError, Global};
 use std::fs::OpenFile;
 use std::io;
-use std::io::{Read, Seek, Write};
+use std::io::{ErrorKind, Read, Seek, Write};
 
 /// Where a call failed.
 #[derive(Clone, Copy, Debug, PartialEq, Eq)]
@@ -14,6 +14,8 @@ pub enum Source {
     Input,
     /// The file that holds the store.
     File,
+    /// The file of the copy.
+    Copy,
 }
 
 /// The lines of one order of a batch file, by their numbers from 1.
@@ -115,7 +117,10 @@ pub struct Notes {
     text: Vec<u8>,
     // None before there is a store.
     done: Option<u64>,
+    is_copying: bool,
     streamed: Option<OrderLines>,
+    // The line of a stream that is read now.
+    unread: Option<u64>,
 }
 
 impl Notes {
@@ -127,7 +132,9 @@ impl Notes {
             failed: None,
             text: Vec::new(alloc),
             done: None,
+            is_copying: false,
             streamed: None,
+            unread: None,
         }
     }
 
@@ -160,8 +167,34 @@ impl Notes {
         self.done = self.done.map(|count| count.saturating_add(1));
     }
 
+    /// Notes that all orders are done, and the store is copied now.
+    pub fn copying(&mut self) {
+        self.is_copying = true;
+    }
+
+    /// Whether all orders were done, and the store was copied, or was to be.
+    pub fn is_copying(&self) -> bool {
+        self.is_copying
+    }
+
+    /// Notes that the line of this number of a stream is read now.
+    pub fn reading(&mut self, line: u64) {
+        self.unread = Some(line);
+    }
+
+    /// Notes that a stream has no more lines.
+    pub fn ended(&mut self) {
+        self.unread = None;
+    }
+
+    /// The line of a stream that could not be read, where it is one that failed.
+    pub fn unread(&self) -> Option<u64> {
+        self.unread
+    }
+
     /// Notes that the line of this number of a stream was read, and says this.
     pub fn line(&mut self, line: u64, says: &Says) {
+        self.unread = None;
         if !self.is_wanted {
             return;
         }
@@ -199,6 +232,9 @@ impl<F: Read + Write + Seek + OpenFile + LockFile + Drop> Reasoned for FileDisk<
 
 impl Reasoned for MemDisk<Global> {
     fn reason(&self) -> Option<io::Error> {
-        None
+        if self.failures() == 0 {
+            return None;
+        }
+        Some(ErrorKind::OutOfMemory.into())
     }
 }

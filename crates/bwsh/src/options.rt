@@ -1,7 +1,7 @@
 //! The words of the command line: the settings of the store, the crew that works on it, and the file that it is in.
 ghost use Rattle.std.specs.Prelude.{◌≡◌, IfOk, IfErr, Some, false, option_map, string_bytes, true};
 ghost use Rattle.clap.specs.Words.{FailsBy, app_of, fault_of, found_of, kind_of, matches_of, one_of, rows_of, rule_of, without_minus};
-ghost use Rattle.bwsh.specs.Options.{AsksFor, Given, IsRightKind, Text, crew_of, disk_of, is_given, is_number, number_of, settings_of, takes_nothing, texts, told_of, ways_of};
+ghost use Rattle.bwsh.specs.Options.{AsksFor, Given, IsRightKind, Text, crew_of, is_given, is_number, number_of, path_of, settings_of, takes_nothing, takes_path, texts, request_of, ways_of};
 ghost use Rattle.bwsh.specs.CommandLine.{AreGivable, bwsh, finished_rows, flag_rule, number_rule, text_rule};
 
 mod asked;
@@ -30,8 +30,14 @@ const WORKERS: &str = "Threads that share the work, 1 to 64";
 
 const GRAIN: &str = "Pages that one of them takes at a time, 1 to 65535";
 
+const TIDY: &str = "Emptied leaves that are merged after each flush, at the most; 0 is none";
+
 const DISK: &str =
     "File that holds the store; without it the store is in memory and ends with the program";
+
+const COPY_TO: &str =
+    "New file into which the store is copied where all orders are done, with the settings of this \
+    command line; what stands there already is never replaced";
 
 const CREATE: &str =
     "Makes the file anew, with the settings of this command line; what it held is lost";
@@ -52,6 +58,9 @@ const STREAM: &str =
     "Reads line by line, and answers each batch before it reads on; a bad line ends \
     the session there";
 
+const PROGRESS: &str =
+    "Writes a line on standard error once a second, in the place of the last one: how far the session is";
+
 // The help after the options.
 const AFTER_HELP: &str = "\
 All of standard input is read before anything is run: where one of its lines is bad, nothing is run.
@@ -64,6 +73,10 @@ program. --create replaces what stands at its path, whether that is a store or a
 A store in a file has the settings with which the file was made. Those of the command line are for a
 store in memory, and for a file that is made anew; otherwise they are ignored. Workers and grain are
 no settings of a store: they are for this session alone, which answers the same with any of them.
+--copy-to is done last, once all orders are done and answered, and its file is a store of its own.
+What stands at its path is never replaced: a file with any bytes there is a fault, as is one that
+can't be written or be so long, and settings that are refused; then nothing is run. Where there is
+no copy in the end the file is empty, and the exit status is not 0.
 A session with a flush, a clean or an upgrade, or --create, holds its file alone; any other shares
 it, and only reads it. Where another session is in the way it is a fault at once, and nothing is
 changed.
@@ -83,7 +96,7 @@ Lines of the batch file:
                     keys share their beginnings; it is done once, and there is no way back
   verify            Runs these too, if there are any, and then checks the whole tree
   # ...             A comment
-Commands behind the last go, flush, clean, upgrade or verify are run at the end.
+Commands after the last go, flush, clean, upgrade or verify are run at the end.
 
 Keys and values are words of printed ASCII. In them %XX is the byte of two hexadecimal digits, as
 %20 for a space, and % alone is the word of no bytes.
@@ -148,13 +161,16 @@ fn command<'a>(alloc: Global) -> Result<Command<'a>, AllocError>
         .arg(number(alloc, "segments", "64", SEGMENTS))?
         .arg(number(alloc, "workers", "1", WORKERS))?
         .arg(number(alloc, "grain", "64", GRAIN))?
+        .arg(number(alloc, "tidy", "0", TIDY))?
         .arg(path(alloc, "disk", DISK))?
+        .arg(path(alloc, "copy-to", COPY_TO))?
         .arg(flag(alloc, "create", CREATE))?
         .arg(flag(alloc, "version", VERSION))?
         .arg(flag(alloc, "explain", EXPLAIN))?
         .arg(flag(alloc, "stat", STAT))?
         .arg(flag(alloc, "clean-when-full", CLEAN_WHEN_FULL))?
-        .arg(flag(alloc, "stream", STREAM))
+        .arg(flag(alloc, "stream", STREAM))?
+        .arg(flag(alloc, "progress", PROGRESS))
 }
 
 // What clap finds in the words.
@@ -200,12 +216,17 @@ fn crew(matches: &ArgMatches<'_>) -> Crew
     }
 }
 
-// A copy of the path that was found, if one was.
-fn disk(alloc: Global, matches: &ArgMatches<'_>) -> Result<Option<String>, AllocError>
-    ensures { (given : Given) → rows_of (found_of matches.now) ≡ finished_rows given
-        → IfOk result (λ disk. option_map string_bytes disk ≡ disk_of given) }
+// A copy of the path that was found for the option, if one was.
+fn path_at(
+    alloc: Global,
+    matches: &ArgMatches<'_>,
+    name: &str,
+) -> Result<Option<String>, AllocError>
+    ensures { takes_path name.now ≡ true → (given : Given)
+        → rows_of (found_of matches.now) ≡ finished_rows given
+        → IfOk result (λ found. option_map string_bytes found ≡ path_of name.now given) }
 {
-    match matches.get_str("disk") {
+    match matches.get_str(name) {
         Some(path) => Ok(Some(String::from_str(alloc, path)?)),
         None => Ok(None),
     }
@@ -230,24 +251,28 @@ fn ways(matches: &ArgMatches<'_>) -> Ways
         stat: flag_at(matches, "stat"),
         clean_when_full: flag_at(matches, "clean-when-full"),
         stream: flag_at(matches, "stream"),
+        tidy: number_at(matches, "tidy"),
+        progress: flag_at(matches, "progress"),
     }
 }
 
 /// Reads the words after the program's name: `[--fan N] [--chain N] [--max-key N] [--max-value N] [--seg-size N]
-/// [--segments N] [--workers N] [--grain N] [--disk PATH] [--create] [--version] [--explain] [--stat] [--clean-when-full]
-/// [--stream]`, in any order,
-/// `--fan=N` too, and `--help` or `-h`. A number that is not given has its default. Whether the numbers are in range is for `Settings::check` and `Crew::check` to say.
+/// [--segments N] [--workers N] [--grain N] [--tidy N] [--disk PATH] [--copy-to PATH] [--create] [--version] [--explain]
+/// [--stat] [--clean-when-full] [--stream] [--progress]`, in any order, `--fan=N` too, and `--help` or `-h`. A number that
+/// is not given has its default. Whether the numbers are in range is for `Settings::check` and `Crew::check` to say.
 pub fn options(alloc: Global, words: &[String]) -> Result<Options, Error>
-    ensures ok { IfOk result (λ o. AsksFor (texts words.now) (told_of o)) }
+    ensures ok { IfOk result (λ o. AsksFor (texts words.now) (request_of o)) }
     ensures err { IfErr result (λ e. IsRightKind (texts words.now) (kind_of e)) }
 {
     let matches = parse(alloc, words)?;
-    let disk = disk(alloc, &matches)?;
+    let disk = path_at(alloc, &matches, "disk")?;
+    let copy_to = path_at(alloc, &matches, "copy-to")?;
     Ok(Options {
         settings: settings(&matches),
         crew: crew(&matches),
         disk,
         create: flag_at(&matches, "create"),
+        copy_to,
         ways: ways(&matches),
     })
 }

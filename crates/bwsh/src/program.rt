@@ -3,13 +3,14 @@ ghost use Rattle.std.specs.Prelude.{◌≡◌, ◌↔◌, ◌⊎◌, List, map, 
 ghost use Rattle.std.specs.String.{string_bytes};
 ghost use Rattle.std.specs.IoError.{error_kind};
 ghost use Rattle.keys.specs.Bytes.{Bytes};
-ghost use Rattle.bwsh.specs.Session.{unread_text, IsBegun, EndsTold};
+ghost use Rattle.bwsh.specs.Session.{unread_text, IsBegun, IsQuiet, EndsReported};
 
 use crate::session::{session, unread_words};
 use engine::LockFile;
 use std::io::{ErrorKind, Read, Write};
 use std::rt::{Env, Files};
 use std::thread::Threads;
+use std::time::Clock;
 use std::{env, io};
 
 // All words of the command line. The first is the program's name.
@@ -18,11 +19,11 @@ fn all_words<R: Env + AllocGlobal>(rt: &R) -> io::Result<Vec<String>> {
 }
 
 // The words after the program's name.
-fn behind_name(words: &[String]) -> &[String]
+fn words_after_name(words: &[String]) -> &[String]
     ensures { result.now ≡ drop 1 words.now }
 {
     match words.split_first() {
-        Some((_name, behind)) => behind,
+        Some((_name, following)) => following,
         None => words,
     }
 }
@@ -30,7 +31,7 @@ fn behind_name(words: &[String]) -> &[String]
 /// Does what all these words of the command line ask for, the first being the program's name, and returns the exit
 /// status of the session. Where they cannot be read, that alone is reported, and the status is that of
 /// `unread_words`.
-pub fn run_words<R: AllocGlobal + Threads + Sync + Files, I: Read, O: Write, E: Write>(
+pub fn run_words<R: AllocGlobal + Threads + Sync + Files + Clock, I: Read, O: Write, E: Write>(
     rt: &R,
     words: io::Result<Vec<String>>,
     input: &mut I,
@@ -39,7 +40,7 @@ pub fn run_words<R: AllocGlobal + Threads + Sync + Files, I: Read, O: Write, E: 
 ) -> u8
 where
     R::File: LockFile,
-    ensures read { IfOk words (λ all. EndsTold (map string_bytes (drop 1 all.items))
+    ensures read { IfOk words (λ all. EndsReported (map string_bytes (drop 1 all.items))
         (I.remaining input.old) (O.contents out.old) (O.contents out.new)
         (E.contents err.old) (E.contents err.new)
         (input.new ≡ input.old) (out.new ≡ out.old) result) }
@@ -47,30 +48,31 @@ where
         × ((result ≡ 4) ↔ (error_kind error ≡ ErrorKind.OutOfMemory))
         × (input.new ≡ input.old) × (out.new ≡ out.old)
         × (result ≡ 2 → IsBegun (E.contents err.old) (E.contents err.new) unread_text)) }
-    ensures quiet { result ≡ 0 → err.new ≡ err.old }
+    ensures quiet { IfOk words (λ all. result ≡ 0 →
+        IsQuiet E.contents (map string_bytes (drop 1 all.items)) err.old err.new) }
 {
     match words {
-        Ok(words) => session(rt, behind_name(&words), input, out, err),
+        Ok(words) => session(rt, words_after_name(&words), input, out, err),
         Err(error) => unread_words(error, err),
     }
 }
 
 /// Does what the words of the command line ask for, and returns the exit status. No clause of the library says which
 /// words an environment gives; a session with some words ends so, or they cannot be read.
-pub fn run_program<R: Env + AllocGlobal + Threads + Sync + Files, I: Read, O: Write, E: Write>(
-    rt: &R,
-    input: &mut I,
-    out: &mut O,
-    err: &mut E,
-) -> u8
+pub fn run_program<
+    R: Env + AllocGlobal + Threads + Sync + Files + Clock,
+    I: Read,
+    O: Write,
+    E: Write,
+>(rt: &R, input: &mut I, out: &mut O, err: &mut E) -> u8
 where
     R::File: LockFile,
-    ensures ends { ((words : List Bytes) × EndsTold words
+    ensures ends { ((words : List Bytes) × EndsReported words
         (I.remaining input.old) (O.contents out.old) (O.contents out.new)
         (E.contents err.old) (E.contents err.new)
-        (input.new ≡ input.old) (out.new ≡ out.old) result)
+        (input.new ≡ input.old) (out.new ≡ out.old) result
+        × (result ≡ 0 → IsQuiet E.contents words err.old err.new))
         ⊎ (((result ≡ 2) ⊎ (result ≡ 4)) × (input.new ≡ input.old) × (out.new ≡ out.old)) }
-    ensures quiet { result ≡ 0 → err.new ≡ err.old }
 {
     run_words(rt, all_words(rt), input, out, err)
 }

@@ -13,16 +13,18 @@ ghost use Rattle.bwsh.specs.declared.session.Ending.{Ending};
 ghost use Rattle.bwsh.specs.declared.session.Ending.TheVariants.{Device};
 ghost use Rattle.bwsh.specs.declared.session.Ending.TheVariants as endings;
 ghost use Rattle.bwsh.specs.BatchFile.{text_says, first_bad, orders_of, with_numbers, writes};
-ghost use Rattle.bwsh.specs.Options.{Told, AsksFor, AsksForText, AsksToExplain, AsksToStream, AreRefused, told_of};
-ghost use Rattle.bwsh.specs.Session.{status_of, status_of_end, ending_text, unread_text, version_text, ending_by, printed_by, orders_run, BeginsWith, IsBegun, IsToldWith, IsReadEnding, IsForWords, Prints, PrintsOneText, Reads, Start, IsStart, IsShown, Answers, IsAnswered, EndsBy, EndsTold};
+ghost use Rattle.bwsh.specs.Options.{Request, AsksFor, AsksForText, AsksToExplain, AsksToStream, AreRefused, request_of};
+ghost use Rattle.bwsh.specs.Session.{status_of, status_of_end, ending_text, unread_text, version_text, ending_by, printed_by, orders_run, BeginsWith, IsBegun, IsReportedWith, IsReadEnding, IsForWords, IsQuiet, Prints, PrintsOneText, Reads, Shows, ShowsOnly, Start, IsStart, IsShown, Answers, IsAnswered, EndsBy, EndsReported};
 
 use crate::batch_file::{Order, TextFault, parse};
+use crate::copying::new_copy;
 use crate::explain::explained;
 use crate::line::Why;
 use crate::notes::{Notes, Source};
 use crate::opening::{new_store_in_file, store_in_file, store_in_memory};
 use crate::options::{Options, options};
 use crate::output::{ask, flush, write_bytes};
+use crate::progress::{Progress, Reports};
 use crate::running::run_opened;
 use crate::stream::run_stream;
 use engine::{BadCrew, LockFile};
@@ -32,6 +34,7 @@ use std::fmt::{InlineText, Write as _};
 use std::io::{ErrorKind, Read, Write};
 use std::rt::Files;
 use std::thread::Threads;
+use std::time::Clock;
 use std::{fmt, io};
 
 // Bytes that hold the line of each ending but that for refused words.
@@ -172,34 +175,40 @@ fn has_writing(orders: &[Order]) -> bool
 }
 
 // Reads all of the input, and has it run.
-fn run_file<R: AllocGlobal + Threads + Sync + Files, I: Read, O: Write>(
+fn run_file<R: AllocGlobal + Threads + Sync + Files + Clock, I: Read, O: Write, E: Write>(
     rt: &R,
-    told: &Options,
+    request: &Options,
     input: &mut I,
     out: &mut O,
-    notes: &mut Notes,
+    reports: &mut Reports,
+    err: &mut E,
 ) -> Result<(), Ending>
 where
     R::File: LockFile,
-    ensures { Answers (told_of told.now) (I.remaining input.old)
+    ensures runs { Answers (request_of request.now) (I.remaining input.old)
         (O.contents out.old) (O.contents out.new) result }
+    ensures shows { Shows E.contents reports.old.progress.is_shown err.old
+        reports.new.progress.is_shown err.new }
 {
-    let orders = read_orders(rt.alloc(), input, told.ways.stat, notes)?;
+    let orders = read_orders(rt.alloc(), input, request.ways.stat, &mut reports.notes)?;
     ask(out)?;
-    let (crew, cleans) = (told.crew, told.ways.clean_when_full);
+    let (crew, ways) = (request.crew, request.ways);
     crew.check()?;
-    match &told.disk {
+    let copy = new_copy(rt, request, &mut reports.notes)?;
+    reports.progress.opening(&request.disk, err);
+    match &request.disk {
         None => {
-            let opened = store_in_memory(rt.alloc(), told.settings, notes);
-            run_opened(rt, crew, cleans, opened, &orders, out, notes)
+            let opened = store_in_memory(rt.alloc(), request.settings, &mut reports.notes);
+            run_opened(rt, crew, ways, copy, opened, &orders, out, reports, err)
         }
-        Some(path) if told.create => {
-            let opened = new_store_in_file(rt, path, told.settings, notes);
-            run_opened(rt, crew, cleans, opened, &orders, out, notes)
+        Some(path) if request.create => {
+            let opened = new_store_in_file(rt, path, request.settings, &mut reports.notes);
+            run_opened(rt, crew, ways, copy, opened, &orders, out, reports, err)
         }
         Some(path) => {
-            let opened = store_in_file(rt, crew, path, has_writing(&orders), notes);
-            run_opened(rt, crew, cleans, opened, &orders, out, notes)
+            let writes = has_writing(&orders);
+            let opened = store_in_file(rt, crew, path, writes, &mut reports.notes);
+            run_opened(rt, crew, ways, copy, opened, &orders, out, reports, err)
         }
     }
 }
@@ -214,6 +223,9 @@ where
 /// Where `clean_when_full` is asked for, a flush for which the log is full is made after as many cleans as it takes, at most one for each
 /// segment, and each of them prints its line. Where they make no room it is `Fault::Full`.
 ///
+/// Where `tidy` is asked for, the answer to each flush is handed on, and then the store is tidied, as `Store::tidy` says: it prints nothing,
+/// and what it changes reaches the disk with the next flush. Want of memory for it ends the session, after that answer.
+///
 /// A stream is read line by line: what a line ends is run, and its answers are handed on, before the next line is read. Its lines come after all
 /// else: an output that is closed, a crew out of range, settings that are refused and a fault of the file go before a bad line. What was ended
 /// before a bad line is done then, and commands that no line has ended are not; at the end of the input these are run. It holds its file alone,
@@ -224,23 +236,31 @@ where
 /// it was. One that can't be made anew is left as `FileDisk::of_zeros` says; or, where only the writes of a new store failed, with its
 /// new length, and with zeros but for what was written of them.
 ///
-/// `notes` gets what an explanation of the end needs.
-pub fn run<R: AllocGlobal + Threads + Sync + Files, I: Read, O: Write>(
+/// Where the store is to be copied, the file of the copy is opened after the crew was checked, in front of that of the store, and has to have
+/// no bytes: settings that are refused, and a fault of that file, go before all faults of a store. Once all orders are done, and their answers
+/// handed on, the store is copied into it, under the settings of the command line. Where that is refused, or not all orders are done, it has no
+/// bytes.
+///
+/// `reports` gets what an explanation of the end needs, and its progress goes to `err`, where it is shown.
+pub fn run<R: AllocGlobal + Threads + Sync + Files + Clock, I: Read, O: Write, E: Write>(
     rt: &R,
-    told: &Options,
+    request: &Options,
     input: &mut I,
     out: &mut O,
-    notes: &mut Notes,
+    reports: &mut Reports,
+    err: &mut E,
 ) -> Result<(), Ending>
 where
     R::File: LockFile,
-    ensures { IsAnswered (told_of told.now) (I.remaining input.old)
+    ensures runs { IsAnswered (request_of request.now) (I.remaining input.old)
         (O.contents out.old) (O.contents out.new) result }
+    ensures shows { Shows E.contents reports.old.progress.is_shown err.old
+        reports.new.progress.is_shown err.new }
 {
-    if told.ways.stream {
-        return run_stream(rt, told, input, out, notes);
+    if request.ways.stream {
+        return run_stream(rt, request, input, out, reports, err);
     }
-    run_file(rt, told, input, out, notes)
+    run_file(rt, request, input, out, reports, err)
 }
 
 // Prints the help that was asked for.
@@ -276,43 +296,50 @@ fn answer_words<O: Write>(alloc: Global, error: clap::Error, out: &mut O) -> Res
     }
 }
 
-// Does what the options ask for: prints the version, or runs the batch file. `more` gets the explanation of its end, where it is
-// asked for.
-fn obey_options<R: AllocGlobal + Threads + Sync + Files, I: Read, O: Write>(
+// Does what the options ask for: prints the version, or runs the batch file. `more` gets the explanation of its end, and `err` its
+// progress, where they are asked for.
+fn obey_options<R: AllocGlobal + Threads + Sync + Files + Clock, I: Read, O: Write, E: Write>(
     rt: &R,
-    told: &Options,
+    request: &Options,
     input: &mut I,
     out: &mut O,
     more: &mut Vec<u8>,
+    err: &mut E,
 ) -> Result<(), Ending>
 where
     R::File: LockFile,
     requires { more.old.items ≡ [] }
-    ensures version { told.now.ways.version ≡ true → (input.new ≡ input.old)
+    ensures version { request.now.ways.version ≡ true → (input.new ≡ input.old)
         × Prints (O.contents out.old) (O.contents out.new) (version_text ∷ []) (Ok tt) result }
-    ensures answers { told.now.ways.version ≡ false →
-        IsAnswered (told_of told.now) (I.remaining input.old)
+    ensures answers { request.now.ways.version ≡ false →
+        IsAnswered (request_of request.now) (I.remaining input.old)
         (O.contents out.old) (O.contents out.new) result }
-    ensures more { told.now.ways.explain ≡ false → more.new.items ≡ [] }
+    ensures more { request.now.ways.explain ≡ false → more.new.items ≡ [] }
+    ensures shows { ShowsOnly E.contents request.now.ways.progress err.old err.new }
 {
-    if told.ways.version {
+    if request.ways.version {
         return show_version(out);
     }
-    let mut notes = Notes::new(rt.alloc(), told.ways.explain);
-    let done = run(rt, told, input, out, &mut notes);
-    if told.ways.explain {
-        *more = explained(rt.alloc(), told, &mut notes, &done).into_bytes();
+    let mut reports = Reports {
+        progress: Progress::begin(rt, request.ways.progress, err),
+        notes: Notes::new(rt.alloc(), request.ways.explain),
+    };
+    let done = run(rt, request, input, out, &mut reports, err);
+    reports.progress.end(err);
+    if request.ways.explain {
+        *more = explained(rt.alloc(), request, &mut reports.notes, &done).into_bytes();
     }
     done
 }
 
-// Does what the words ask for. `more` gets the explanation of its end, where it is asked for.
-fn obey<R: AllocGlobal + Threads + Sync + Files, I: Read, O: Write>(
+// Does what the words ask for. `more` gets the explanation of its end, and `err` its progress, where they are asked for.
+fn obey<R: AllocGlobal + Threads + Sync + Files + Clock, I: Read, O: Write, E: Write>(
     rt: &R,
     words: &[String],
     input: &mut I,
     out: &mut O,
     more: &mut Vec<u8>,
+    err: &mut E,
 ) -> Result<(), Ending>
 where
     R::File: LockFile,
@@ -320,15 +347,16 @@ where
     ensures ends { EndsBy (map string_bytes words.now) (I.remaining input.old) (O.contents out.old)
         (O.contents out.new) (input.new ≡ input.old) (out.new ≡ out.old) result }
     ensures more { AsksToExplain (map string_bytes words.now) ⊎ (more.new.items ≡ []) }
+    ensures quiet { IsQuiet E.contents (map string_bytes words.now) err.old err.new }
 {
     match options(rt.alloc(), words) {
-        Ok(told) => obey_options(rt, &told, input, out, more),
+        Ok(request) => obey_options(rt, &request, input, out, more, err),
         Err(error) => answer_words(rt.alloc(), error, out),
     }
 }
 
 // Tells why the session ends early. What `clap` says is long, and is written as it is made; a line is made first.
-fn tell<E: Write>(ending: &Ending, err: &mut E) -> Result<(), Ending>
+fn write_ending<E: Write>(ending: &Ending, err: &mut E) -> Result<(), Ending>
     ensures ok { OnOk result (IfSome (ending_text ending.now)
         (Appends (E.contents err.old) (E.contents err.new))) }
     ensures err { OnErr result (IfSome (ending_text ending.now)
@@ -345,11 +373,11 @@ fn tell<E: Write>(ending: &Ending, err: &mut E) -> Result<(), Ending>
 }
 
 // Tells why the session ends early, and then more of it.
-fn tell_all<E: Write>(ending: &Ending, more: &[u8], err: &mut E) -> Result<(), Ending>
+fn write_ending_and<E: Write>(ending: &Ending, more: &[u8], err: &mut E) -> Result<(), Ending>
     ensures { IfSome (ending_text ending.now)
         (λ text. IsBegun (E.contents err.old) (E.contents err.new) (text ++ more.now)) }
 {
-    tell(ending, err)?;
+    write_ending(ending, err)?;
     write_bytes(more, err)
 }
 
@@ -358,12 +386,12 @@ fn tell_all<E: Write>(ending: &Ending, more: &[u8], err: &mut E) -> Result<(), E
 fn end<E: Write>(done: Result<(), Ending>, more: &[u8], err: &mut E) -> u8
     ensures status { result ≡ status_of_end done }
     ensures quiet { IfOk done (λ _. err.new ≡ err.old) }
-    ensures told { IsToldWith more.now done (E.contents err.old) (E.contents err.new) }
+    ensures reported { IsReportedWith more.now done (E.contents err.old) (E.contents err.new) }
 {
     match done {
         Ok(()) => 0,
         Err(ending) => {
-            let _ = tell_all(&ending, more, err);
+            let _ = write_ending_and(&ending, more, err);
             ending.status()
         }
     }
@@ -374,7 +402,7 @@ fn end<E: Write>(done: Result<(), Ending>, more: &[u8], err: &mut E) -> u8
 pub fn unread_words<E: Write>(error: io::Error, err: &mut E) -> u8
     ensures memory { (result ≡ 4) ↔ (error_kind error ≡ ErrorKind.OutOfMemory) }
     ensures status { (result ≡ 2) ⊎ (result ≡ 4) }
-    ensures told { result ≡ 2 → IsBegun (E.contents err.old) (E.contents err.new) unread_text }
+    ensures reported { result ≡ 2 → IsBegun (E.contents err.old) (E.contents err.new) unread_text }
 {
     match error.kind() {
         ErrorKind::OutOfMemory => end(Err(Ending::Fault(Fault::NoMemory)), &[], err),
@@ -396,7 +424,10 @@ pub fn unread_words<E: Write>(error: io::Error, err: &mut E) -> u8
 ///   Its line is written when the file is closed.
 ///
 /// Where the words ask for `--explain`, a second line follows on that of a bad line or a fault: where it came from, and what to do.
-pub fn session<R: AllocGlobal + Threads + Sync + Files, I: Read, O: Write, E: Write>(
+///
+/// Where they ask for `--progress`, `err` gets one line before all that, about once a second, each in place of the one before, and at the end
+/// it is erased. Where it can't be written, the session goes on without.
+pub fn session<R: AllocGlobal + Threads + Sync + Files + Clock, I: Read, O: Write, E: Write>(
     rt: &R,
     words: &[String],
     input: &mut I,
@@ -416,39 +447,40 @@ where
     // words tell, unless that is help or the version. In memory and in a file that is made anew it is a new one of the settings that they tell;
     // else it is the one that the bytes of the file stand for, whichever these are. With a crew out of range there is none, and
     // else the crew doesn't matter. A clean is done of what the disk shows: in memory that is what was left, and a file may show
-    // anything.
+    // anything. Where `tidy` is asked for, the store is tidied after each flush, by any batches that keep what it holds; else by none.
     ensures done { result ≡ 0 →
         AsksForText (map string_bytes words.now)
-        ⊎ ((told : Told) × AsksFor (map string_bytes words.now) told
+        ⊎ ((request : Request) × AsksFor (map string_bytes words.now) request
         × IfSome (I.remaining input.old) (λ text. (first_bad 1 (text_says text) ≡ None)
-        × ((start : Start) × IsStart told start × IsOk start
-        × (shown : Reads) × IsShown told start shown (orders_run told start shown text)
+        × ((start : Start) × IsStart request start × IsOk start
+        × (shown : Reads) × IsShown request start shown (orders_run request start shown text)
         × Appends (O.contents out.old) (O.contents out.new)
-        (printed_by start shown (orders_run told start shown text))))) }
+        (printed_by start shown (orders_run request start shown text))))) }
     ensures bad { result ≡ 3 →
         (AsksToStream (map string_bytes words.now)
         ⊎ Appends (O.contents out.old) (O.contents out.new) [])
         × IfSome (I.remaining input.old) (λ text. first_bad 1 (text_says text) ≢ None) }
     ensures beginning { AsksForText (map string_bytes words.now)
         ⊎ Appends (O.contents out.old) (O.contents out.new) []
-        ⊎ ((told : Told) × AsksFor (map string_bytes words.now) told
-        × IfSome (I.remaining input.old) (λ text. (start : Start) × IsStart told start
-        × (shown : Reads) × IsShown told start shown (orders_run told start shown text)
+        ⊎ ((request : Request) × AsksFor (map string_bytes words.now) request
+        × IfSome (I.remaining input.old) (λ text. (start : Start) × IsStart request start
+        × (shown : Reads) × IsShown request start shown (orders_run request start shown text)
         × ((front : Bytes) ×
-        BeginsWith (printed_by start shown (orders_run told start shown text)) front
+        BeginsWith (printed_by start shown (orders_run request start shown text)) front
         × Appends (O.contents out.old) (O.contents out.new) front))) }
 
     // How it ends, and what is read and printed, is right for the words and the text but for memory and devices.
-    // What goes to `err` reports this end, or a beginning of it; and more only where the words ask to explain it.
-    ensures ends { EndsTold (map string_bytes words.now)
+    // What goes to `err` reports this end, or a beginning of it; and more only where the words ask to explain it. Progress stands before that
+    // only where they ask for it.
+    ensures ends { EndsReported (map string_bytes words.now)
         (I.remaining input.old) (O.contents out.old) (O.contents out.new)
         (E.contents err.old) (E.contents err.new)
         (input.new ≡ input.old) (out.new ≡ out.old) result }
 
-    // A session with all done reports nothing.
-    ensures quiet { result ≡ 0 → err.new ≡ err.old }
+    // A session with all done reports nothing, but for progress that the words ask for.
+    ensures quiet { result ≡ 0 → IsQuiet E.contents (map string_bytes words.now) err.old err.new }
 {
     let mut more = Vec::new(rt.alloc());
-    let done = obey(rt, words, input, out, &mut more);
+    let done = obey(rt, words, input, out, &mut more, err);
     end(done, &more, err)
 }

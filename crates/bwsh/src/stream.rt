@@ -1,26 +1,33 @@
 //! A stream: the input is read line by line, and what a line ends is run before the next one is read.
-ghost use Rattle.std.specs.Prelude.{◌≡◌, ◌⊎◌, [], ◌∷◌, ◌++◌, Bool, true, false, IsTrue, IfOk, IfErr, OnOk};
+ghost use Rattle.std.specs.Prelude.{◌≡◌, ◌⊎◌, [], ◌∷◌, ◌++◌, false, IsTrue, IfOk, IfErr, IfSome, None, OnOk};
+ghost use Rattle.std.specs.Option.{option_map};
+ghost use Rattle.std.specs.Io.KnownBytes.{Keeps};
 ghost use Rattle.bstr.specs.Text.{without_terminator};
 ghost use Rattle.crew.specs.Crew.{is_crew};
+ghost use Rattle.keys.specs.Limits.{first_bad_field};
+ghost use Rattle.mapping.specs.Levels.{contents};
 ghost use Rattle.bwsh.specs.declared.batch_file.Order.TheVariants.{Batch};
 ghost use Rattle.bwsh.specs.BatchFile.{IsNextLine, ended_by, last_order, unended, with_numbers};
-ghost use Rattle.bwsh.specs.Options.{told_of};
-ghost use Rattle.bwsh.specs.Session.{IsHonestStore, Opens, RunsFirst, Start, Streams, StreamsFrom, StreamsOn, stream_ended};
+ghost use Rattle.bwsh.specs.Options.{request_of};
+ghost use Rattle.bwsh.specs.Session.{IsHonestStore, Opens, RunsFirst, Shows, Start, Streams, StreamsFrom, StreamsOn, stream_ended, map_left};
 
 use crate::batch_file::Order;
+use crate::copying::{Copying, leave_copy, new_copy, path_of};
 use crate::line::{LineReader, Says, Why};
 use crate::notes::{Notes, Reasoned, Source};
 use crate::opening::{new_store_in_file, store_in_file, store_in_memory};
 use crate::options::{Options, Ways};
 use crate::output::{ask, flush};
+use crate::progress::{Ended, Reports};
 use crate::running::{run_order, run_step};
 use crate::session::{Ending, read_fault};
 use engine::{Crew, Disk, LockFile, Step, Store};
 use keys::{Command, Fault};
 use std::alloc::Global;
-use std::io::{BufRead, BufReader, Read, Write};
+use std::io::{BufRead, BufReader, ErrorKind, Read, Write};
 use std::rt::Files;
 use std::thread::Threads;
+use std::time::Clock;
 
 // The first bad line of a stream, by its number from 1, and what is wrong with it.
 type BadLine = (u64, Why);
@@ -71,10 +78,12 @@ fn run_pending<R: AllocGlobal + Threads + Sync, D: Disk, O: Write>(
 ) -> Result<(), Ending>
     requires crew { IsTrue (is_crew crew) }
     requires fine { store.old.has_failed ≡ false }
-    ensures runs { (cleans : Bool) →
-        RunsFirst cleans (D.view store.old.disk).is_honest store.old.settings store.old.store
+    ensures runs { (ways : Ways) →
+        RunsFirst ways (D.view store.old.disk).is_honest store.old.settings store.old.store
         (D.view store.old.disk).seen (Batch pending.old.items ∷ []) (O.contents out.old)
         (O.contents out.new) result store.new.store (D.view store.new.disk).seen }
+    ensures holds { OnOk result (contents store.new.store.tree
+        ≡ map_left (contents store.old.store.tree) (Batch pending.old.items ∷ [])) }
     ensures pending { OnOk result (pending.new.items ≡ []) }
     ensures settings { store.new.settings ≡ store.old.settings }
     ensures honest { (D.view store.new.disk).is_honest ≡ (D.view store.old.disk).is_honest }
@@ -97,10 +106,12 @@ fn run_any_pending<R: AllocGlobal + Threads + Sync, D: Disk, O: Write>(
 ) -> Result<(), Ending>
     requires crew { IsTrue (is_crew crew) }
     requires fine { store.old.has_failed ≡ false }
-    ensures runs { (cleans : Bool) →
-        RunsFirst cleans (D.view store.old.disk).is_honest store.old.settings store.old.store
+    ensures runs { (ways : Ways) →
+        RunsFirst ways (D.view store.old.disk).is_honest store.old.settings store.old.store
         (D.view store.old.disk).seen (last_order pending.old.items) (O.contents out.old)
         (O.contents out.new) result store.new.store (D.view store.new.disk).seen }
+    ensures holds { OnOk result (contents store.new.store.tree
+        ≡ map_left (contents store.old.store.tree) (last_order pending.old.items)) }
     ensures pending { OnOk result (pending.new.items ≡ []) }
     ensures settings { store.new.settings ≡ store.old.settings }
     ensures honest { (D.view store.new.disk).is_honest ≡ (D.view store.old.disk).is_honest }
@@ -116,7 +127,7 @@ fn run_any_pending<R: AllocGlobal + Threads + Sync, D: Disk, O: Write>(
 fn run_ended<R: AllocGlobal + Threads + Sync, D: Disk, O: Write>(
     rt: &R,
     crew: Crew,
-    cleans: bool,
+    ways: Ways,
     store: &mut Store<D>,
     pending: &mut Vec<Command<Global>>,
     order: &Order,
@@ -125,17 +136,20 @@ fn run_ended<R: AllocGlobal + Threads + Sync, D: Disk, O: Write>(
 ) -> Result<(), Ending>
     requires crew { IsTrue (is_crew crew) }
     requires fine { store.old.has_failed ≡ false }
-    ensures runs { RunsFirst cleans (D.view store.old.disk).is_honest
+    ensures runs { RunsFirst ways (D.view store.old.disk).is_honest
         store.old.settings store.old.store (D.view store.old.disk).seen
         (last_order pending.old.items ++ order.now ∷ []) (O.contents out.old) (O.contents out.new)
         result store.new.store (D.view store.new.disk).seen }
+    ensures holds { OnOk result (contents store.new.store.tree
+        ≡ map_left (contents store.old.store.tree)
+        (last_order pending.old.items ++ order.now ∷ [])) }
     ensures pending { OnOk result (pending.new.items ≡ []) }
     ensures settings { store.new.settings ≡ store.old.settings }
     ensures honest { (D.view store.new.disk).is_honest ≡ (D.view store.old.disk).is_honest }
     ensures failed { OnOk result (store.new.has_failed ≡ store.old.has_failed) }
 {
     run_any_pending(rt, crew, store, pending, lines, out)?;
-    let done = run_order(rt, crew, cleans, store, order, lines, out);
+    let done = run_order(rt, crew, ways, store, order, lines, out);
     flush(done, out)
 }
 
@@ -143,7 +157,7 @@ fn run_ended<R: AllocGlobal + Threads + Sync, D: Disk, O: Write>(
 fn run_said<R: AllocGlobal + Threads + Sync, D: Disk, O: Write>(
     rt: &R,
     crew: Crew,
-    cleans: bool,
+    ways: Ways,
     store: &mut Store<D>,
     pending: &mut Vec<Command<Global>>,
     says: Says,
@@ -152,10 +166,12 @@ fn run_said<R: AllocGlobal + Threads + Sync, D: Disk, O: Write>(
 ) -> Result<(), Ending>
     requires crew { IsTrue (is_crew crew) }
     requires fine { store.old.has_failed ≡ false }
-    ensures runs { RunsFirst cleans (D.view store.old.disk).is_honest
+    ensures runs { RunsFirst ways (D.view store.old.disk).is_honest
         store.old.settings store.old.store (D.view store.old.disk).seen
         (ended_by pending.old.items says) (O.contents out.old) (O.contents out.new)
         result store.new.store (D.view store.new.disk).seen }
+    ensures holds { OnOk result (contents store.new.store.tree
+        ≡ map_left (contents store.old.store.tree) (ended_by pending.old.items says)) }
     ensures pending { OnOk result (pending.new.items ≡ unended pending.old.items (says ∷ [])) }
     ensures settings { store.new.settings ≡ store.old.settings }
     ensures honest { (D.view store.new.disk).is_honest ≡ (D.view store.old.disk).is_honest }
@@ -166,19 +182,10 @@ fn run_said<R: AllocGlobal + Threads + Sync, D: Disk, O: Write>(
         Says::Bad(_) => Ok(()),
         Says::Command(command) => Ok(pending.push(command)?),
         Says::Go => run_pending(rt, crew, store, pending, lines, out),
-        Says::Flush => run_ended(rt, crew, cleans, store, pending, &Order::Flush, lines, out),
-        Says::Clean => run_ended(rt, crew, cleans, store, pending, &Order::Clean, lines, out),
-        Says::Upgrade => run_ended(
-            rt,
-            crew,
-            cleans,
-            store,
-            pending,
-            &Order::Upgrade,
-            lines,
-            out,
-        ),
-        Says::Verify => run_ended(rt, crew, cleans, store, pending, &Order::Verify, lines, out),
+        Says::Flush => run_ended(rt, crew, ways, store, pending, &Order::Flush, lines, out),
+        Says::Clean => run_ended(rt, crew, ways, store, pending, &Order::Clean, lines, out),
+        Says::Upgrade => run_ended(rt, crew, ways, store, pending, &Order::Upgrade, lines, out),
+        Says::Verify => run_ended(rt, crew, ways, store, pending, &Order::Verify, lines, out),
     }
 }
 
@@ -195,64 +202,79 @@ fn run_rest<R: AllocGlobal + Threads + Sync, D: Disk, O: Write>(
 ) -> Result<(), Ending>
     requires crew { IsTrue (is_crew crew) }
     requires fine { store.old.has_failed ≡ false }
-    ensures runs { RunsFirst ways.clean_when_full (D.view store.old.disk).is_honest
+    ensures runs { RunsFirst ways (D.view store.old.disk).is_honest
         store.old.settings store.old.store (D.view store.old.disk).seen
         (with_numbers ways.stat (last_order pending.old.items)) (O.contents out.old)
         (O.contents out.new) result store.new.store (D.view store.new.disk).seen }
+    ensures holds { OnOk result (contents store.new.store.tree
+        ≡ map_left (contents store.old.store.tree)
+        (with_numbers ways.stat (last_order pending.old.items))) }
     ensures settings { store.new.settings ≡ store.old.settings }
     ensures honest { (D.view store.new.disk).is_honest ≡ (D.view store.old.disk).is_honest }
 {
     if ways.stat {
-        let cleans = ways.clean_when_full;
-        return run_ended(
-            rt,
-            crew,
-            cleans,
-            store,
-            pending,
-            &Order::Numbers,
-            lines,
-            out,
-        );
+        return run_ended(rt, crew, ways, store, pending, &Order::Numbers, lines, out);
     }
     run_any_pending(rt, crew, store, pending, lines, out)
 }
 
+// What a line ends that says this, with commands pending or not.
+fn ended_of(says: &Says, is_pending: bool) -> Ended {
+    match says {
+        Says::Nothing | Says::Bad(_) | Says::Command(_) => Ended::Nothing,
+        Says::Go => Ended::Batch,
+        Says::Flush | Says::Clean | Says::Upgrade | Says::Verify => {
+            if is_pending {
+                Ended::Batch
+            } else {
+                Ended::Order
+            }
+        }
+    }
+}
+
 // Runs what the lines of the input end, as they come, and what is left at its end. The first bad line ends it, and is returned.
-fn run_lines<R: AllocGlobal + Threads + Sync, D: Disk, I: BufRead, O: Write>(
+fn run_lines<R: AllocGlobal + Threads + Sync + Clock, D: Disk, I: BufRead, O: Write, E: Write>(
     rt: &R,
     crew: Crew,
     ways: Ways,
     store: &mut Store<D>,
     input: &mut I,
     out: &mut O,
-    notes: &mut Notes,
+    reports: &mut Reports,
+    err: &mut E,
 ) -> Result<Option<BadLine>, Ending>
     requires crew { IsTrue (is_crew crew) }
     requires fine { store.old.has_failed ≡ false }
-    ensures { StreamsOn ways (D.view store.old.disk).is_honest store.old.settings store.old.store
-        (D.view store.old.disk).seen
-        (I.remaining input.old) (O.contents out.old) (O.contents out.new) result }
+    ensures runs { StreamsOn ways (D.view store.old.disk).is_honest
+        store.old.settings store.old.store (D.view store.old.disk).seen
+        (I.remaining input.old) (O.contents out.old) (O.contents out.new) result store.new.store }
+    ensures shows { Shows E.contents reports.old.progress.is_shown err.old
+        reports.new.progress.is_shown err.new }
 {
     let alloc = rt.alloc();
     let mut reader = LineReader::new(alloc);
     let mut text = Vec::new(alloc);
     let mut lines = Vec::new(alloc);
     let mut pending = Vec::new(alloc);
-    let cleans = ways.clean_when_full;
     for line in 1..u64::MAX {
-        let more = next_line(input, &mut text, notes)?;
+        reports.notes.reading(line);
+        let more = next_line(input, &mut text, &mut reports.notes)?;
         if !more {
+            reports.notes.ended();
             run_rest(rt, crew, ways, store, &mut pending, &mut lines, out)?;
             return Ok(None);
         }
         let says = reader.read(without_end(&text))?;
-        notes.line(line, &says);
+        reports.notes.line(line, &says);
         if let Some(why) = says.bad() {
             return Ok(Some((line, why)));
         }
-        run_said(rt, crew, cleans, store, &mut pending, says, &mut lines, out)?;
+        let ended = ended_of(&says, !pending.is_empty());
+        run_said(rt, crew, ways, store, &mut pending, says, &mut lines, out)?;
+        reports.progress.line_done(rt, line, ended, err);
     }
+    // Not reached before 2^64 - 1 lines.
     Err(Ending::Device)
 }
 
@@ -267,77 +289,123 @@ fn ended(done: Result<Option<BadLine>, Ending>) -> Result<(), Ending>
     }
 }
 
-// Runs the lines of the input on the store that was opened, and hands on to the device what was written.
-fn run_opened<R: AllocGlobal + Threads + Sync, D: Disk + Reasoned + Drop, I: BufRead, O: Write>(
+// Runs the lines of the input on the store that was opened, and hands on to the device what was written. Then the store is copied, if it is to be.
+fn run_opened<
+    R: AllocGlobal + Threads + Sync + Files + Clock,
+    D: Disk + Reasoned + Drop,
+    I: BufRead,
+    O: Write,
+    E: Write,
+>(
     rt: &R,
     crew: Crew,
     ways: Ways,
+    copy: Option<Copying<'_, R::File>>,
     opened: Result<Store<D>, Ending>,
     input: &mut I,
     out: &mut O,
-    notes: &mut Notes,
-) -> Result<(), Ending>
-    requires crew { IsTrue (is_crew crew) }
-    requires fine { IfOk opened (λ store. store.has_failed ≡ false) }
-    ensures { (start : Start) → Opens D.view start opened →
-        StreamsFrom ways (IsHonestStore D.view opened) start (I.remaining input.old)
-        (O.contents out.old) (O.contents out.new) result }
-{
-    let mut store = opened?;
-    notes.opened();
-    let done = run_lines(rt, crew, ways, &mut store, input, out, notes);
-    notes.failed(Source::File, store.disk().reason());
-    flush(ended(done), out)
-}
-
-// Runs the lines of the input as they come, on the store that is asked for.
-fn run_told<R: AllocGlobal + Threads + Sync + Files, I: BufRead, O: Write>(
-    rt: &R,
-    told: &Options,
-    input: &mut I,
-    out: &mut O,
-    notes: &mut Notes,
+    reports: &mut Reports,
+    err: &mut E,
 ) -> Result<(), Ending>
 where
     R::File: LockFile,
-    requires { IsTrue (is_crew told.now.crew) }
-    ensures { Streams (told_of told.now) (I.remaining input.old)
-        (O.contents out.old) (O.contents out.new) result }
+    requires crew { IsTrue (is_crew crew) }
+    requires fine { IfOk opened (λ store. store.has_failed ≡ false) }
+    requires good { IfSome copy (λ c. first_bad_field c.settings ≡ None) }
+    ensures runs { (start : Start) → Opens D.view start opened →
+        StreamsFrom ways (option_map (λ c. c.settings) copy.entry) (IsHonestStore D.view opened)
+        start (I.remaining input.old) (O.contents out.old) (O.contents out.new) result }
+    ensures shows { Shows E.contents reports.old.progress.is_shown err.old
+        reports.new.progress.is_shown err.new }
 {
-    let (crew, ways) = (told.crew, told.ways);
-    match &told.disk {
+    let mut store = opened?;
+    reports.notes.opened();
+    let done = run_lines(rt, crew, ways, &mut store, input, out, reports, err);
+    reports.notes.failed(Source::File, store.disk().reason());
+    flush(ended(done), out)?;
+    reports.progress.copying(path_of(&copy), err);
+    leave_copy(rt, crew, &store, copy, &mut reports.notes)
+}
+
+// Runs the lines of the input as they come, on the store that is asked for.
+fn run_request<R: AllocGlobal + Threads + Sync + Files + Clock, I: BufRead, O: Write, E: Write>(
+    rt: &R,
+    request: &Options,
+    input: &mut I,
+    out: &mut O,
+    reports: &mut Reports,
+    err: &mut E,
+) -> Result<(), Ending>
+where
+    R::File: LockFile,
+    requires { IsTrue (is_crew request.now.crew) }
+    ensures runs { Streams (request_of request.now) (I.remaining input.old)
+        (O.contents out.old) (O.contents out.new) result }
+    ensures shows { Shows E.contents reports.old.progress.is_shown err.old
+        reports.new.progress.is_shown err.new }
+{
+    let (crew, ways) = (request.crew, request.ways);
+    let copy = new_copy(rt, request, &mut reports.notes)?;
+    reports.progress.opening(&request.disk, err);
+    match &request.disk {
         None => {
-            let opened = store_in_memory(rt.alloc(), told.settings, notes);
-            run_opened(rt, crew, ways, opened, input, out, notes)
+            let opened = store_in_memory(rt.alloc(), request.settings, &mut reports.notes);
+            run_opened(rt, crew, ways, copy, opened, input, out, reports, err)
         }
-        Some(path) if told.create => {
-            let opened = new_store_in_file(rt, path, told.settings, notes);
-            run_opened(rt, crew, ways, opened, input, out, notes)
+        Some(path) if request.create => {
+            let opened = new_store_in_file(rt, path, request.settings, &mut reports.notes);
+            run_opened(rt, crew, ways, copy, opened, input, out, reports, err)
         }
         Some(path) => {
-            let opened = store_in_file(rt, crew, path, true, notes);
-            run_opened(rt, crew, ways, opened, input, out, notes)
+            let opened = store_in_file(rt, crew, path, true, &mut reports.notes);
+            run_opened(rt, crew, ways, copy, opened, input, out, reports, err)
+        }
+    }
+}
+
+// Asks the input whether it is there, since a file that is opened while it is closed would get its descriptor, and be read as the
+// lines. A call that was interrupted was begun.
+fn ask_input<I: Read>(input: &mut I, notes: &mut Notes) -> Result<(), Ending>
+    ensures bytes { Keeps (I.remaining input.old) (I.remaining input.new) }
+    ensures either { IfErr result
+        (λ early. (early ≡ Ending.Fault Fault.NoMemory) ⊎ (early ≡ Ending.Device)) }
+{
+    match input.read(&mut []) {
+        Ok(_) => Ok(()),
+        Err(error) if error.kind() == ErrorKind::Interrupted => Ok(()),
+        Err(error) => {
+            notes.failed(Source::Input, Some(error));
+            Err(read_fault(error))
         }
     }
 }
 
 /// Runs the lines of the input as they come, on the store that is asked for; `session::run` says more.
-pub(crate) fn run_stream<R: AllocGlobal + Threads + Sync + Files, I: Read, O: Write>(
+pub(crate) fn run_stream<
+    R: AllocGlobal + Threads + Sync + Files + Clock,
+    I: Read,
+    O: Write,
+    E: Write,
+>(
     rt: &R,
-    told: &Options,
+    request: &Options,
     input: &mut I,
     out: &mut O,
-    notes: &mut Notes,
+    reports: &mut Reports,
+    err: &mut E,
 ) -> Result<(), Ending>
 where
     R::File: LockFile,
-    ensures { Streams (told_of told.now) (I.remaining input.old)
+    ensures runs { Streams (request_of request.now) (I.remaining input.old)
         (O.contents out.old) (O.contents out.new) result }
+    ensures shows { Shows E.contents reports.old.progress.is_shown err.old
+        reports.new.progress.is_shown err.new }
 {
     ask(out)?;
-    told.crew.check()?;
+    request.crew.check()?;
+    ask_input(input, &mut reports.notes)?;
     match BufReader::new(rt.alloc(), input) {
-        Ok(mut reader) => run_told(rt, told, &mut reader, out, notes),
+        Ok(mut reader) => run_request(rt, request, &mut reader, out, reports, err),
         Err(error) => Err(read_fault(error)),
     }
 }

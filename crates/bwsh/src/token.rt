@@ -63,11 +63,11 @@ fn push_unescaped(text: &[u8], bytes: &mut Vec<u8>) -> Result<bool, AllocError>
     bytes.reserve(text.len())?;
     let mut rest = text;
     while !rest.is_empty() {
-        let Some((byte, behind)) = first_byte(rest) else {
+        let Some((byte, following)) = first_byte(rest) else {
             return Ok(false);
         };
         bytes.push(byte)?;
-        rest = behind;
+        rest = following;
     }
     Ok(true)
 }

@@ -41,8 +41,8 @@ piece_of (x ∷ xs) ys s [] e = let lengths = ap length e in absurd (omega arith
 piece_of (x ∷ xs) ys s (a ∷ all) e = piece_of xs ys s all (ap (drop 1) e)
 
 -- what was popped was a piece
-pub popped : {P : Type 0} (slots rest : List (Slot P)) (s : Slot P) (behind all : List P) → slots ++ map Piece behind ≡ map Piece all → slots ≡ rest ++ s ∷ [] → (p : P) × (s ≡ Piece p)
-popped slots rest s behind all e cut = piece_of rest (map Piece behind) s all (sym (append_assoc rest (s ∷ []) (map Piece behind)) ∙ subst (λ l. l ++ map Piece behind ≡ map Piece all) cut e)
+pub popped : {P : Type 0} (slots rest : List (Slot P)) (s : Slot P) (following all : List P) → slots ++ map Piece following ≡ map Piece all → slots ≡ rest ++ s ∷ [] → (p : P) × (s ≡ Piece p)
+popped slots rest s following all e cut = piece_of rest (map Piece following) s all (sym (append_assoc rest (s ∷ []) (map Piece following)) ∙ subst (λ l. l ++ map Piece following ≡ map Piece all) cut e)
 
 same_pieces : {P : Type 0} (xs ys : List P) → map Piece xs ≡ map Piece ys → xs ≡ ys
 same_pieces [] [] e = refl

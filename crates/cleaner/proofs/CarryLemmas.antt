@@ -8,22 +8,22 @@ use Rattle.frame_codec.specs.Frame.{Content, Frame}
 use Rattle.frame_codec.specs.Frame.Content.{FullLeaf, DeltaLeaf, FullIndex, DeltaIndex, Free}
 use Rattle.flush_log.specs.Reading.{Found}
 use Rattle.recovery.specs.Gathered.{contents_in}
-use Rattle.recovery.specs.PageByLog.{is_base, is_start, from_last, continued, told_page, page_by_log, is_broken}
+use Rattle.recovery.specs.PageByLog.{is_base, is_start, from_last, continued, page_from_start, page_by_log, is_broken}
 use Rattle.recovery.specs.PageByLog.InLog.{Missing, Broken}
 use Rattle.recovery.specs.StoreOfDisk.{frames_in}
 use Rattle.recovery.proofs.BrokenLemmas.{broken-stays, missing-breaks}
 use Rattle.recovery.proofs.KeptLemmas.{said, starts}
 use Rattle.recovery.proofs.KeptPages.{contents_of_frames}
-use Rattle.recovery.proofs.PartLemmas.{IsPart, from_last-none, from_last-behind, from_last-more, from_last-at, from_last-map, from_last-is, from_last-all, from_last-some, none-append, any-map}
+use Rattle.recovery.proofs.PartLemmas.{IsPart, from_last-none, from_last-following, from_last-more, from_last-at, from_last-map, from_last-is, from_last-all, from_last-some, none-append, any-map}
 use Rattle.cleaner.specs.CleanText.{carried}
 
 -- ---- one pid
 
 -- after a free frame there is nothing, unless it is finding 1
-free_alone : (cs : List Content) → is_broken (told_page (Free ∷ cs)) ≡ false → cs ≡ []
+free_alone : (cs : List Content) → is_broken (page_from_start (Free ∷ cs)) ≡ false → cs ≡ []
 free_alone [] e = refl
 free_alone (c ∷ cs) e =
-    let broken : told_page (Free ∷ c ∷ cs) ≡ Broken = ap (λ t. fold continued t cs) (missing-breaks c) ∙ broken-stays cs in
+    let broken : page_from_start (Free ∷ c ∷ cs) ≡ Broken = ap (λ t. fold continued t cs) (missing-breaks c) ∙ broken-stays cs in
     let both : true ≡ false = ap is_broken (sym broken) ∙ e in
     absurd (cc)
 
@@ -48,10 +48,10 @@ carried_free : (head : ℕ) (f : Found) (fs : List Found) → nat_eq f.segment h
 carried_free head f fs e h = rw e (rw h refl)
 
 missing : (cs : List Content) → list_any is_start cs ≡ false → page_by_log cs ≡ Missing
-missing cs e = ap told_page (from_last-none is_start cs e)
+missing cs e = ap page_from_start (from_last-none is_start cs e)
 
 -- of a pid: what stands in the head segment, and what stands after it
-module _ (head : ℕ) (hs ts : List Found) (within : AllByRecursion (λ f. nat_eq f.segment head ≡ true) hs) (behind : AllByRecursion (λ f. nat_eq f.segment head ≡ false) ts)
+module _ (head : ℕ) (hs ts : List Found) (within : AllByRecursion (λ f. nat_eq f.segment head ≡ true) hs) (following : AllByRecursion (λ f. nat_eq f.segment head ≡ false) ts)
     (sound : is_broken (page_by_log (contents_in (hs ++ ts))) ≡ false) where
   abbrev part : List Found
   part = from_last starts (hs ++ ts)
@@ -63,16 +63,16 @@ module _ (head : ℕ) (hs ts : List Found) (within : AllByRecursion (λ f. nat_e
   abbrev Same : Type 0
   Same = page_by_log (contents_in ts ++ carried_contents part) ≡ page_by_log (contents_in (hs ++ ts))
 
-  before_is : page_by_log (contents_in (hs ++ ts)) ≡ told_page (contents_in part)
-  before_is = ap told_page (from_last-map said is_start (hs ++ ts))
+  before_is : page_by_log (contents_in (hs ++ ts)) ≡ page_from_start (contents_in part)
+  before_is = ap page_from_start (from_last-map said is_start (hs ++ ts))
 
-  starts_behind : list_any starts ts ≡ true → Same
-  starts_behind e =
-      let later : part ≡ from_last starts ts = from_last-behind starts hs ts e in
-      let none : carried head part ≡ [] = ap (carried head) later ∙ carried_none head (from_last starts ts) (from_last-all starts (λ f. nat_eq f.segment head ≡ false) ts behind) in
+  starts_after : list_any starts ts ≡ true → Same
+  starts_after e =
+      let later : part ≡ from_last starts ts = from_last-following starts hs ts e in
+      let none : carried head part ≡ [] = ap (carried head) later ∙ carried_none head (from_last starts ts) (from_last-all starts (λ f. nat_eq f.segment head ≡ false) ts following) in
       ap (λ (fs : List Frame). page_by_log (contents_in ts ++ map (λ (f : Frame). f.content) fs)) none
       ∙ ap page_by_log (append-nil (contents_in ts))
-      ∙ ap told_page (from_last-map said is_start ts ∙ ap contents_in (sym later))
+      ∙ ap page_from_start (from_last-map said is_start ts ∙ ap contents_in (sym later))
       ∙ sym before_is
 
   no_start : list_any starts ts ≡ false → list_any starts hs ≡ false → Same
@@ -81,7 +81,7 @@ module _ (head : ℕ) (hs ts : List Found) (within : AllByRecursion (λ f. nat_e
       ap (λ (fs : List Found). page_by_log (contents_in ts ++ carried_contents fs)) none
       ∙ ap page_by_log (append-nil (contents_in ts))
       ∙ missing (contents_in ts) (any-map said is_start ts ∙ e)
-      ∙ ap (λ (fs : List Found). told_page (contents_in fs)) (sym none)
+      ∙ ap (λ (fs : List Found). page_from_start (contents_in fs)) (sym none)
       ∙ sym before_is
 
   -- the part begins in the head segment
@@ -91,18 +91,18 @@ module _ (head : ℕ) (hs ts : List Found) (within : AllByRecursion (λ f. nat_e
       ap (λ (fs : List Found). page_by_log (contents_in ts ++ carried_contents fs)) e
       ∙ ap (λ (fs : List Frame). page_by_log (contents_in ts ++ map (λ (f : Frame). f.content) fs)) (carried_all head y ys h base)
       ∙ ap (λ (cs : List Content). page_by_log (contents_in ts ++ cs)) (contents_of_frames (y ∷ ys))
-      ∙ ap told_page (from_last-at is_start (contents_in ts) (said y) (contents_in ys) s (any-map said is_start ys ∙ n))
-      ∙ ap (λ (fs : List Found). told_page (contents_in fs)) (sym e)
+      ∙ ap page_from_start (from_last-at is_start (contents_in ts) (said y) (contents_in ys) s (any-map said is_start ys ∙ n))
+      ∙ ap (λ (fs : List Found). page_from_start (contents_in fs)) (sym e)
       ∙ sym before_is
   of_part y ys e s n h none false base =
       let free : said y ≡ Free = free_or_base (said y) s base in
-      let is : page_by_log (contents_in (hs ++ ts)) ≡ told_page (Free ∷ contents_in ys) = before_is ∙ ap (λ (fs : List Found). told_page (contents_in fs)) e ∙ ap (λ (c : Content). told_page (c ∷ contents_in ys)) free in
+      let is : page_by_log (contents_in (hs ++ ts)) ≡ page_from_start (Free ∷ contents_in ys) = before_is ∙ ap (λ (fs : List Found). page_from_start (contents_in fs)) e ∙ ap (λ (c : Content). page_from_start (c ∷ contents_in ys)) free in
       let alone : contents_in ys ≡ [] = free_alone (contents_in ys) (ap is_broken (sym is) ∙ sound) in
       ap (λ (fs : List Found). page_by_log (contents_in ts ++ carried_contents fs)) e
       ∙ ap (λ (fs : List Frame). page_by_log (contents_in ts ++ map (λ (f : Frame). f.content) fs)) (carried_free head y ys h base)
       ∙ ap page_by_log (append-nil (contents_in ts))
       ∙ missing (contents_in ts) (any-map said is_start ts ∙ none)
-      ∙ ap (λ (cs : List Content). told_page (Free ∷ cs)) (sym alone)
+      ∙ ap (λ (cs : List Content). page_from_start (Free ∷ cs)) (sym alone)
       ∙ sym is
 
   starts_within : (fs : List Found) → from_last starts hs ≡ fs → list_any starts fs ≡ true → IsPart starts fs → AllByRecursion (λ f. nat_eq f.segment head ≡ true) fs → list_any starts hs ≡ true → list_any starts ts ≡ false → Same
@@ -113,9 +113,9 @@ module _ (head : ℕ) (hs ts : List Found) (within : AllByRecursion (λ f. nat_e
 
   -- it says the same
   same_by : (b c : Bool) → list_any starts ts ≡ b → list_any starts hs ≡ c → Same
-  same_by true c e f = starts_behind e
+  same_by true c e f = starts_after e
   same_by false false e f = no_start e f
   same_by false true e f = starts_within (from_last starts hs) refl (from_last-some starts hs f) (from_last-is starts hs) (from_last-all starts (λ f. nat_eq f.segment head ≡ true) hs within) f e
 
-  pub same-told : Same
-  same-told = same_by (list_any starts ts) (list_any starts hs) refl refl
+  pub same-state : Same
+  same-state = same_by (list_any starts ts) (list_any starts hs) refl refl

@@ -16,7 +16,7 @@ use Rattle.frame_codec.specs.declared.format.Format.{Format}
 use Rattle.frame_codec.specs.declared.skim.Skimmed.{Skimmed}
 use Rattle.flush_log.specs.Images.{frames_in as frames_of_images, AreOfText}
 use Rattle.flush_log.specs.Reading.{Found, is_at_tail}
-use Rattle.recovery.specs.Gathered.{telling, wanted_of, IsKept, AreGathered, first_segment, first_found}
+use Rattle.recovery.specs.Gathered.{live_frames, wanted_of, IsKept, AreGathered, first_segment, first_found}
 use Rattle.recovery.specs.LogPages.{pids_of}
 use Rattle.recovery.specs.Rebuild.{all_or_none}
 use Rattle.recovery.specs.StoreOfDisk.{frames_in}
@@ -24,9 +24,9 @@ use Rattle.recovery.specs.declared.gather.Gathering.{Gathering}
 use Rattle.recovery.specs.declared.gather.Kept.{Kept}
 use Rattle.recovery.specs.declared.gather.Wanted.TheVariants.{Head}
 use Rattle.recovery.proofs.KeptLemmas.{starts, of_pid}
-use Rattle.recovery.proofs.KeptPages.{KeepEach, first_is, later_are, in-order, bytes-frames, telling-within, wanted-within}
+use Rattle.recovery.proofs.KeptPages.{KeepEach, first_is, later_are, in-order, bytes-frames, live_frames-within, wanted-within}
 use Rattle.recovery.proofs.PartLemmas.{from_last-all}
-use Rattle.recovery.proofs.ScanLemmas.{left-behind, AreRead, read-none, read-more, read-all, read-broken, IsFrame}
+use Rattle.recovery.proofs.ScanLemmas.{left-following, AreRead, read-none, read-more, read-all, read-broken, IsFrame}
 use Rattle.cleaner.specs.Chosen.{BeginsAt, image_in, frames_kept}
 use Rattle.cleaner.specs.CleanText.{carried, clean_text}
 use Rattle.cleaner.proofs.CarryLemmas.{carried_none}
@@ -43,12 +43,12 @@ wanted_carried head (f ∷ fs) = refl
 
 module _ (g : Format) (good : first_bad_field g.settings ≡ None) (head : ℕ) (found : List Found) (within : AllByRecursion (λ f. is_frame g f.frame ≡ true) found) where
   abbrev carried_of : ℕ → List Frame
-  carried_of pid = carried head (telling pid found)
+  carried_of pid = carried head (live_frames pid found)
 
-  page_text : (k : Kept) (pid : ℕ) → IsKept Head head k (telling pid found) → image_in g k.frames.items ≡ spelled (carried_of pid)
+  page_text : (k : Kept) (pid : ℕ) → IsKept Head head k (live_frames pid found) → image_in g k.frames.items ≡ spelled (carried_of pid)
   page_text k pid h =
       ap (λ (bs : List ℕ). image_in g bs) h.frames
-      ∙ ap spelled (bytes-frames g good (wanted_of Head head (telling pid found)) (wanted-within g Head head (telling pid found) (telling-within g pid found within)) ∙ wanted_carried head (telling pid found))
+      ∙ ap spelled (bytes-frames g good (wanted_of Head head (live_frames pid found)) (wanted-within g Head head (live_frames pid found) (live_frames-within g pid found within)) ∙ wanted_carried head (live_frames pid found))
 
   kept_text : (es : List (ℕ × Kept)) → AreRisingPids (keys_of es) → KeepEach Head head found es → frames_kept g es ≡ spelled (flat_map carried_of (keys_of es))
   kept_text [] r h = refl
@@ -62,7 +62,7 @@ pub kept-text : (g : Format) (pages : Gathering) (found : List Found) → first_
 kept-text g pages found good sorted h =
     let head = first_segment found in
     let order = in-order Head head pages.by_pid found sorted h.live.kept in
-    kept_text g good head found h.within pages.by_pid.entries order.rise order.each ∙ ap (λ (ns : List ℕ). spelled (flat_map (λ pid. carried head (telling pid found)) ns)) order.all
+    kept_text g good head found h.within pages.by_pid.entries order.rise order.each ∙ ap (λ (ns : List ℕ). spelled (flat_map (λ pid. carried head (live_frames pid found)) ns)) order.all
 
 -- ---- one frame after the other
 
@@ -80,7 +80,7 @@ module _ (g : Format) (bytes : Bytes) where
       → IsImageUpto g bytes now (take (length rest - size) (drop size rest))
   image-more image now rest k size h more f same put = record {
     frames = h.frames ++ f.frame ∷ [];
-    read = subst (λ (behind : Bytes). AreRead g is_at_tail (length bytes) bytes (h.frames ++ f.frame ∷ []) behind) (sym (left-behind k.size rest) ∙ ap (λ (m : ℕ). take (length rest - m) (drop m rest)) (sym same))
+    read = subst (λ (following : Bytes). AreRead g is_at_tail (length bytes) bytes (h.frames ++ f.frame ∷ []) following) (sym (left-following k.size rest) ∙ ap (λ (m : ℕ). take (length rest - m) (drop m rest)) (sym same))
         (read-more g is_at_tail (length bytes) bytes h.frames rest (drop k.size rest) f.frame h.read more f.read f.less);
     of = put ∙ ap (λ (i : List Bytes). i ++ take size rest ∷ []) h.of ∙ ap (λ (b : Bytes). spelled h.frames ++ b ∷ []) (ap (λ (m : ℕ). take m rest) same ∙ f.bytes)
         ∙ sym (map-append (λ (g : Frame). bytes_of g) h.frames (f.frame ∷ []));
@@ -148,8 +148,8 @@ no_text g (n ∷ ns) none = ap (λ (fs : List Frame). fs ++ flat_map g ns) (none
 -- nothing is carried on where nothing stands in the head segment
 text-none : (head : ℕ) (found : List Found) → AllByRecursion (λ f. nat_eq f.segment head ≡ false) found → clean_text head found ≡ []
 text-none head found a =
-    no_text (λ pid. carried head (telling pid found)) (pids_of (frames_in found))
-    (λ pid. carried_none head (telling pid found) (from_last-all starts (λ f. nat_eq f.segment head ≡ false) (of_pid pid found) (all-filter (λ f. nat_eq f.segment head ≡ false) (λ f. nat_eq f.frame.pid pid) found a)))
+    no_text (λ pid. carried head (live_frames pid found)) (pids_of (frames_in found))
+    (λ pid. carried_none head (live_frames pid found) (from_last-all starts (λ f. nat_eq f.segment head ≡ false) (of_pid pid found) (all-filter (λ f. nat_eq f.segment head ≡ false) (λ f. nat_eq f.frame.pid pid) found a)))
 
 module _ (o : Option ℕ) (head : ℕ) where
   -- the first frame stands in the head segment, or there is none

@@ -83,7 +83,7 @@ module _ (s : Settings) (file : List ℕ) (slot : Slot) (found : List Found) (re
       let last = room.free in
       let fits = text-fits g file slot text room in
       let was : IsSlot s slot.sequence slot = slot_good g file slot text room in
-      let behind = was.behind in
+      let following = was.following in
       let split = split-tail s slot.head slot.tail (omega arith) (omega arith) in
       let is = split.is in
       let low = split.low in
@@ -192,7 +192,7 @@ module _ (s : Settings) (file : List ℕ) (tree : Tree) (on_disk : Store) (by : 
       let (block, good, whole) = store_settings-are file s by.reads.settings in
       let size = (are_sized s good).least_size in
       let was : IsSlot s slot.sequence slot = slot-is s slot.sequence slot (slot-stands s slot.sequence slot file (store_slot-read s file slot by.reads.slot)).good in
-      let behind = was.behind in
+      let following = was.following in
       let from = (split-tail s slot.head slot.tail (omega arith) (omega arith)).from in
       elim (cases_lt slot.head (last_segment s slot.tail)) [ inl k ↦ k | inr k ↦ absurd (differ (omega (arith, from))) ]
 
@@ -267,7 +267,7 @@ clean-kept s st now file bytes is h =
     let g : Format = format_of s (slot_of st) in
     let was : IsSlot s st.sequence (slot_of st) = slot-is s st.sequence (slot_of st) is.slot in
     let size = (are_sized s is.good).least_size in
-    let behind = was.behind in
+    let following = was.following in
     let from = (split-tail s st.head st.tail (omega arith) (omega arith)).from in
     let more : st.head < last_segment s st.tail = elim (cases_lt st.head (last_segment s st.tail)) [ inl k ↦ k | inr k ↦ absurd (c.more (omega (arith, from))) ] in
     let free = room-for-clean s st.head t.tail done.room in

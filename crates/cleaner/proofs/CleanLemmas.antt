@@ -10,7 +10,7 @@ use Rattle.mapping.proofs.SameTable.{same_table}
 use Rattle.frame_codec.specs.Frame.{Content, Frame}
 use Rattle.flush_log.specs.Reading.{Found}
 use Rattle.recovery.specs.LogPages.{contents_of, in_log, pids_of, pages_of, broken_in}
-use Rattle.recovery.specs.Gathered.{telling, contents_in}
+use Rattle.recovery.specs.Gathered.{live_frames, contents_in}
 use Rattle.recovery.specs.PageByLog.{is_base, from_last, page_by_log, page_in, is_broken}
 use Rattle.recovery.specs.StoreOfDisk.{frames_in}
 use Rattle.recovery.proofs.KeptLemmas.{starts, of_pid, of_pid-append, contents-found}
@@ -18,7 +18,7 @@ use Rattle.recovery.proofs.PagesLemmas.{pids, contents-append, among-pids_of, no
 use Rattle.recovery.proofs.PartLemmas.{from_last-all}
 use Rattle.recovery.proofs.TextLemmas.{turned, made-under}
 use Rattle.cleaner.specs.CleanText.{carried, clean_text}
-use Rattle.cleaner.proofs.CarryLemmas.{same-told}
+use Rattle.cleaner.proofs.CarryLemmas.{same-state}
 
 -- ---- what was found of a pid
 
@@ -64,14 +64,14 @@ all-carried P head (f ∷ fs) a = carried_by P (nat_eq f.segment head && is_base
 
 module _ (head : ℕ) (found : List Found) where
   abbrev carried_of : ℕ → List Frame
-  carried_of pid = carried head (telling pid found)
+  carried_of pid = carried head (live_frames pid found)
 
   abbrev due : ℕ → List Content
   due pid = map (λ (f : Frame). f.content) (carried_of pid)
 
   own_carried : (n pid : ℕ) → contents_of pid (carried_of n) ≡ cond (nat_eq pid n) (due n) []
   own_carried n pid =
-      of_each n pid (carried_of n) (all-carried (λ f. nat_eq f.pid n ≡ true) head (telling n found) (frames_own n (telling n found) (from_last-all starts (λ f. nat_eq f.frame.pid n ≡ true) (of_pid n found) (own n found))))
+      of_each n pid (carried_of n) (all-carried (λ f. nat_eq f.pid n ≡ true) head (live_frames n found) (frames_own n (live_frames n found) (from_last-all starts (λ f. nat_eq f.frame.pid n ≡ true) (of_pid n found) (own n found))))
 
   nil_from : (xs : List Found) → contents_in xs ≡ [] → xs ≡ []
   nil_from [] e = refl
@@ -91,13 +91,13 @@ module _ (head : ℕ) (found : List Found) where
 
 -- ---- the log
 
-module _ (head : ℕ) (hs ts : List Found) (within : AllByRecursion (λ f. nat_eq f.segment head ≡ true) hs) (behind : AllByRecursion (λ f. nat_eq f.segment head ≡ false) ts)
+module _ (head : ℕ) (hs ts : List Found) (within : AllByRecursion (λ f. nat_eq f.segment head ≡ true) hs) (following : AllByRecursion (λ f. nat_eq f.segment head ≡ false) ts)
     (sound : broken_in (frames_in (hs ++ ts)) ≡ None) where
   abbrev after : List Frame
   after = frames_in ts ++ clean_text head (hs ++ ts)
 
-  told_same : (pid : ℕ) → in_log after pid ≡ in_log (frames_in (hs ++ ts)) pid
-  told_same pid =
+  state_same : (pid : ℕ) → in_log after pid ≡ in_log (frames_in (hs ++ ts)) pid
+  state_same pid =
       let hs' : List Found = of_pid pid hs in
       let ts' : List Found = of_pid pid ts in
       let all : of_pid pid (hs ++ ts) ≡ hs' ++ ts' = of_pid-append pid hs ts in
@@ -106,27 +106,27 @@ module _ (head : ℕ) (hs ts : List Found) (within : AllByRecursion (λ f. nat_e
       ∙ ap (λ (cs : List Content). page_by_log (cs ++ contents_of pid (clean_text head (hs ++ ts)))) (contents-found pid ts)
       ∙ ap (λ (cs : List Content). page_by_log (contents_in ts' ++ cs)) (text-of_pid head (hs ++ ts) pid)
       ∙ ap (λ (fs : List Found). page_by_log (contents_in ts' ++ map (λ (f : Frame). f.content) (carried head (from_last starts fs)))) all
-      ∙ same-told head hs' ts'
+      ∙ same-state head hs' ts'
       (all-filter (λ f. nat_eq f.segment head ≡ true) (λ f. nat_eq f.frame.pid pid) hs within)
-      (all-filter (λ f. nat_eq f.segment head ≡ false) (λ f. nat_eq f.frame.pid pid) ts behind)
+      (all-filter (λ f. nat_eq f.segment head ≡ false) (λ f. nat_eq f.frame.pid pid) ts following)
       (ap (λ (cs : List Content). is_broken (page_by_log cs)) (sym whole) ∙ none_broken (frames_in (hs ++ ts)) pid sound)
       ∙ ap page_by_log (sym whole)
 
   pub pages-cleaned : pages_of after ≡ pages_of (frames_in (hs ++ ts))
   pages-cleaned =
       same_table (pages_of after) (pages_of (frames_in (hs ++ ts))) (rising-pages_of after) (rising-pages_of (frames_in (hs ++ ts)))
-      (λ pid. page_at-pages_of after pid ∙ ap page_in (told_same pid) ∙ sym (page_at-pages_of (frames_in (hs ++ ts)) pid))
+      (λ pid. page_at-pages_of after pid ∙ ap page_in (state_same pid) ∙ sym (page_at-pages_of (frames_in (hs ++ ts)) pid))
 
   pub sound-cleaned : broken_in after ≡ None
-  sound-cleaned = not_broken after (λ pid. ap is_broken (told_same pid) ∙ none_broken (frames_in (hs ++ ts)) pid sound)
+  sound-cleaned = not_broken after (λ pid. ap is_broken (state_same pid) ∙ none_broken (frames_in (hs ++ ts)) pid sound)
 
 -- ---- the frames of the text
 
-all_in_text : (P : Frame → Type 0) (head : ℕ) (found : List Found) (ns : List ℕ) → AllByRecursion (λ f. P f.frame) found → AllByRecursion P (flat_map (λ pid. carried head (telling pid found)) ns)
+all_in_text : (P : Frame → Type 0) (head : ℕ) (found : List Found) (ns : List ℕ) → AllByRecursion (λ f. P f.frame) found → AllByRecursion P (flat_map (λ pid. carried head (live_frames pid found)) ns)
 all_in_text P head found [] a = tt
 all_in_text P head found (n ∷ ns) a =
-    all-append P (carried head (telling n found)) (flat_map (λ pid. carried head (telling pid found)) ns)
-    (all-carried P head (telling n found) (frames_all (telling n found) (from_last-all starts (λ f. P f.frame) (of_pid n found) (all-filter (λ f. P f.frame) (λ f. nat_eq f.frame.pid n) found a))))
+    all-append P (carried head (live_frames n found)) (flat_map (λ pid. carried head (live_frames pid found)) ns)
+    (all-carried P head (live_frames n found) (frames_all (live_frames n found) (from_last-all starts (λ f. P f.frame) (of_pid n found) (all-filter (λ f. P f.frame) (λ f. nat_eq f.frame.pid n) found a))))
     (all_in_text P head found ns a)
   where
     frames_all : (fs : List Found) → AllByRecursion (λ f. P f.frame) fs → AllByRecursion P (frames_in fs)

@@ -3,7 +3,7 @@ use Rattle.std.specs.Prelude.{ℕ, ◌&&◌, nat_eq, if◌then◌else◌, List, 
 use Rattle.frame_codec.specs.Frame.{Frame}
 use Rattle.flush_log.specs.Reading.{Found}
 use Rattle.recovery.specs.LogPages.{pids_of}
-use Rattle.recovery.specs.Gathered.{telling}
+use Rattle.recovery.specs.Gathered.{live_frames}
 use Rattle.recovery.specs.PageByLog.{is_base}
 use Rattle.recovery.specs.StoreOfDisk.{frames_in}
 
@@ -14,4 +14,4 @@ carried head (f ∷ fs) = if nat_eq f.segment head && is_base f.frame.content th
 
 -- the text of a clean, of the frames between head and tail
 abbrev pub clean_text : ℕ → List Found → List Frame
-clean_text head found = flat_map (λ pid. carried head (telling pid found)) (pids_of (frames_in found))
+clean_text head found = flat_map (λ pid. carried head (live_frames pid found)) (pids_of (frames_in found))

@@ -4,7 +4,7 @@ ghost use Rattle.keys.specs.Bytes.{Bytes};
 ghost use Rattle.keys.specs.Limits.{first_bad_field};
 ghost use Rattle.mapping.specs.Tree.{Store};
 ghost use Rattle.flush_log.specs.AfterFlush.{store_after};
-ghost use Rattle.flush_log.specs.Disk.{IsSettled, Kept, Same, LeavesOnly};
+ghost use Rattle.flush_log.specs.Disk.{IsSettled, Kept, Same, LeavesOnly, OnlyRead, CountsNoOther};
 ghost use Rattle.flush_log.specs.Ends.{ends_of, AreEnds};
 ghost use Rattle.flush_log.specs.Segments.{segments_begin, disk_size, last_segment};
 ghost use Rattle.flush_log.specs.Slot.{greatest};
@@ -31,10 +31,9 @@ fn read_slot_on_disk<D: Disk>(disk: &mut D, sequence: u64) -> Result<Slot, Fault
         × IfOk result (λ t. t ≡ slot_on_disk sequence now) }
     ensures err { IfErr result (IsLate (D.failed disk.old) (D.failed disk.new)) }
     ensures kept { Kept (D.view disk.old) (D.view disk.new) }
-    ensures same { IsTrue (D.view disk.old).is_honest → Same (D.view disk.old) (D.view disk.new) }
+    ensures same { OnlyRead (D.view disk.old) (D.view disk.new) }
     ensures counted { OnOk result (D.failed disk.new ≡ D.failed disk.old) }
-    ensures uncounted { IfErr result
-        (λ fault. fault ≢ Fault.Device → D.failed disk.new ≡ D.failed disk.old) }
+    ensures uncounted { CountsNoOther result (D.failed disk.old) (D.failed disk.new) }
 {
     let mut bytes = [0; SLOT_SIZE];
     read(disk, slot_place(sequence), &mut bytes)?;
@@ -62,10 +61,9 @@ fn read_text<D: Disk>(
         (λ fault. IsRefused format.now ends.now now fault
         ⊎ IsLate (D.failed disk.old) (D.failed disk.new) fault) }
     ensures kept { Kept (D.view disk.old) (D.view disk.new) }
-    ensures same { IsTrue (D.view disk.old).is_honest → Same (D.view disk.old) (D.view disk.new) }
+    ensures same { OnlyRead (D.view disk.old) (D.view disk.new) }
     ensures counted { OnOk result (D.failed disk.new ≡ D.failed disk.old) }
-    ensures uncounted { IfErr result
-        (λ fault. fault ≢ Fault.Device → D.failed disk.new ≡ D.failed disk.old) }
+    ensures uncounted { CountsNoOther result (D.failed disk.old) (D.failed disk.new) }
 {
     let pages = read_log(rt, crew, alloc, disk, format, ends, Wanted::Head)?;
     choose(format, pages, ends.head)
@@ -107,10 +105,9 @@ fn plan<D: Disk>(
         (λ fault. IsRefused format.now ends.now file fault
         ⊎ IsLate (D.failed disk.old) (D.failed disk.new) fault) }
     ensures kept { Kept (D.view disk.old) (D.view disk.new) }
-    ensures same { IsTrue (D.view disk.old).is_honest → Same (D.view disk.old) (D.view disk.new) }
+    ensures same { OnlyRead (D.view disk.old) (D.view disk.new) }
     ensures counted { OnOk result (D.failed disk.new ≡ D.failed disk.old) }
-    ensures uncounted { IfErr result
-        (λ fault. fault ≢ Fault.Device → D.failed disk.new ≡ D.failed disk.old) }
+    ensures uncounted { CountsNoOther result (D.failed disk.old) (D.failed disk.new) }
 {
     let on_disk = read_slot_on_disk(disk, ends.sequence)?;
     let images = read_text(rt, crew, alloc, disk, format, ends)?;
@@ -171,8 +168,7 @@ pub fn clean<D: Disk>(
         ⊎ ((fault ≡ Fault.Device) × WouldClean format.now.settings st (D.view disk.old).seen)) }
     ensures kept { Kept (D.view disk.old) (D.view disk.new) }
     ensures counted { OnOk result (D.failed disk.new ≡ D.failed disk.old) }
-    ensures uncounted { IfErr result
-        (λ fault. fault ≢ Fault.Device → D.failed disk.new ≡ D.failed disk.old) }
+    ensures uncounted { CountsNoOther result (D.failed disk.old) (D.failed disk.new) }
 {
     if ends.head == last_segment(&format.settings, ends.tail) {
         return Err(Fault::NothingToClean);

@@ -28,12 +28,12 @@ use Rattle.climb_plan.specs.Climb.{families}
 use Rattle.climb_plan.specs.Installing.{parent_held, AreParentsHome}
 use Rattle.climb_plan.specs.Level.{parent_pids, IsLevel, next_tree}
 use Rattle.climb_plan.proofs.BridgeDrawn.{drawn_places}
-use Rattle.climb_plan.proofs.BridgeParents.{told_pids, told_made, told_held, parents_can_be_taken}
+use Rattle.climb_plan.proofs.BridgeParents.{term_parents, termed_made, termed_held, parents_can_be_taken}
 use Rattle.climb_plan.proofs.BridgeTables.{AreDrawn, taken_others, taken_away, ArePlaced, taken_pids, drawn_others, logs_after}
 use Rattle.climb_plan.proofs.ChangingGroups.{alike_level, fresh-changing_changes}
-use Rattle.climb_plan.proofs.Families.{parents_told}
-use Rattle.climb_plan.proofs.ToldRuns.{terms_told, length-runs, all_told, AreHomeBut, seen_after_runs}
-use Rattle.climb_plan.proofs.Told.{each_told}
+use Rattle.climb_plan.proofs.Families.{parents_termed}
+use Rattle.climb_plan.proofs.TermRuns.{all_terms_given, length-runs, all_termed, AreHomeBut, seen_after_runs}
+use Rattle.climb_plan.proofs.ParentRuns.{runs_by_parent}
 use Rattle.climb_plan.proofs.LevelParts.{level_of}
 
 -- ---- numbers that are distinct
@@ -148,14 +148,14 @@ module _ {V : Type 0} (s : Settings) (of : Page V → PageOfKind) (t : TreeInMem
         each (q ∷ qs) o k = (drawn_others t.table rooms new_here used i q.pid drawn h.drawn o.0 ∙ k.0, each qs o.1 k.1)
 
     -- and so has each that gets a run
-    told_in_rooms : AreHome Index rooms (parents_of changing_here)
-    told_in_rooms = all_told (λ p. place_of rooms p.pid ≡ Some (Some (Index p.page))) (terms_told s used i ps ws) home_in_rooms
+    termed_in_rooms : AreHome Index rooms (parents_of changing_here)
+    termed_in_rooms = all_termed (λ p. place_of rooms p.pid ≡ Some (Some (Index p.page))) (all_terms_given s used i ps ws) home_in_rooms
 
     placed_in_rooms : ArePlaced rooms taken
     placed_in_rooms =
         let all : AllByRecursion (λ p. is_some (place_of rooms p.pid) ≡ true) ps = some ps home_in_rooms in
-        let told : AllByRecursion (λ p. is_some (place_of rooms p.pid) ≡ true) (parents_of changing_here) = all_told (λ p. is_some (place_of rooms p.pid) ≡ true) (terms_told s used i ps ws) all in
-        subst (λ (ns : List ℕ). ArePlaced rooms ns) (pids-parents_of changing_here) (to_pids (λ n. is_some (place_of rooms n) ≡ true) (parents_of changing_here) told)
+        let termed : AllByRecursion (λ p. is_some (place_of rooms p.pid) ≡ true) (parents_of changing_here) = all_termed (λ p. is_some (place_of rooms p.pid) ≡ true) (all_terms_given s used i ps ws) all in
+        subst (λ (ns : List ℕ). ArePlaced rooms ns) (pids-parents_of changing_here) (to_pids (λ n. is_some (place_of rooms n) ≡ true) (parents_of changing_here) termed)
       where
         some : (qs : List (Placed ℕ)) → AreHome Index rooms qs → AllByRecursion (λ p. is_some (place_of rooms p.pid) ≡ true) qs
         some [] k = tt
@@ -181,8 +181,8 @@ module _ {V : Type 0} (s : Settings) (of : Page V → PageOfKind) (t : TreeInMem
     -- the levels above stay
     not_taken : (n : ℕ) → AllByRecursion (λ m. m ≢ n) (pids ps) → is_among n taken ≡ false
     not_taken n d =
-        let told : AllByRecursion (λ p. p.pid ≢ n) (parents_of changing_here) = all_told (λ p. p.pid ≢ n) (terms_told s used i ps ws) (by_pids (λ m. m ≢ n) ps d) in
-        not_among n taken (subst (λ (ns : List ℕ). AllByRecursion (λ m. m ≢ n) ns) (pids-parents_of changing_here) (to_pids (λ m. m ≢ n) (parents_of changing_here) told))
+        let termed : AllByRecursion (λ p. p.pid ≢ n) (parents_of changing_here) = all_termed (λ p. p.pid ≢ n) (all_terms_given s used i ps ws) (by_pids (λ m. m ≢ n) ps d) in
+        not_among n taken (subst (λ (ns : List ℕ). AllByRecursion (λ m. m ≢ n) ns) (pids-parents_of changing_here) (to_pids (λ m. m ≢ n) (parents_of changing_here) termed))
 
     others_stay : (ms ns : List ℕ) → ((n : ℕ) → AllByRecursion (λ m. m ≢ n) ms → is_among n taken ≡ false) → Distinct (ms ++ ns) → AllByRecursion (IsNeverUnused used) ns → AllByRecursion (λ n. place_of tree_here.table n ≡ place_of t.table n) ns
     others_stay ms [] k d o = tt
@@ -215,31 +215,31 @@ module _ {V : Type 0} (s : Settings) (of : Page V → PageOfKind) (t : TreeInMem
     -- ---- what is taken
 
     runs_fit : length (map terms (changing_changes s used i changing_here)) ≡ length (parents_of changing_here)
-    runs_fit = length-runs (terms_told s used i ps ws)
+    runs_fit = length-runs (all_terms_given s used i ps ws)
 
     -- once the numbers were drawn, the parents can be taken
     pub can_be_taken : AreParentsHome rooms taken
     can_be_taken =
-        subst (λ (ns : List ℕ). AreParentsHome rooms ns) (pids-parents_of changing_here) (parents_can_be_taken rooms (terms_told s used i ps ws) (distinct_parts (pids ps) (flat_map pids ups) upper_distinct).0 told_in_rooms)
+        subst (λ (ns : List ℕ). AreParentsHome rooms ns) (pids-parents_of changing_here) (parents_can_be_taken rooms (all_terms_given s used i ps ws) (distinct_parts (pids ps) (flat_map pids ups) upper_distinct).0 termed_in_rooms)
 
     -- each with the run of its terms
-    abbrev pub told_here : List (ℕ × List (List ℕ × Option ℕ))
-    told_here = each_told taken (map terms (changing_changes s used i changing_here))
+    abbrev pub termed_here : List (ℕ × List (List ℕ × Option ℕ))
+    termed_here = runs_by_parent taken (map terms (changing_changes s used i changing_here))
 
-    pub taken_here : map (λ e. e.0) told_here ≡ taken
-    taken_here = told_pids taken (map terms (changing_changes s used i changing_here)) (runs_fit ∙ length-map changing_here (λ (c : Changing V). c.parent) ∙ sym (length-map changing_here (λ (c : Changing V). c.parent.pid)))
+    pub taken_here : map (λ e. e.0) termed_here ≡ taken
+    taken_here = term_parents taken (map terms (changing_changes s used i changing_here)) (runs_fit ∙ length-map changing_here (λ (c : Changing V). c.parent) ∙ sym (length-map changing_here (λ (c : Changing V). c.parent.pid)))
 
     -- what is made of them is what the plan makes of them
-    pub made_here : map (λ e. index_made s (parent_held rooms e)) told_here ≡ worked_parents s (parents_of changing_here) (map terms (changing_changes s used i changing_here))
+    pub made_here : map (λ e. index_made s (parent_held rooms e)) termed_here ≡ worked_parents s (parents_of changing_here) (map terms (changing_changes s used i changing_here))
     made_here =
         let runs : List (List (List ℕ × Option ℕ)) = map terms (changing_changes s used i changing_here) in
-        ap (λ (ns : List ℕ). map (λ e. index_made s (parent_held rooms e)) (each_told ns runs)) (sym (pids-parents_of changing_here)) ∙ told_made rooms s (parents_of changing_here) runs told_in_rooms runs_fit
+        ap (λ (ns : List ℕ). map (λ e. index_made s (parent_held rooms e)) (runs_by_parent ns runs)) (sym (pids-parents_of changing_here)) ∙ termed_made rooms s (parents_of changing_here) runs termed_in_rooms runs_fit
 
     -- and what is held of them is what they were
-    pub held_here : map {B = ℕ × PageOfKind} (λ x. (x.pid, x.page)) (map (parent_held rooms) told_here) ≡ map {B = ℕ × PageOfKind} (λ q. (q.pid, Index q.page)) (parents_of changing_here)
+    pub held_here : map {B = ℕ × PageOfKind} (λ x. (x.pid, x.page)) (map (parent_held rooms) termed_here) ≡ map {B = ℕ × PageOfKind} (λ q. (q.pid, Index q.page)) (parents_of changing_here)
     held_here =
         let runs : List (List (List ℕ × Option ℕ)) = map terms (changing_changes s used i changing_here) in
-        ap (λ (ns : List ℕ). map {B = ℕ × PageOfKind} (λ x. (x.pid, x.page)) (map (parent_held rooms) (each_told ns runs))) (sym (pids-parents_of changing_here)) ∙ told_held rooms (parents_of changing_here) runs told_in_rooms runs_fit
+        ap (λ (ns : List ℕ). map {B = ℕ × PageOfKind} (λ x. (x.pid, x.page)) (map (parent_held rooms) (runs_by_parent ns runs))) (sym (pids-parents_of changing_here)) ∙ termed_held rooms (parents_of changing_here) runs termed_in_rooms runs_fit
 
     -- ---- the next level
 
@@ -251,8 +251,8 @@ module _ {V : Type 0} (s : Settings) (of : Page V → PageOfKind) (t : TreeInMem
         let same : pids (placed_of parents_here) ≡ pids ps = same_pids (placed_of parents_here) ps named in
         let all : all_pids ps ups ≡ all_pids (placed_of parents_here) ups = ap (λ (ns : List ℕ). ns ++ flat_map pids ups) (sym same) in
         record {
-          seen = seen_after_runs s Index tree_here.table (terms_told s used i ps ws) (distinct_parts (pids ps) (flat_map pids ups) upper_distinct).0 parents_home parents_away;
-          tiled = tiled-worked_parents s ps runs_here None up.tiled (parents_told s used i ps ws z up.linked up.headed h.tiled).0;
+          seen = seen_after_runs s Index tree_here.table (all_terms_given s used i ps ws) (distinct_parts (pids ps) (flat_map pids ups) upper_distinct).0 parents_home parents_away;
+          tiled = tiled-worked_parents s ps runs_here None up.tiled (parents_termed s used i ps ws z up.linked up.headed h.tiled).0;
           first = next_low-same (placed_of parents_here) ps None named ∙ sym (next_low-parents ps (placed_of ws) up.linked up.headed) ∙ h.first;
           stacked = stacked-same (placed_of parents_here) ps ups named h.stacked.1;
           home = home_above t.table tree_here.table ups above_stay h.home.1;

@@ -12,39 +12,39 @@ use Rattle.page_runs.specs.TermWork.{TermHeld, index_made}
 use Rattle.page_runs.specs.Worked.{Worked, worked}
 use Rattle.split_plan.specs.WorkedLevel.{worked_parents}
 use Rattle.climb_plan.specs.Changing.{AreHome}
-use Rattle.climb_plan.proofs.Told.AreRunsOf.{told, untold}
+use Rattle.climb_plan.proofs.ParentRuns.AreRunsOf.{termed, untermed}
 use Rattle.climb_plan.specs.Installing.{page_or_none, parent_held, IsIndexAt, AreParentsHome}
-use Rattle.climb_plan.proofs.ToldRuns.{all_told}
-use Rattle.climb_plan.proofs.Told.{AreRunsOf, each_told}
+use Rattle.climb_plan.proofs.TermRuns.{all_termed}
+use Rattle.climb_plan.proofs.ParentRuns.{AreRunsOf, runs_by_parent}
 
 -- ---- each parent with its run
 
 -- the parents are those that get a run
-pub told_pids : (ns : List ℕ) (runs : List (List (List ℕ × Option ℕ))) → length runs ≡ length ns → map (λ e. e.0) (each_told ns runs) ≡ ns
-told_pids [] runs e = refl
-told_pids (n ∷ ns) [] e = absurd (omega arith)
-told_pids (n ∷ ns) (run ∷ runs) e = ap (λ (ms : List ℕ). n ∷ ms) (told_pids ns runs (ap pred e))
+pub term_parents : (ns : List ℕ) (runs : List (List (List ℕ × Option ℕ))) → length runs ≡ length ns → map (λ e. e.0) (runs_by_parent ns runs) ≡ ns
+term_parents [] runs e = refl
+term_parents (n ∷ ns) [] e = absurd (omega arith)
+term_parents (n ∷ ns) (run ∷ runs) e = ap (λ (ms : List ℕ). n ∷ ms) (term_parents ns runs (ap pred e))
 
 module _ (t : Mapping PageOfKind) where
   page_there : (q : Placed ℕ) (run : List (List ℕ × Option ℕ)) → page_of t q.pid ≡ Some (Index q.page) → (let h : TermHeld = record { page = Index q.page; pid = q.pid; terms = run } in parent_held t (q.pid, run) ≡ h)
   page_there q run e = ap (λ (o : Option PageOfKind). (let h : TermHeld = record { page = page_or_none o; pid = q.pid; terms = run } in h)) e
 
   -- what is made of them is what the plan makes of them
-  pub told_made : (s : Settings) (qs : List (Placed ℕ)) (runs : List (List (List ℕ × Option ℕ))) → AreHome Index t qs → length runs ≡ length qs → map (λ e. index_made s (parent_held t e)) (each_told (pids qs) runs) ≡ worked_parents s qs runs
-  told_made s [] runs h e = refl
-  told_made s (q ∷ qs) [] h e = absurd (omega arith)
-  told_made s (q ∷ qs) (run ∷ runs) h e =
-      ap (λ (x : TermHeld). index_made s x ∷ map (λ e. index_made s (parent_held t e)) (each_told (pids qs) runs)) (page_there q run (ap at_home h.0))
-      ∙ ap (λ (ws : List (Worked ℕ)). worked s q run ∷ ws) (told_made s qs runs h.1 (ap pred e))
+  pub termed_made : (s : Settings) (qs : List (Placed ℕ)) (runs : List (List (List ℕ × Option ℕ))) → AreHome Index t qs → length runs ≡ length qs → map (λ e. index_made s (parent_held t e)) (runs_by_parent (pids qs) runs) ≡ worked_parents s qs runs
+  termed_made s [] runs h e = refl
+  termed_made s (q ∷ qs) [] h e = absurd (omega arith)
+  termed_made s (q ∷ qs) (run ∷ runs) h e =
+      ap (λ (x : TermHeld). index_made s x ∷ map (λ e. index_made s (parent_held t e)) (runs_by_parent (pids qs) runs)) (page_there q run (ap at_home h.0))
+      ∙ ap (λ (ws : List (Worked ℕ)). worked s q run ∷ ws) (termed_made s qs runs h.1 (ap pred e))
 
   -- and what is held of them is what they were
-  pub told_held : (qs : List (Placed ℕ)) (runs : List (List (List ℕ × Option ℕ))) → AreHome Index t qs → length runs ≡ length qs → map {B = ℕ × PageOfKind} (λ x. (x.pid, x.page)) (map (parent_held t) (each_told (pids qs) runs)) ≡ map {B = ℕ × PageOfKind} (λ q. (q.pid, Index q.page)) qs
-  told_held [] runs h e = refl
-  told_held (q ∷ qs) [] h e = absurd (omega arith)
-  told_held (q ∷ qs) (run ∷ runs) h e =
+  pub termed_held : (qs : List (Placed ℕ)) (runs : List (List (List ℕ × Option ℕ))) → AreHome Index t qs → length runs ≡ length qs → map {B = ℕ × PageOfKind} (λ x. (x.pid, x.page)) (map (parent_held t) (runs_by_parent (pids qs) runs)) ≡ map {B = ℕ × PageOfKind} (λ q. (q.pid, Index q.page)) qs
+  termed_held [] runs h e = refl
+  termed_held (q ∷ qs) [] h e = absurd (omega arith)
+  termed_held (q ∷ qs) (run ∷ runs) h e =
       let pair : TermHeld → ℕ × PageOfKind = λ x. (x.pid, x.page) in
-      ap (λ (x : TermHeld). pair x ∷ map pair (map (parent_held t) (each_told (pids qs) runs))) (page_there q run (ap at_home h.0))
-      ∙ ap (λ (es : List (ℕ × PageOfKind)). (q.pid, Index q.page) ∷ es) (told_held qs runs h.1 (ap pred e))
+      ap (λ (x : TermHeld). pair x ∷ map pair (map (parent_held t) (runs_by_parent (pids qs) runs))) (page_there q run (ap at_home h.0))
+      ∙ ap (λ (es : List (ℕ × PageOfKind)). (q.pid, Index q.page) ∷ es) (termed_held qs runs h.1 (ap pred e))
 
   index_at_home : (qs : List (Placed ℕ)) → AreHome Index t qs → AllByRecursion (λ n. IsIndexAt (page_of t n)) (pids qs)
   index_at_home [] h = tt
@@ -60,11 +60,11 @@ their_pids : (n : ℕ) (ps : List (Placed ℕ)) → AllByRecursion (λ p. p.pid 
 their_pids n [] d = tt
 their_pids n (p ∷ ps) d = (d.0, their_pids n ps d.1)
 
-distinct_told : {ps qs : List (Placed ℕ)} {all rs : List (List (List ℕ × Option ℕ))} → AreRunsOf ps all qs rs → Distinct (pids ps) → Distinct (pids qs)
-distinct_told (AreRunsOf.none) d = tt
-distinct_told (told {ps = ps} {qs = qs} p run r) d = (their_pids p.pid qs (all_told (λ q. q.pid ≢ p.pid) r (other_pids p.pid ps d.0)), distinct_told r d.1)
-distinct_told (untold p r) d = distinct_told r d.1
+distinct_termed : {ps qs : List (Placed ℕ)} {all rs : List (List (List ℕ × Option ℕ))} → AreRunsOf ps all qs rs → Distinct (pids ps) → Distinct (pids qs)
+distinct_termed (AreRunsOf.none) d = tt
+distinct_termed (termed {ps = ps} {qs = qs} p run r) d = (their_pids p.pid qs (all_termed (λ q. q.pid ≢ p.pid) r (other_pids p.pid ps d.0)), distinct_termed r d.1)
+distinct_termed (untermed p r) d = distinct_termed r d.1
 
 -- parents that get a run can be taken, where all of the level are at home
 pub parents_can_be_taken : {ps qs : List (Placed ℕ)} {all rs : List (List (List ℕ × Option ℕ))} (t : Mapping PageOfKind) → AreRunsOf ps all qs rs → Distinct (pids ps) → AreHome Index t qs → AreParentsHome t (pids qs)
-parents_can_be_taken {ps} {qs} t r d h = (index_at_home t qs h, distinct_told r d)
+parents_can_be_taken {ps} {qs} t r d h = (index_at_home t qs h, distinct_termed r d)

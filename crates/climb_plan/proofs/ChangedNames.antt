@@ -23,7 +23,7 @@ module _ {X : Type 0} where
       ∙ h
 
   -- and what follows these stays
-  pub behind_more : (x : List X) (old new rest : List (List X)) (n i : ℕ) → old ≡ x ∷ new → i < n → drop (n - i) old ≡ rest → drop (n - (i + 1)) new ≡ rest
-  behind_more x old new rest n i e l h =
+  pub after_more : (x : List X) (old new rest : List (List X)) (n i : ℕ) → old ≡ x ∷ new → i < n → drop (n - i) old ≡ rest → drop (n - (i + 1)) new ≡ rest
+  after_more x old new rest n i e l h =
       let more : suc (n - (i + 1)) ≡ n - i = omega arith in
       ap (λ (m : ℕ). drop m (x ∷ new)) more ∙ ap (λ (xss : List (List X)). drop (n - i) xss) (sym e) ∙ h

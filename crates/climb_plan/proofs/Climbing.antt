@@ -61,9 +61,9 @@ module _ {V : Type 0} where
 module _ {V : Type 0} where
   -- ---- the pids of fresh pages are among those of the new ones
 
-  not_behind : (n : ℕ) (ps : List (Placed V)) → is_among n (pids ps) ≡ false → is_among n (pids (drop 1 ps)) ≡ false
-  not_behind n [] h = h
-  not_behind n (p ∷ ps) h = (or_parts (nat_eq n p.pid) (is_among n (pids ps)) h).1
+  not_after : (n : ℕ) (ps : List (Placed V)) → is_among n (pids ps) ≡ false → is_among n (pids (drop 1 ps)) ≡ false
+  not_after n [] h = h
+  not_after n (p ∷ ps) h = (or_parts (nat_eq n p.pid) (is_among n (pids ps)) h).1
 
   not_in_both : (n : ℕ) (ps qs : List (Placed V)) → is_among n (pids ps) ≡ false → is_among n (pids qs) ≡ false → is_among n (pids (ps ++ qs)) ≡ false
   not_in_both n ps qs a b = ap (λ (ns : List ℕ). is_among n ns) (pids-append ps qs) ∙ not_among_from n (pids ps) (pids qs) a b
@@ -75,7 +75,7 @@ module _ {V : Type 0} where
   not_fresh_here n [] h = h
   not_fresh_here n (c ∷ cs) h =
       let r = not_in_either n c.pages (new_of cs) h in
-      not_in_both n (fresh c) (fresh_of cs) (not_behind n c.pages r.0) (not_fresh_here n cs r.1)
+      not_in_both n (fresh c) (fresh_of cs) (not_after n c.pages r.0) (not_fresh_here n cs r.1)
 
   -- a pid that no new page has isn't a fresh one's
   pub not_fresh : (n : ℕ) (css : List (List (Change V))) → is_among n (pids (all_new css)) ≡ false → is_among n (pids (all_fresh css)) ≡ false

@@ -18,7 +18,7 @@ use Rattle.split_plan.specs.Change.{Change, fresh_pages, changes, family_changes
 use Rattle.split_plan.proofs.ChangeLemmas.{joined-fresh_pages, joined-changes, joined-family_changes, next_low-changes, next_low-family_changes, tiled-fresh_pages, tiled-changes, tiled-family_changes, length-fresh_pages, AllHeaded, headed-fresh_pages, headed-changes, headed-family_changes}
 use Rattle.split_plan.specs.Terms.{terms}
 use Rattle.climb_plan.specs.Climb.{families, grown_levels, climb}
-use Rattle.climb_plan.proofs.Families.{families-joined, parents_link, parents_told}
+use Rattle.climb_plan.proofs.Families.{families-joined, parents_link, parents_termed}
 use Rattle.split_plan.proofs.Full.{AllFull}
 
 -- ---- levels that grow above pages without a parent
@@ -113,11 +113,11 @@ stacked-climb {V} s used i ws olds (ps ∷ ups) f e o h =
     let css : List (List (Change V)) = family_changes s used i (families ps ws) in
     let vs : List (Worked ℕ) = worked_parents s ps (map terms css) in
     let j : ℕ = i + length (all_fresh css) in
-    let told = parents_told s used i ps ws z linked o.0.headed h in
+    let termed = parents_termed s used i ps ws z linked o.0.headed h in
     let named : names (placed_of vs) ≡ names ps = names-worked_parents s ps (map terms css) in
-    let upper = stacked-climb s used j vs ps ups f named o.1 (tiled-worked_parents s ps (map terms css) None o.0.tiled told.0) in
+    let upper = stacked-climb s used j vs ps ups f named o.1 (tiled-worked_parents s ps (map terms css) None o.0.tiled termed.0) in
     let links : joined (climb s used j vs ups).tower.level ≡ names (all_new css) = joined-climb s used j vs ups ps named o.1 ∙ parents_link s used i ps ws None z linked h in
     let level : Tiled (placed_of (flat (families ps ws))) None = subst (λ (xs : List (Worked V)). Tiled (placed_of xs) None) (sym (families-joined ps ws linked)) h in (
       tiled-family_changes s used i (families ps ws) None z level,
-      (record { linked = links; headed = headed-climb s used j vs ps ups z named o.1 told.1; tiled = upper.0 }, upper.1),
+      (record { linked = links; headed = headed-climb s used j vs ps ups z named o.1 termed.1; tiled = upper.0 }, upper.1),
     )

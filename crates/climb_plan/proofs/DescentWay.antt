@@ -123,12 +123,12 @@ module _ (t : Mapping PageOfKind) where
     record IsFound (up : List (Placed ℕ)) (pid : ℕ) : Type 0 where
       pub before : List (Placed ℕ)
       pub page : Placed ℕ
-      pub behind : List (Placed ℕ)
-      pub parts : up ≡ before ++ page ∷ behind
-      pub inside : is_within page.page.low (next_low behind None) k ≡ true
+      pub following : List (Placed ℕ)
+      pub parts : up ≡ before ++ page ∷ following
+      pub inside : is_within page.page.low (next_low following None) k ≡ true
       pub home : page_of t pid ≡ Some (Index page.page)
       pub own : IsHeaded 1 page.page
-      pub headed : AllByRecursion (λ p. IsHeaded 1 p.page) behind
+      pub headed : AllByRecursion (λ p. IsHeaded 1 p.page) following
 
     found : (up : List (Placed ℕ)) (ups : List (List (Placed ℕ))) (pid : ℕ) → AreUnder up ups → pids_for up k ≡ pid ∷ [] → IsFound up pid
     found up ups pid h e =
@@ -142,7 +142,7 @@ module _ (t : Mapping PageOfKind) where
         record {
           before = r.0;
           page = r.1;
-          behind = r.2;
+          following = r.2;
           parts = r.3;
           inside = r.4;
           home = ap (λ (n : ℕ). page_of t n) pids ∙ home.1.0;
@@ -158,7 +158,7 @@ module _ (t : Mapping PageOfKind) where
     way_index n ps [] pid h w = absurd w
     way_index zero ps (up ∷ ups) pid h w =
         let r = found up ups pid (go_up ps up ups h) w in
-        (r.page, r.home, has_child r.page (next_low r.behind None) r.own r.inside)
+        (r.page, r.home, has_child r.page (next_low r.following None) r.own r.inside)
     way_index (suc n) ps (up ∷ ups) pid h w = way_index n up ups pid (go_up ps up ups h) w
 
     -- and the child of that page is the next on the way
@@ -169,9 +169,9 @@ module _ (t : Mapping PageOfKind) where
         let r = found up ups pid (go_up ps up ups h) w in
         let home : page_of t pid ≡ Some (Index r.page.page) = r.home in
         let same : page ≡ Index r.page.page = cc in
-        let linked : joined (r.before ++ r.page ∷ r.behind) ≡ names ps = subst (λ (qs : List (Placed ℕ)). joined qs ≡ names ps) r.parts h.stacked.0.linked in
+        let linked : joined (r.before ++ r.page ∷ r.following) ≡ names ps = subst (λ (qs : List (Placed ℕ)). joined qs ≡ names ps) r.parts h.stacked.0.linked in
         let has_own : (end : Option (List ℕ)) → is_before end k ≡ true → pids_of k (children (entries r.page) end) ≡ child ∷ [] = subst (λ (q : PageOfKind). (end : Option (List ℕ)) → is_before end k ≡ true → pids_of k (children (child_entries q) end) ≡ child ∷ []) same has in
-        child_pid_for k r.before r.behind r.page ps child linked r.headed h.tiled h.first r.inside has_own
+        child_pid_for k r.before r.following r.page ps child linked r.headed h.tiled h.first r.inside has_own
     way_down (suc n) ps (up ∷ ups) pid child page h w e has = way_down n up ups pid child page (go_up ps up ups h) w e has
 
 -- ---- as the descent has it

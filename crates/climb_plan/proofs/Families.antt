@@ -60,10 +60,10 @@ module _ {V : Type 0} where
       ∙ sym (names-append (new_of cs) (all_new later))
 
   -- the terms are runs for the parents, which keep their first child at their low key
-  pub parents_told : (s : Settings) (used : List ℕ) (i : ℕ) (ps : List (Placed ℕ)) (ws : List (Worked V)) → 0 < s.fan → joined ps ≡ names (placed_of ws) → AllHeaded ps → Tiled (placed_of ws) None
+  pub parents_termed : (s : Settings) (used : List ℕ) (i : ℕ) (ps : List (Placed ℕ)) (ws : List (Worked V)) → 0 < s.fan → joined ps ≡ names (placed_of ws) → AllHeaded ps → Tiled (placed_of ws) None
       → AreRunsFor ps (map terms (family_changes s used i (families ps ws))) None × AllHeaded (placed_of (worked_parents s ps (map terms (family_changes s used i (families ps ws)))))
-  parents_told s used i [] ws z l hd h = (tt, tt)
-  parents_told s used i (p ∷ ps) ws z l hd h =
+  parents_termed s used i [] ws z l hd h = (tt, tt)
+  parents_termed s used i (p ∷ ps) ws z l hd h =
       let n : ℕ = length (entries p) in
       let f : List (Worked V) = take n ws in
       let more : List (Worked V) = drop n ws in
@@ -78,5 +78,5 @@ module _ {V : Type 0} where
       let new_begins : next_low (new_of cs) None ≡ Some p.page.low =
       next_low-groups s used i f None ∙ begins None in
       let after : entries (worked s p (terms cs)).placed ≡ names (new_of cs) = entries_after s used i p f end z r.0 tiled in
-      let later = parents_told s used (i + length (fresh_of cs)) ps more z r.1 hd.1 a.1 in
+      let later = parents_termed s used (i + length (fresh_of cs)) ps more z r.1 hd.1 a.1 in
       ((terms_for_parent s used i p.page.low f end z (begins end) tiled, later.0), (headed_by_names (worked s p (terms cs)).placed (new_of cs) p.page.low after new_begins refl, later.1))

@@ -273,10 +273,10 @@ parents_next tree now k ks all e n h =
     let rest : AreParentsHome t ks = (all_kept (λ o. IsIndexAt (at_home o)) tree.table t k (placed_apart tree.table k None) ks a.1.0 a.0.1, a.1.1) in
     subst (λ (x : TreeInMemory). AreParentsHome x.table ks) (sym n) rest
 
-abbrev pub Told : Type 0
-Told = ℕ × List (List ℕ × Option ℕ)
+abbrev pub ParentRuns : Type 0
+ParentRuns = ℕ × List (List ℕ × Option ℕ)
 
-held_apart : (t u : Mapping PageOfKind) (k : ℕ) (xs : List Told) → KeepsOthers t u k → AllByRecursion (λ q. q ≢ k) (map (λ x. x.0) xs) → map (parent_held u) xs ≡ map (parent_held t) xs
+held_apart : (t u : Mapping PageOfKind) (k : ℕ) (xs : List ParentRuns) → KeepsOthers t u k → AllByRecursion (λ q. q ≢ k) (map (λ x. x.0) xs) → map (parent_held u) xs ≡ map (parent_held t) xs
 held_apart t u k [] keeps d = refl
 held_apart t u k (x ∷ xs) keeps d =
     ap (λ (o : Option (Option PageOfKind)). record { page = page_or_none (at_home o); pid = x.0; terms = x.1 } ∷ map (parent_held u) xs) (keeps x.0 d.0)
@@ -286,11 +286,11 @@ held_push : (done : List TermJob) (job : TermJob) (hs : List TermHeld) → map t
 held_push [] job hs = refl
 held_push (d ∷ ds) job hs = ap (λ (x : List TermHeld). term_held_of d ∷ x) (held_push ds job hs)
 
-pub held_step : (tree now : TreeInMemory) (done pushed : List TermJob) (job : TermJob) (x : Told) (xs all : List Told) (hs : List TermHeld) → all ≡ x ∷ xs → now ≡ record tree { table = with_place tree.table x.0 None } → AreParentsHome tree.table (map (λ t. t.0) all)
+pub held_step : (tree now : TreeInMemory) (done pushed : List TermJob) (job : TermJob) (x : ParentRuns) (xs all : List ParentRuns) (hs : List TermHeld) → all ≡ x ∷ xs → now ≡ record tree { table = with_place tree.table x.0 None } → AreParentsHome tree.table (map (λ t. t.0) all)
     → pushed ≡ done ++ job ∷ [] → job.pid ≡ x.0 → job.terms ≡ x.1 → page_of tree.table x.0 ≡ Some job.page → map term_held_of done ++ map (parent_held tree.table) all ≡ hs → map term_held_of pushed ++ map (parent_held now.table) xs ≡ hs
 held_step tree now done pushed job x xs all hs e n home p a b c h =
     let t : Mapping PageOfKind = with_place tree.table x.0 None in
-    let apart = (subst (λ (ys : List Told). AreParentsHome tree.table (map (λ t. t.0) ys)) e home).1.0 in
+    let apart = (subst (λ (ys : List ParentRuns). AreParentsHome tree.table (map (λ t. t.0) ys)) e home).1.0 in
     let rest : map (parent_held now.table) xs ≡ map (parent_held tree.table) xs = ap (λ (y : TreeInMemory). map (parent_held y.table) xs) n ∙ held_apart tree.table t x.0 xs (placed_apart tree.table x.0 None) apart in
     let make : PageOfKind → ℕ → List (List ℕ × Option ℕ) → TermHeld = λ q k r. record { page = q; pid = k; terms = r } in
     let first : term_held_of job ≡ parent_held tree.table x = ap (λ (k : ℕ). make job.page k job.terms) a ∙ ap (λ (r : List (List ℕ × Option ℕ)). make job.page x.0 r) b ∙ ap (λ (o : Option PageOfKind). make (page_or_none o) x.0 x.1) (sym c) in
@@ -298,5 +298,5 @@ held_step tree now done pushed job x xs all hs e n home p a b c h =
     ∙ held_push done job (map (parent_held now.table) xs)
     ∙ ap (λ (ys : List TermHeld). map term_held_of done ++ term_held_of job ∷ ys) rest
     ∙ ap (λ (y : TermHeld). map term_held_of done ++ y ∷ map (parent_held tree.table) xs) first
-    ∙ ap (λ (ys : List Told). map term_held_of done ++ map (parent_held tree.table) ys) (sym e)
+    ∙ ap (λ (ys : List ParentRuns). map term_held_of done ++ map (parent_held tree.table) ys) (sym e)
     ∙ h

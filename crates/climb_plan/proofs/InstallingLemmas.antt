@@ -451,13 +451,13 @@ all_are_installed t (r ∷ rs) s d h =
 
 -- ---- groups that can be replaced
 
-pub none_behind : (ms ns : List ℕ) → Distinct (ms ++ ns) → AllByRecursion (λ q. is_among q ms ≡ false) ns
-none_behind [] ns d = all_so ns
+pub none_after : (ms ns : List ℕ) → Distinct (ms ++ ns) → AllByRecursion (λ q. is_among q ms ≡ false) ns
+none_after [] ns d = all_so ns
   where
     all_so : (ks : List ℕ) → AllByRecursion (λ q. is_among q [] ≡ false) ks
     all_so [] = tt
     all_so (k ∷ ks) = (refl, all_so ks)
-none_behind (m ∷ ms) ns d = both ns (all_apart (λ k. k ≢ m) ms ns d.0).1 (none_behind ms ns d.1)
+none_after (m ∷ ms) ns d = both ns (all_apart (λ k. k ≢ m) ms ns d.0).1 (none_after ms ns d.1)
   where
     both : (ks : List ℕ) → AllByRecursion (λ k. k ≢ m) ks → AllByRecursion (λ q. is_among q ms ≡ false) ks → AllByRecursion (λ q. is_among q (m ∷ ms) ≡ false) ks
     both [] a b = tt
@@ -482,7 +482,7 @@ can_install_all t (r ∷ rs) s d h a =
     let u : Pages = group_installed t r in
     let here = distinct_first (group_pids r) (groups_pids rs) d in
     let is = group_is_replaced t r s h.0.0 here h.0.1 in
-    let same : AllByRecursion (λ k. place_of u k ≡ place_of t k) (groups_pids rs) = each_other (λ k. is_among k (group_pids r) ≡ false) (λ k. place_of u k ≡ place_of t k) (groups_pids rs) is.others (none_behind (group_pids r) (groups_pids rs) d) in (
+    let same : AllByRecursion (λ k. place_of u k ≡ place_of t k) (groups_pids rs) = each_other (λ k. is_among k (group_pids r) ≡ false) (λ k. place_of u k ≡ place_of t k) (groups_pids rs) is.others (none_after (group_pids r) (groups_pids rs) d) in (
       record { some = h.0.0; members = a.0.0; fresh = a.0.1; distinct = here; count = h.0.1 },
       can_install_all u rs (is.rising s) (distinct_last (group_pids r) (groups_pids rs) d) h.1 (still_ready t u rs same a.1),
     )

@@ -17,12 +17,12 @@ use Rattle.climb_plan.specs.Changing.{SeenPage, page_seen, changing_families, pa
 use Rattle.climb_plan.specs.Climb.{LevelPlan}
 use Rattle.climb_plan.specs.Installing.{all_taken, parent_held, AreAway, AreParentsHome}
 use Rattle.climb_plan.specs.Level.{IsKind, parent_pids, group_counts, IsLevel, IsCut, IsChanged}
-use Rattle.climb_plan.specs.Rewriting.{Remade, HaveSome, with_numbers, numbers, terms_by_parent, CanBeTold}
+use Rattle.climb_plan.specs.Rewriting.{Remade, HaveSome, with_numbers, numbers, terms_by_parent, CanTakeTerms}
 use Rattle.climb_plan.proofs.BridgeDrawn.{drawn_places}
 use Rattle.climb_plan.proofs.BridgeGroups.{changing_rewritten}
-use Rattle.climb_plan.proofs.BridgeNext.{new_here, can_be_taken, told_here, taken_here, made_here, held_here}
+use Rattle.climb_plan.proofs.BridgeNext.{new_here, can_be_taken, termed_here, taken_here, made_here, held_here}
 use Rattle.climb_plan.proofs.BridgePieces.{with_numbers-page_seen, numbers-page_seen, some-page_seen}
-use Rattle.climb_plan.proofs.BridgeTold.{freed_in, made_in, told-page_seen, can_be_told}
+use Rattle.climb_plan.proofs.BridgeTermRuns.{freed_in, made_in, termed-page_seen, can_be_termed}
 use Rattle.climb_plan.proofs.LeveledDrawn.{drawn_away, drawn_back, AreGiven, numbers_given, all_given}
 use Rattle.climb_plan.proofs.LevelParts.{level_of}
 
@@ -60,19 +60,19 @@ module _ {V : Type 0} (s : Settings) (of : Page V → PageOfKind) (kind : IsKind
     pub remade_here : given ≡ made_in of (changes s used i rewritten_here)
     remade_here = numbered_so ∙ ap (with_numbers used i) cut.pieces ∙ with_numbers-page_seen of kind s used i rewritten_here (changing_rewritten ps ws)
 
-    told_so : terms_by_parent counts freed given ≡ told_here s of t xs ws ps ups used i z h
-    told_so =
+    termed_so : terms_by_parent counts freed given ≡ termed_here s of t xs ws ps ups used i z h
+    termed_so =
         ap (λ (cs : List (ℕ × ℕ)). terms_by_parent cs freed given) cut.counts
         ∙ ap (λ (fs : List (List (List ℕ × ℕ))). terms_by_parent (group_counts (changing_families ps ws)) fs given) cut.names
         ∙ ap (λ (rs : List Remade). terms_by_parent (group_counts (changing_families ps ws)) (freed_in of rewritten_here) rs) remade_here
-        ∙ told-page_seen of kind s used i (changing_families ps ws)
+        ∙ termed-page_seen of kind s used i (changing_families ps ws)
 
     -- the parents can get their runs
-    pub can_tell : CanBeTold counts freed given
+    pub can_tell : CanTakeTerms counts freed given
     can_tell =
-        subst (λ (cs : List (ℕ × ℕ)). CanBeTold cs freed given) (sym cut.counts)
-        (subst (λ (fs : List (List (List ℕ × ℕ))). CanBeTold (group_counts (changing_families ps ws)) fs given) (sym cut.names)
-        (subst (λ (rs : List Remade). CanBeTold (group_counts (changing_families ps ws)) (freed_in of rewritten_here) rs) (sym remade_here) (can_be_told of kind s used i ps ws None z h.tiled h.stacked.0.linked)))
+        subst (λ (cs : List (ℕ × ℕ)). CanTakeTerms cs freed given) (sym cut.counts)
+        (subst (λ (fs : List (List (List ℕ × ℕ))). CanTakeTerms (group_counts (changing_families ps ws)) fs given) (sym cut.names)
+        (subst (λ (rs : List Remade). CanTakeTerms (group_counts (changing_families ps ws)) (freed_in of rewritten_here) rs) (sym remade_here) (can_be_termed of kind s used i ps ws None z h.tiled h.stacked.0.linked)))
 
     abbrev drawn_here : TreeInMemory
     drawn_here = with_table t (with_rooms t.table (fresh_pids (pids_in_use t.table) (new_here s of t xs ws ps ups used i)))
@@ -84,7 +84,7 @@ module _ {V : Type 0} (s : Settings) (of : Page V → PageOfKind) (kind : IsKind
       -- and taken
       pub parents_home : AreParentsHome u.table (map (λ e. e.0) (terms_by_parent counts freed given))
       parents_home =
-          subst (λ (es : List (ℕ × List (List ℕ × Option ℕ))). AreParentsHome u.table (map (λ e. e.0) es)) (sym told_so)
+          subst (λ (es : List (ℕ × List (List ℕ × Option ℕ))). AreParentsHome u.table (map (λ e. e.0) es)) (sym termed_so)
           (subst (λ (ns : List ℕ). AreParentsHome u.table ns) (sym (taken_here s of t xs ws ps ups used i z h))
           (subst (λ (v : TreeInMemory). AreParentsHome v.table (parent_pids (changing_families ps ws))) (sym same_tree) (can_be_taken s of t xs ws ps ups used i z h)))
 
@@ -98,18 +98,18 @@ module _ {V : Type 0} (s : Settings) (of : Page V → PageOfKind) (kind : IsKind
       all_changed after parents made held taken =
           let pair : TermHeld → ℕ × PageOfKind = λ x. (x.pid, x.page) in
           let made_so : map (λ d. d.made) parents ≡ worked_parents s (parents_of (changing_families ps ws)) (map terms (changing_changes s used i (changing_families ps ws))) =
-          made ∙ ap (λ (es : List (ℕ × List (List ℕ × Option ℕ))). map (λ e. index_made s (parent_held u.table e)) es) told_so
-          ∙ ap (λ (v : TreeInMemory). map (λ e. index_made s (parent_held v.table e)) (told_here s of t xs ws ps ups used i z h)) same_tree
+          made ∙ ap (λ (es : List (ℕ × List (List ℕ × Option ℕ))). map (λ e. index_made s (parent_held u.table e)) es) termed_so
+          ∙ ap (λ (v : TreeInMemory). map (λ e. index_made s (parent_held v.table e)) (termed_here s of t xs ws ps ups used i z h)) same_tree
           ∙ made_here s of t xs ws ps ups used i z h in
-          let held_so : map (λ d. d.held) parents ≡ map (parent_held drawn_here.table) (told_here s of t xs ws ps ups used i z h) =
-          held ∙ ap (λ (es : List (ℕ × List (List ℕ × Option ℕ))). map (parent_held u.table) es) told_so
-          ∙ ap (λ (v : TreeInMemory). map (parent_held v.table) (told_here s of t xs ws ps ups used i z h)) same_tree in
+          let held_so : map (λ d. d.held) parents ≡ map (parent_held drawn_here.table) (termed_here s of t xs ws ps ups used i z h) =
+          held ∙ ap (λ (es : List (ℕ × List (List ℕ × Option ℕ))). map (parent_held u.table) es) termed_so
+          ∙ ap (λ (v : TreeInMemory). map (parent_held v.table) (termed_here s of t xs ws ps ups used i z h)) same_tree in
           record {
             groups = remade_here;
             made = through (page_seen Index) (λ d. d.made) parents _ made_so;
             held = through pair (λ d. d.held) parents _ held_so ∙ held_here s of t xs ws ps ups used i z h;
             tree =
-                taken ∙ ap (λ (es : List (ℕ × List (List ℕ × Option ℕ))). with_table u (all_taken u.table (map (λ e. e.0) es))) told_so
+                taken ∙ ap (λ (es : List (ℕ × List (List ℕ × Option ℕ))). with_table u (all_taken u.table (map (λ e. e.0) es))) termed_so
                 ∙ ap (λ (ns : List ℕ). with_table u (all_taken u.table ns)) (taken_here s of t xs ws ps ups used i z h)
                 ∙ ap (λ (v : TreeInMemory). with_table v (all_taken v.table (parent_pids (changing_families ps ws)))) same_tree;
           }
@@ -119,7 +119,7 @@ module _ {V : Type 0} (s : Settings) (of : Page V → PageOfKind) (kind : IsKind
 -- what holds of it then: its parents can get their runs and be taken, and what comes of that is what the plan makes of the level
 pub record IsDrawn {V : Type 0} (s : Settings) (of : Page V → PageOfKind) (t u : TreeInMemory) (l : LevelPlan V) (ps : List (Placed ℕ)) (counts : List (ℕ × ℕ)) (freed : List (List (List ℕ × ℕ))) (given : List Remade) : Type 0 where
   pub rising : AreRisingPids (pids_in_use u.table)
-  pub names : CanBeTold counts freed given
+  pub names : CanTakeTerms counts freed given
   pub home : AreParentsHome u.table (map (λ e. e.0) (terms_by_parent counts freed given))
   pub changed : (after : TreeInMemory) (parents : List IndexWorked) → map (λ d. d.made) parents ≡ map (λ e. index_made s (parent_held u.table e)) (terms_by_parent counts freed given)
       → map (λ d. d.held) parents ≡ map (parent_held u.table) (terms_by_parent counts freed given) → after ≡ with_table u (all_taken u.table (map (λ e. e.0) (terms_by_parent counts freed given)))

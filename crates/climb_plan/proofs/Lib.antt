@@ -18,8 +18,8 @@ pub mod LevelParts
 pub mod ChangingSeen
 pub mod ChangingGroups
 pub mod ChangingOutdated
-mod Told
-pub mod ToldRuns
+mod ParentRuns
+pub mod TermRuns
 mod Installed
 pub mod InstalledPages
 pub mod InstalledLevel
@@ -50,7 +50,7 @@ mod ChangedPieces
 pub mod BridgeSeen
 pub mod BridgeGroups
 pub mod BridgePieces
-pub mod BridgeTold
+pub mod BridgeTermRuns
 pub mod BridgeParents
 pub mod BridgeNext
 pub mod LeveledDrawn

@@ -90,7 +90,7 @@ module _ {V : Type 0} where
   -- the same of all families of a level
   record AreAllIdle (css : List (List (Change V))) (ps : List (Placed V)) : Type 0 where
     pub new : all_new css ≡ ps
-    pub told : AllByRecursion (λ run. run ≡ []) (map terms css)
+    pub termed : AllByRecursion (λ run. run ≡ []) (map terms css)
     pub outdated : all_outdated css ≡ []
 
   quiet_take : (n : ℕ) (ws : List (Worked V)) → AreQuiet ws → AreQuiet (take n ws) × AreQuiet (drop n ws)
@@ -103,7 +103,7 @@ module _ {V : Type 0} where
   placed-append (w ∷ ws) vs = ap (λ (ps : List (Placed V)). w.placed ∷ ps) (placed-append ws vs)
 
   idle_families : (s : Settings) (used : List ℕ) (i : ℕ) (ps : List (Placed ℕ)) (ws : List (Worked V)) → AreQuiet ws → AreAllIdle (family_changes s used i (families ps ws)) (placed_of (flat (families ps ws)))
-  idle_families s used i [] ws q = record { new = refl; told = tt; outdated = refl }
+  idle_families s used i [] ws q = record { new = refl; termed = tt; outdated = refl }
   idle_families s used i (p ∷ ps) ws q =
       let n : ℕ = length (entries p) in
       let parts = quiet_take n ws q in
@@ -115,7 +115,7 @@ module _ {V : Type 0} where
       let later : List (List (Change V)) = family_changes s used j (families ps (drop n ws)) in
       record {
         new = ap (λ (qs : List (Placed V)). qs ++ all_new later) here.new ∙ ap (λ (qs : List (Placed V)). placed_of f ++ qs) rest.new ∙ sym (placed-append f (flat (families ps (drop n ws))));
-        told = (no_terms cs here.fresh here.freed, rest.told);
+        termed = (no_terms cs here.fresh here.freed, rest.termed);
         outdated = ap (λ (ns : List ℕ). ns ++ all_outdated later) here.outdated ∙ rest.outdated;
       }
 
@@ -130,7 +130,7 @@ climb_quiet {V} s used i ws (parents ∷ ups) q o =
     let count : length (joined parents) ≡ length ws = ap (λ (ns : Names). length ns) o.0.linked ∙ length-map (placed_of ws) name ∙ length-map ws (λ (w : Worked V). w.placed) in
     let level : all_new css ≡ placed_of ws = r.new ∙ ap (λ (vs : List (Worked V)). placed_of vs) (families_by_length parents ws count) in
     let j : ℕ = i + length (all_fresh css) in
-    let vs : worked_parents s parents (map terms css) ≡ all_same parents = parents_same s parents (map terms css) r.told in
+    let vs : worked_parents s parents (map terms css) ≡ all_same parents = parents_same s parents (map terms css) r.termed in
     let up = ap (λ (us : List (Worked ℕ)). climb s used j us ups) vs ∙ climb_same s used j parents ups o.1 in
     let nothing : all_outdated css ≡ [] = r.outdated in
     rw (up, nothing, level) refl

@@ -35,10 +35,10 @@ pid_at [] i x n l e g = absurd (omega arith)
 pid_at (y ∷ ys) zero x n l e g = let pid : y.pid ≡ n = cc in sym pid ∙ ap (λ (z : SeenPage). z.pid) (sym e)
 pid_at (y ∷ ys) (suc i) x n l e g = pid_at ys i x n (omega arith) e g
 
-behind : (seen : List Seen) (before from : List SeenPage) → all_seen seen ≡ before ++ from → (length before ≤ length seen) × (all_seen (drop (length before) seen) ≡ from)
-behind seen [] from e = (omega arith, e)
-behind [] (y ∷ ys) from e = absurd (cc)
-behind (x ∷ xs) (y ∷ ys) from e = let rest : all_seen xs ≡ ys ++ from = cc in let r = behind xs ys from rest in (omega (arith, r.0), r.1)
+following : (seen : List Seen) (before from : List SeenPage) → all_seen seen ≡ before ++ from → (length before ≤ length seen) × (all_seen (drop (length before) seen) ≡ from)
+following seen [] from e = (omega arith, e)
+following [] (y ∷ ys) from e = absurd (cc)
+following (x ∷ xs) (y ∷ ys) from e = let rest : all_seen xs ≡ ys ++ from = cc in let r = following xs ys from rest in (omega (arith, r.0), r.1)
 
 all_taken : {X : Type 0} (xs : List X) (n : ℕ) → n ≡ length xs → (take n xs ≡ xs) × (drop n xs ≡ [])
 all_taken [] zero e = (refl, refl)
@@ -117,11 +117,11 @@ module _ (t : Mapping PageOfKind) (seen : List Seen) (parent : ℕ) (p : Placed 
       subst (λ (k : List ℕ). AreParted k (all_seen seen) before from) same h.parted
 
   pub before_within : length before ≤ length seen
-  before_within = (behind seen before from h.parted.joined).0
+  before_within = (following seen before from h.parted.joined).0
 
   pub at_start : (es : Names) (next : ℕ) (made : List SeenPage) → es ≡ entries p → next ≡ length before → made ≡ [] → IsSoFar t seen es children later next 0 made
   at_start es next made l n m =
-      let r : all_seen (drop next seen) ≡ from = ap (λ (i : ℕ). all_seen (drop i seen)) n ∙ (behind seen before from h.parted.joined).1 in
+      let r : all_seen (drop next seen) ≡ from = ap (λ (i : ℕ). all_seen (drop i seen)) n ∙ (following seen before from h.parted.joined).1 in
       record {
         named = l ∙ h.linked;
         seen_so_far = m;

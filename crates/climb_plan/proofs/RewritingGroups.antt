@@ -111,7 +111,7 @@ module _ (children : List Seen) (sizes : List ℕ) (all : List (List SeenPage)) 
     pub size : get_or sizes i 0 ≡ length g
     pub within : start + length g ≤ length children
     pub own : all_seen (take (length g) (drop start children)) ≡ g
-    pub behind : all_seen (drop (start + length g) children) ≡ flat (drop (i + 1) (seen_groups children))
+    pub following : all_seen (drop (start + length g) children) ≡ flat (drop (i + 1) (seen_groups children))
     pub parts : drop i (seen_groups children) ≡ g ∷ drop (i + 1) (seen_groups children)
 
   pub next_group : (start i : ℕ) (made : List (List SeenPage)) → IsDealt start i made → i < length sizes → (g : List SeenPage) × IsGroupAt start i g
@@ -125,7 +125,7 @@ module _ (children : List Seen) (sizes : List ℕ) (all : List (List SeenPage)) 
           size = ap (λ (ns : List ℕ). get_or ns i 0) h.sized ∙ r.2;
           within = omega (arith, c.0);
           own = c.1;
-          behind = ap (λ (xs : List Seen). all_seen xs) (sym (drop_further children start (length r.0))) ∙ c.2;
+          following = ap (λ (xs : List Seen). all_seen xs) (sym (drop_further children start (length r.0))) ∙ c.2;
           parts = r.1;
         },
       )
@@ -138,7 +138,7 @@ module _ (children : List Seen) (sizes : List ℕ) (all : List (List SeenPage)) 
       record {
         most = omega (arith, r.within);
         sized = h.sized;
-        left = ap (λ (n : ℕ). all_seen (drop n children)) there ∙ r.behind;
+        left = ap (λ (n : ℕ). all_seen (drop n children)) there ∙ r.following;
         so_far =
             ap (λ (gs : List (List SeenPage)). gs ++ filter is_rewritten_seen later) (m ∙ ap (λ (x : List SeenPage). made ++ filter is_rewritten_seen (x ∷ [])) same)
             ∙ append_assoc made (filter is_rewritten_seen (g ∷ [])) (filter is_rewritten_seen later)

@@ -100,7 +100,7 @@ module _ (t : Mapping PageOfKind) where
   pub record IsCalled (ps : List (Placed ℕ)) (left xs : List SeenPage) (x : SeenPage) : Type 0 where
     pub front : List (Placed ℕ)
     pub parent : Placed ℕ
-    pub behind : List (Placed ℕ)
+    pub following : List (Placed ℕ)
     pub skipped : List SeenPage
     pub children : List SeenPage
     pub later : List SeenPage
@@ -109,16 +109,16 @@ module _ (t : Mapping PageOfKind) where
     pub after : List SeenPage
     pub quiet : List SeenPage
     pub more : List SeenPage
-    pub parts : ps ≡ front ++ parent ∷ behind
+    pub parts : ps ≡ front ++ parent ∷ following
     pub front_linked : joined front ≡ map seen_name skipped
     pub own_linked : entries parent ≡ map seen_name children
-    pub later_linked : joined behind ≡ map seen_name later
+    pub later_linked : joined following ≡ map seen_name later
     pub seen_parts : xs ≡ before ++ (own ++ after)
     pub seen_before : AreSeenIn t before skipped
     pub seen_own : AreSeenIn t own children
     pub seen_after : AreSeenIn t after later
     pub has : own ≡ quiet ++ x ∷ more
-    pub same : rewriting_families ps left ≡ with_rewriting parent.pid (rewritten_groups children) (rewriting_families behind later)
+    pub same : rewriting_families ps left ≡ with_rewriting parent.pid (rewritten_groups children) (rewriting_families following later)
 
   called : (ps : List (Placed ℕ)) (left xs quiet : List SeenPage) (x : SeenPage) (more : List SeenPage) → joined ps ≡ map seen_name left → AreSeenIn t xs left → xs ≡ quiet ++ x ∷ more → AllByRecursion IsQuiet quiet → IsCalled ps left xs x
   called [] [] xs quiet x more l s e q = absurd (not_seen quiet more x s e)
@@ -135,7 +135,7 @@ module _ (t : Mapping PageOfKind) where
         | inl r ↦ record {
           front = [];
           parent = p;
-          behind = ps;
+          following = ps;
           skipped = [];
           children = f;
           later = g;
@@ -162,7 +162,7 @@ module _ (t : Mapping PageOfKind) where
             record {
               front = p ∷ c.front;
               parent = c.parent;
-              behind = c.behind;
+              following = c.following;
               skipped = f ++ c.skipped;
               children = c.children;
               later = c.later;
@@ -212,9 +212,9 @@ entries_before : (end : Option (List ℕ)) (p : Placed ℕ) → IsTile end p →
 entries_before None p h = tt
 entries_before (Some hi) p h = all_keys_entries (λ j. is_below j hi ≡ true) p.page h.keys.before
 
-all_behind : (ps : List (Placed ℕ)) → Tiled ps None → AllByRecursion (λ k. is_before (next_low ps None) k ≡ false) (keys_of (joined ps))
-all_behind [] h = tt
-all_behind (p ∷ ps) h = from-joined p ps None h
+all_after : (ps : List (Placed ℕ)) → Tiled ps None → AllByRecursion (λ k. is_before (next_low ps None) k ≡ false) (keys_of (joined ps))
+all_after [] h = tt
+all_after (p ∷ ps) h = from-joined p ps None h
 
 -- ---- the state of the walk
 
@@ -254,17 +254,17 @@ module _ (t : TreeInMemory) (depth : ℕ) (all_xs all : List SeenPage) (ps : Lis
     apart : Tiled s.rest None
     apart = (tiled_apart s.done s.rest None (subst (λ (qs : List (Placed ℕ)). Tiled qs None) s.parts h.parents.tiled)).1
 
-    tiles : Tiled found.front (Some found.parent.page.low) × Tiled (found.parent ∷ found.behind) None
-    tiles = tiled_apart found.front (found.parent ∷ found.behind) None (subst (λ (qs : List (Placed ℕ)). Tiled qs None) found.parts apart)
+    tiles : Tiled found.front (Some found.parent.page.low) × Tiled (found.parent ∷ found.following) None
+    tiles = tiled_apart found.front (found.parent ∷ found.following) None (subst (λ (qs : List (Placed ℕ)). Tiled qs None) found.parts apart)
 
-    names_from : joined (found.parent ∷ found.behind) ≡ map seen_name (found.children ++ found.later)
-    names_from = ap (λ (ns : Names). ns ++ joined found.behind) found.own_linked ∙ ap (λ (ns : Names). map seen_name found.children ++ ns) found.later_linked ∙ sym (map-append seen_name found.children found.later)
+    names_from : joined (found.parent ∷ found.following) ≡ map seen_name (found.children ++ found.later)
+    names_from = ap (λ (ns : Names). ns ++ joined found.following) found.own_linked ∙ ap (λ (ns : Names). map seen_name found.children ++ ns) found.later_linked ∙ sym (map-append seen_name found.children found.later)
 
     home : page_of t.table found.parent.pid ≡ Some (Index found.parent.page)
     home =
         let P : Placed ℕ → Type 0 = λ p. page_of t.table p.pid ≡ Some (Index p.page) in
         let rest = (all_apart P s.done s.rest (subst (λ (qs : List (Placed ℕ)). AllByRecursion P qs) s.parts h.parents.home.0)).1 in
-        (all_apart P found.front (found.parent ∷ found.behind) (subst (λ (qs : List (Placed ℕ)). AllByRecursion P qs) found.parts rest)).1.0
+        (all_apart P found.front (found.parent ∷ found.following) (subst (λ (qs : List (Placed ℕ)). AllByRecursion P qs) found.parts rest)).1.0
 
     seen_from : AreSeenIn t.table (found.own ++ found.after) (found.children ++ found.later)
     seen_from = seen_joined t.table found.after found.later found.seen_own found.seen_after
@@ -275,11 +275,11 @@ module _ (t : TreeInMemory) (depth : ℕ) (all_xs all : List SeenPage) (ps : Lis
       parted = record {
         joined = found.seen_parts;
         below = all_lows (λ k. is_below k found.parent.page.low ≡ true) found.seen_before (subst (λ (ns : Names). AreBelow found.parent.page.low (keys_of ns)) found.front_linked (before-joined found.front (Some found.parent.page.low) tiles.0));
-        others = all_lows (λ k. is_below k found.parent.page.low ≡ false) seen_from (subst (λ (ns : Names). AreFrom found.parent.page.low (keys_of ns)) names_from (from-joined found.parent found.behind None tiles.1));
+        others = all_lows (λ k. is_below k found.parent.page.low ≡ false) seen_from (subst (λ (ns : Names). AreFrom found.parent.page.low (keys_of ns)) names_from (from-joined found.parent found.following None tiles.1));
       };
       seen = seen_from;
       linked = found.own_linked;
-      rising = subst (λ (ns : Names). IsRising ns) names_from (rising-joined (found.parent ∷ found.behind) None tiles.1);
+      rising = subst (λ (ns : Names). IsRising ns) names_from (rising-joined (found.parent ∷ found.following) None tiles.1);
     }
 
     in_own : (P : List ℕ → Type 0) → AllByRecursion P (keys_of (entries found.parent)) → P (low_of (f.1).page)
@@ -287,8 +287,8 @@ module _ (t : TreeInMemory) (depth : ℕ) (all_xs all : List SeenPage) (ps : Lis
         let own : AllByRecursion P (lows found.own) = all_lows P found.seen_own (subst (λ (ns : Names). AllByRecursion P (keys_of ns)) found.own_linked a) in
         low_in P found.quiet found.more f.1 (subst (λ (ys : List SeenPage). AllByRecursion P (lows ys)) found.has own)
 
-    is_inside : is_before (next_low found.behind None) (low_of (f.1).page) ≡ true
-    is_inside = in_own (λ k. is_before (next_low found.behind None) k ≡ true) (all_before (next_low found.behind None) (keys_of (entries found.parent)) (entries_before (next_low found.behind None) found.parent tiles.1.0))
+    is_inside : is_before (next_low found.following None) (low_of (f.1).page) ≡ true
+    is_inside = in_own (λ k. is_before (next_low found.following None) k ≡ true) (all_before (next_low found.following None) (keys_of (entries found.parent)) (entries_before (next_low found.following None) found.parent tiles.1.0))
 
     is_from : is_below (low_of (f.1).page) found.parent.page.low ≡ false
     is_from = in_own (λ k. is_below k found.parent.page.low ≡ false) (all_keys_entries (λ k. is_below k found.parent.page.low ≡ false) found.parent.page tiles.1.0.keys.from)
@@ -296,17 +296,17 @@ module _ (t : TreeInMemory) (depth : ℕ) (all_xs all : List SeenPage) (ps : Lis
     -- its parent is the one that is found
     pub is_parent : (pid : ℕ) → pids_for ps low ≡ pid ∷ [] → pid ≡ found.parent.pid
     is_parent pid e =
-        let parts : ps ≡ (s.done ++ found.front) ++ found.parent ∷ found.behind = s.parts ∙ ap (λ (qs : List (Placed ℕ)). s.done ++ qs) found.parts ∙ sym (append_assoc s.done found.front (found.parent ∷ found.behind)) in
-        let inside : is_within found.parent.page.low (next_low found.behind None) low ≡ true = subst (λ (k : List ℕ). is_within found.parent.page.low (next_low found.behind None) k ≡ true) (sym f.4) (within found.parent.page.low (next_low found.behind None) (low_of (f.1).page) is_from is_inside) in
-        let pids : pids_for ps low ≡ found.parent.pid ∷ [] = pid_for low (s.done ++ found.front) found.behind found.parent ps parts h.parents.tiled h.parents.first inside in
+        let parts : ps ≡ (s.done ++ found.front) ++ found.parent ∷ found.following = s.parts ∙ ap (λ (qs : List (Placed ℕ)). s.done ++ qs) found.parts ∙ sym (append_assoc s.done found.front (found.parent ∷ found.following)) in
+        let inside : is_within found.parent.page.low (next_low found.following None) low ≡ true = subst (λ (k : List ℕ). is_within found.parent.page.low (next_low found.following None) k ≡ true) (sym f.4) (within found.parent.page.low (next_low found.following None) (low_of (f.1).page) is_from is_inside) in
+        let pids : pids_for ps low ≡ found.parent.pid ∷ [] = pid_for low (s.done ++ found.front) found.following found.parent ps parts h.parents.tiled h.parents.first inside in
         cc
 
     -- some page has gone by
     pub has_gone : AreSeenIn t.table xs found.later → ⊥
     has_gone seen =
-        let no : AllByRecursion (λ k. is_before (next_low found.behind None) k ≡ false) (lows xs) =
-        all_lows (λ k. is_before (next_low found.behind None) k ≡ false) seen (subst (λ (ns : Names). AllByRecursion (λ k. is_before (next_low found.behind None) k ≡ false) (keys_of ns)) found.later_linked (all_behind found.behind tiles.1.1)) in
-        let here = low_in (λ k. is_before (next_low found.behind None) k ≡ false) f.0 f.2 f.1 (subst (λ (ys : List SeenPage). AllByRecursion (λ k. is_before (next_low found.behind None) k ≡ false) (lows ys)) f.3.parted no) in
+        let no : AllByRecursion (λ k. is_before (next_low found.following None) k ≡ false) (lows xs) =
+        all_lows (λ k. is_before (next_low found.following None) k ≡ false) seen (subst (λ (ns : Names). AllByRecursion (λ k. is_before (next_low found.following None) k ≡ false) (keys_of ns)) found.later_linked (all_after found.following tiles.1.1)) in
+        let here = low_in (λ k. is_before (next_low found.following None) k ≡ false) f.0 f.2 f.1 (subst (λ (ys : List SeenPage). AllByRecursion (λ k. is_before (next_low found.following None) k ≡ false) (lows ys)) f.3.parted no) in
         let inside = is_inside in
         absurd (cc)
 
@@ -314,13 +314,13 @@ module _ (t : TreeInMemory) (depth : ℕ) (all_xs all : List SeenPage) (ps : Lis
     at_next ys more most seen m g =
         let pid : ℕ = found.parent.pid in
         let gs : List (List SeenPage) = rewritten_groups found.children in
-        let rs : List Rewriting = rewriting_families found.behind found.later in
+        let rs : List Rewriting = rewriting_families found.following found.later in
         record {
           done = s.done ++ (found.front ++ found.parent ∷ []);
-          rest = found.behind;
+          rest = found.following;
           left = found.later;
           parts =
-              s.parts ∙ ap (λ (qs : List (Placed ℕ)). s.done ++ qs) (found.parts ∙ sym (append_assoc found.front (found.parent ∷ []) found.behind)) ∙ sym (append_assoc s.done (found.front ++ found.parent ∷ []) found.behind);
+              s.parts ∙ ap (λ (qs : List (Placed ℕ)). s.done ++ qs) (found.parts ∙ sym (append_assoc found.front (found.parent ∷ []) found.following)) ∙ sym (append_assoc s.done (found.front ++ found.parent ∷ []) found.following);
           linked = found.later_linked;
           seen = seen;
           all_parents =

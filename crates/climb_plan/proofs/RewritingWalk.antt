@@ -30,18 +30,18 @@ module _ (t : TreeInMemory) (depth : ℕ) (all_xs all : List SeenPage) (ps : Lis
         (family_of c.parent c.before (c.own ++ c.after) c.children c.later, walk.is_parent t depth all_xs all ps ups h (all_seen again) parents made low here first pid r, walk.family t depth all_xs all ps ups h (all_seen again) parents made low here first)
 
     -- it ends after some page
-    pub some_behind : (behind : ℕ) → OfFamily t.table (all_seen again) pid (λ k. AreSeenIn t.table (all_seen (drop behind again)) k.later) → 0 < behind
+    pub some_after : (following : ℕ) → OfFamily t.table (all_seen again) pid (λ k. AreSeenIn t.table (all_seen (drop following again)) k.later) → 0 < following
     unfolding next_family
-    some_behind zero k =
+    some_after zero k =
         let n = next_family in
         absurd (walk.has_gone t depth all_xs all ps ups h (all_seen again) parents made low here first (k n.0 n.1 n.2))
-    some_behind (suc n) k = omega arith
+    some_after (suc n) k = omega arith
 
-    pub left_behind : (behind : ℕ) (more : List (ℕ × ℕ)) (most : List (List SeenPage)) → OfFamily t.table (all_seen again) pid (λ k. AreSeenIn t.table (all_seen (drop behind again)) k.later)
-        → OfFamily t.table (all_seen again) pid (λ k. more ≡ parents ++ rewriting_counts (with_rewriting k.parent.pid (rewritten_groups k.children) [])) → OfFamily t.table (all_seen again) pid (λ k. most ≡ made ++ rewritten_groups k.children) → IsLeft t.table (all_seen (drop (done + behind) seen)) all ps more most
+    pub undrawn : (following : ℕ) (more : List (ℕ × ℕ)) (most : List (List SeenPage)) → OfFamily t.table (all_seen again) pid (λ k. AreSeenIn t.table (all_seen (drop following again)) k.later)
+        → OfFamily t.table (all_seen again) pid (λ k. more ≡ parents ++ rewriting_counts (with_rewriting k.parent.pid (rewritten_groups k.children) [])) → OfFamily t.table (all_seen again) pid (λ k. most ≡ made ++ rewritten_groups k.children) → IsLeft t.table (all_seen (drop (done + following) seen)) all ps more most
     unfolding next_family
-    left_behind behind more most k m g =
+    undrawn following more most k m g =
         let n = next_family in
-        let there : drop behind again ≡ drop (done + behind) seen = ap (λ (xs : List Seen). drop behind xs) a ∙ drop_further seen done behind in
+        let there : drop following again ≡ drop (done + following) seen = ap (λ (xs : List Seen). drop following xs) a ∙ drop_further seen done following in
         subst (λ (xs : List Seen). IsLeft t.table (all_seen xs) all ps more most) there
-        (walk.at_next t depth all_xs all ps ups h (all_seen again) parents made low here first (all_seen (drop behind again)) more most (k n.0 n.1 n.2) (m n.0 n.1 n.2) (g n.0 n.1 n.2))
+        (walk.at_next t depth all_xs all ps ups h (all_seen again) parents made low here first (all_seen (drop following again)) more most (k n.0 n.1 n.2) (m n.0 n.1 n.2) (g n.0 n.1 n.2))

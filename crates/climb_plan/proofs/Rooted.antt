@@ -31,7 +31,7 @@ use Rattle.climb_plan.specs.Rewriting.{named_pages}
 use Rattle.climb_plan.specs.Installing.{AreAway, AreDrawn, AreGrown, put_under}
 use Rattle.climb_plan.proofs.InstalledPages.{at_among}
 use Rattle.climb_plan.proofs.Installing.{tree_under}
-use Rattle.climb_plan.proofs.InstallingLemmas.{AreUnder, home-put_under, others-put_under, rising-put_under, logged-put_under, none_joined, none_each, none_behind, each_other}
+use Rattle.climb_plan.proofs.InstallingLemmas.{AreUnder, home-put_under, others-put_under, rising-put_under, logged-put_under, none_joined, none_each, none_after, each_other}
 
 -- ---- places are given up
 
@@ -346,7 +346,7 @@ module _ (s : Settings) (ns : List Name) (pages : List PageOfKind) (fresh : List
         let under : AreUnder u fresh pages = home-put_under over.table fresh pages distinct_fresh as_pages in
         let own : AreUnder u (pids up) (map index_of_base (cut s.fan (names ps))) =
         subst (λ (x : List Name). AreUnder u (pids up) (map index_of_base (cut s.fan x))) (sym named) (subst (λ (qs : List PageOfKind). AreUnder u (pids up) qs) is.pages_are (subst (λ (ks : List ℕ). AreUnder u ks pages) fresh_up under)) in
-        let apart : AllByRecursion (λ q. is_among q (pids up) ≡ false) (flat_map pids above) = none_behind (pids up) (flat_map pids above) up_distinct in
+        let apart : AllByRecursion (λ q. is_among q (pids up) ≡ false) (flat_map pids above) = none_after (pids up) (flat_map pids above) up_distinct in
         let put_apart : (q : ℕ) → is_among q (pids up) ≡ false → place_of u q ≡ place_of over.table q = λ q h. others-put_under q over.table fresh pages (ap (λ (ks : List ℕ). is_among q ks) fresh_up ∙ h) in
         let same : AllByRecursion (λ q. place_of u q ≡ place_of over.table q) (flat_map pids above) = each_other (λ q. is_among q (pids up) ≡ false) (λ q. place_of u q ≡ place_of over.table q) (flat_map pids above) put_apart apart in
         record {

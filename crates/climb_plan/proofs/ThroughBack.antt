@@ -32,7 +32,7 @@ use Rattle.climb_plan.proofs.ChangedRooms.{shifted, given_back}
 use Rattle.climb_plan.proofs.InstallingLemmas.{away-all_taken, put_back_is_before}
 use Rattle.climb_plan.proofs.ThroughClimb.{children_here}
 use Rattle.climb_plan.proofs.ThroughGroups.{draw_all, fresh_numbers}
-use Rattle.climb_plan.proofs.ToldRuns.{all_told, terms_told}
+use Rattle.climb_plan.proofs.TermRuns.{all_termed, all_terms_given}
 use Rattle.climb_plan.proofs.LevelParts.{level_of}
 
 -- what is held of parents, and their pages as they were
@@ -75,7 +75,7 @@ module _ {V : Type 0} (s : Settings) (fan : 1 < s.fan) (of : Page V → PageOfKi
   parents_in_rooms : AreHome Index rooms_here (parents_of (changing_families ps ws))
   parents_in_rooms =
       let never : AllByRecursion (IsNeverUnused used) (pids ps) = (all_apart (IsNeverUnused used) (pids ps) (flat_map pids ups) (all_apart (IsNeverUnused used) (pids (placed_of ws)) (all_pids ps ups) h.old).1).0 in
-      all_told (λ p. place_of rooms_here p.pid ≡ Some (Some (Index p.page))) (terms_told s used i ps ws) (each ps never h.home.0)
+      all_termed (λ p. place_of rooms_here p.pid ≡ Some (Some (Index p.page))) (all_terms_given s used i ps ws) (each ps never h.home.0)
     where
       each : (qs : List (Placed ℕ)) → AllByRecursion (IsNeverUnused used) (pids qs) → AreHome Index t.table qs → AreHome Index rooms_here qs
       each [] o k = tt

@@ -41,7 +41,7 @@ use Rattle.climb_plan.proofs.InstalledPages.{AreFreshFor, distinct_apart, at_amo
 use Rattle.climb_plan.proofs.Installing.{home_apart, distinct_first}
 use Rattle.climb_plan.proofs.InstallingLemmas.{not_among, others-all_come_home, home-all_come_home, rising-all_come_home, logged-all_come_home}
 use Rattle.climb_plan.proofs.ThroughGroups.{fresh_numbers, groups_can_be_installed, groups_installed, groups_rising, groups_logged}
-use Rattle.climb_plan.proofs.ToldRuns.{all_told, terms_told}
+use Rattle.climb_plan.proofs.TermRuns.{all_termed, all_terms_given}
 use Rattle.climb_plan.proofs.Installed.{IsInstalled, worked_pids, replaced_among}
 use Rattle.climb_plan.proofs.LevelParts.{level_of}
 
@@ -163,7 +163,7 @@ module _ {V : Type 0} (s : Settings) (of : Page V → PageOfKind) (t : TreeInMem
 
   taken_are_parents : AllByRecursion (λ k. is_among k (pids ps) ≡ true) taken_here
   taken_are_parents =
-      to_parents (λ k. is_among k (pids ps) ≡ true) (changing_families ps ws) (all_told (λ p. is_among p.pid (pids ps) ≡ true) (terms_told s used i ps ws) (by_pid (λ k. is_among k (pids ps) ≡ true) ps (all_among (pids ps))))
+      to_parents (λ k. is_among k (pids ps) ≡ true) (changing_families ps ws) (all_termed (λ p. is_among p.pid (pids ps) ≡ true) (all_terms_given s used i ps ws) (by_pid (λ k. is_among k (pids ps) ≡ true) ps (all_among (pids ps))))
 
   not_taken : (n : ℕ) → is_among n (pids ps) ≡ false → is_among n taken_here ≡ false
   not_taken n e =

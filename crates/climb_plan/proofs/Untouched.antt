@@ -80,11 +80,11 @@ module _ {V : Type 0} where
   -- the same of all families of a level
   record AreAllIdle (css : List (List (Change V))) (fs : List (List (Placed V))) : Type 0 where
     pub new : all_new css ≡ flat fs
-    pub told : AllByRecursion (λ run. run ≡ []) (map terms css)
+    pub termed : AllByRecursion (λ run. run ≡ []) (map terms css)
     pub outdated : all_outdated css ≡ []
 
   idle_families : (s : Settings) (used : List ℕ) (i : ℕ) (fs : List (List (Placed V))) → AreAllIdle (family_changes s used i (map all_same fs)) fs
-  idle_families s used i [] = record { new = refl; told = tt; outdated = refl }
+  idle_families s used i [] = record { new = refl; termed = tt; outdated = refl }
   idle_families s used i (f ∷ fs) =
       let cs : List (Change V) = changes s used i (groups is_thin (all_same f)) in
       let here : AreIdle cs f = idle s used i f in
@@ -93,7 +93,7 @@ module _ {V : Type 0} where
       let later : List (List (Change V)) = family_changes s used j (map all_same fs) in
       record {
         new = ap (λ (ps : List (Placed V)). ps ++ all_new later) here.new ∙ ap (λ (ps : List (Placed V)). f ++ ps) rest.new;
-        told = (no_terms cs here.fresh here.freed, rest.told);
+        termed = (no_terms cs here.fresh here.freed, rest.termed);
         outdated = ap (λ (ns : List ℕ). ns ++ all_outdated later) here.outdated ∙ rest.outdated;
       }
 
@@ -123,7 +123,7 @@ climb_same {V} s used i ps (parents ∷ ups) o =
     let count : length (joined parents) ≡ length ps = ap (λ (ns : Names). length ns) o.0.linked ∙ length-map ps name in
     let level : all_new css ≡ ps = r.new ∙ families_by_length parents ps count in
     let j : ℕ = i + length (all_fresh css) in
-    let vs : worked_parents s parents (map terms css) ≡ all_same parents = parents_same s parents (map terms css) r.told in
+    let vs : worked_parents s parents (map terms css) ≡ all_same parents = parents_same s parents (map terms css) r.termed in
     let up : climb s used j (worked_parents s parents (map terms css)) ups ≡ as_they_were parents ups =
     ap (λ (ws : List (Worked ℕ)). climb s used j ws ups) vs ∙ climb_same s used j parents ups o.1 in
     let nothing : all_outdated css ≡ [] = r.outdated in

@@ -39,7 +39,7 @@ page_or_none None = Leaf (record { low = []; layers = record { runs = []; base =
 page_or_none (Some p) = p
 
 abbrev pub parent_held : Mapping PageOfKind → ℕ × Changes ℕ → TermHeld
-parent_held t told = record { page = page_or_none (page_of t told.0); pid = told.0; terms = told.1 }
+parent_held t termed = record { page = page_or_none (page_of t termed.0); pid = termed.0; terms = termed.1 }
 
 -- these pids have index pages at home, each another
 abbrev pub IsIndexAt : Option PageOfKind → Type 0

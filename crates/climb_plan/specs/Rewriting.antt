@@ -254,12 +254,12 @@ terms_by_parent [] fs rs = []
 terms_by_parent (c ∷ cs) fs rs = (c.0, terms_of (take c.1 fs) (take c.1 rs)) ∷ terms_by_parent cs (drop c.1 fs) (drop c.1 rs)
 
 -- the parents that get terms
-abbrev pub told_pids : List (ℕ × ℕ) → List Names → List Remade → List ℕ
-told_pids cs fs rs = map (λ t. t.0) (terms_by_parent cs fs rs)
+abbrev pub term_parents : List (ℕ × ℕ) → List Names → List Remade → List ℕ
+term_parents cs fs rs = map (λ t. t.0) (terms_by_parent cs fs rs)
 
 -- there are as many groups as the parents' numbers, and terms can be made of their names, since these rise
-abbrev pub CanBeTold : List (ℕ × ℕ) → List Names → List Remade → Type 0
-CanBeTold [] fs rs = ⊤
-CanBeTold (c ∷ cs) fs rs =
+abbrev pub CanTakeTerms : List (ℕ × ℕ) → List Names → List Remade → Type 0
+CanTakeTerms [] fs rs = ⊤
+CanTakeTerms (c ∷ cs) fs rs =
     (c.1 ≤ length fs) × (c.1 ≤ length rs) × IsRising (flat (take c.1 fs)) × IsRising (flat_map fresh_names (take c.1 rs))
-    × CanBeTold cs (drop c.1 fs) (drop c.1 rs)
+    × CanTakeTerms cs (drop c.1 fs) (drop c.1 rs)

@@ -5,7 +5,7 @@ ghost use Rattle.keys.specs.Order.{IsRising};
 ghost use Rattle.mapping.specs.Proper.{AreRisingPids};
 ghost use Rattle.mapping.specs.Table.{pids_in_use, with_rooms, fresh_pids, freed_all, IsOldWithoutPlace};
 ghost use Rattle.split_plan.specs.Pieces.{pages_lent};
-ghost use Rattle.climb_plan.specs.Rewriting.{seen_name, all_seen, groups_seen, all_names, cut_group, CanBeCut, joined_groups, freed_names, fresh_names, named_pages, HaveSome, with_numbers, numbers, terms_of, CanBeTold, terms_by_parent};
+ghost use Rattle.climb_plan.specs.Rewriting.{seen_name, all_seen, groups_seen, all_names, cut_group, CanBeCut, joined_groups, freed_names, fresh_names, named_pages, HaveSome, with_numbers, numbers, terms_of, CanTakeTerms, terms_by_parent};
 ghost use Rattle.climb_plan.specs.Installing.{AreAway, DrawsFrom};
 
 use crate::seen::Seen;
@@ -233,7 +233,7 @@ pub(crate) fn all_terms(
     freed: Vec<Vec<Name>>,
     all: &[Rewritten],
 ) -> Result<Vec<(Pid, Run<Pid, Global>)>, AllocError>
-    requires { CanBeTold parents.now (all_names freed.items) all.now }
+    requires { CanTakeTerms parents.now (all_names freed.items) all.now }
     ensures { IfOk result (λ runs. runs.items ≡
         terms_by_parent parents.now (all_names freed.items) all.now) }
 {

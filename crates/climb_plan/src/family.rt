@@ -102,9 +102,9 @@ fn add_family<'a>(
     rewrites: &mut ToRewrite<'a>,
 ) -> Result<usize, AllocError>
     requires { SomeFamily tree.now.table (all_seen seen.now) parent }
-    ensures most { IfOk result (λ behind. behind ≤ length seen.now) }
-    ensures later { IfOk result (λ behind. OfFamily tree.now.table (all_seen seen.now) parent
-        (λ f. AreSeenIn tree.now.table (all_seen (drop behind seen.now)) f.later)) }
+    ensures most { IfOk result (λ following. following ≤ length seen.now) }
+    ensures later { IfOk result (λ following. OfFamily tree.now.table (all_seen seen.now) parent
+        (λ f. AreSeenIn tree.now.table (all_seen (drop following seen.now)) f.later)) }
     ensures parents { OnOk result (OfFamily tree.now.table (all_seen seen.now) parent
         (λ f. rewrites.new.parents.items ≡ rewrites.old.parents.items ++
         rewriting_counts (with_rewriting f.parent.pid (rewritten_groups f.children) []))) }
@@ -112,14 +112,14 @@ fn add_family<'a>(
         (λ f. groups_seen rewrites.new.groups.items ≡
         groups_seen rewrites.old.groups.items ++ rewritten_groups f.children)) }
 {
-    let (children, behind) = family(alloc, tree, parent, seen)?;
+    let (children, following) = family(alloc, tree, parent, seen)?;
     let before = rewrites.groups.len();
     add_groups(alloc, &children, &mut rewrites.groups)?;
     let count = rewrites.groups.len() - before;
     if count > 0 {
         rewrites.parents.push((parent, count))?;
     }
-    Ok(behind)
+    Ok(following)
 }
 
 // The parent's children as they are seen now, and the place after the last of these pages that is one.

@@ -28,22 +28,22 @@ pub(crate) fn work_parents(
     alloc: Global,
     settings: &Settings,
     tree: &mut Tree<Global>,
-    told: Vec<(Pid, Run<Pid, Global>)>,
+    termed: Vec<(Pid, Run<Pid, Global>)>,
 ) -> Result<Vec<TermDone>, AllocError>
-    requires { AreParentsHome tree.old.table (map (λ t. t.0) told.items) }
+    requires { AreParentsHome tree.old.table (map (λ t. t.0) termed.items) }
     ensures made { IfOk result (λ dones. map (λ d. d.made) dones.items ≡
-        map (λ t. index_made settings.now (parent_held tree.old.table t)) told.items) }
+        map (λ t. index_made settings.now (parent_held tree.old.table t)) termed.items) }
     ensures held { IfOk result (λ dones. map (λ d. d.held) dones.items ≡
-        map (parent_held tree.old.table) told.items) }
+        map (parent_held tree.old.table) termed.items) }
     ensures taken { OnOk result (tree.new ≡
-        record tree.old { table = all_taken tree.old.table (map (λ t. t.0) told.items) }) }
+        record tree.old { table = all_taken tree.old.table (map (λ t. t.0) termed.items) }) }
     ensures err { AreRisingPids (pids_in_use tree.old.table) → OnErr result (tree.new ≡ tree.old) }
 {
     let work = TermWork {
         alloc,
         settings: *settings,
     };
-    let jobs = take_all(alloc, tree, told)?;
+    let jobs = take_all(alloc, tree, termed)?;
     match run_round(rt, crew, gate, &work, jobs) {
         Ok(dones) => Ok(dones),
         Err(jobs) => {
@@ -57,17 +57,17 @@ pub(crate) fn work_parents(
 fn take_all(
     alloc: Global,
     tree: &mut Tree<Global>,
-    told: Vec<(Pid, Run<Pid, Global>)>,
+    termed: Vec<(Pid, Run<Pid, Global>)>,
 ) -> Result<Vec<TermJob>, AllocError>
-    requires { AreParentsHome tree.old.table (map (λ t. t.0) told.items) }
+    requires { AreParentsHome tree.old.table (map (λ t. t.0) termed.items) }
     ensures held { IfOk result (λ jobs. map term_held_of jobs.items ≡
-        map (parent_held tree.old.table) told.items) }
+        map (parent_held tree.old.table) termed.items) }
     ensures taken { OnOk result (tree.new ≡
-        record tree.old { table = all_taken tree.old.table (map (λ t. t.0) told.items) }) }
+        record tree.old { table = all_taken tree.old.table (map (λ t. t.0) termed.items) }) }
     ensures err { OnErr result (tree.new ≡ tree.old) }
 {
-    let mut jobs = Vec::with_capacity(alloc, told.len())?;
-    for (pid, terms) in told {
+    let mut jobs = Vec::with_capacity(alloc, termed.len())?;
+    for (pid, terms) in termed {
         jobs.push_reserved(TermJob {
             page: tree.take(pid),
             pid,

@@ -5,7 +5,7 @@ ghost use Rattle.mapping.specs.Table.{pids_in_use};
 ghost use Rattle.page_runs.specs.TermWork.{index_made};
 ghost use Rattle.climb_plan.specs.Installing.{all_taken, AreParentsHome, parent_held};
 ghost use Rattle.climb_plan.specs.LevelSteps.{SomeChildren, CutsFrom, ChangesFrom};
-ghost use Rattle.climb_plan.specs.Rewriting.{all_names, told_pids, terms_by_parent, CanBeTold};
+ghost use Rattle.climb_plan.specs.Rewriting.{all_names, term_parents, terms_by_parent, CanTakeTerms};
 
 use crate::change::{Rewritten, all_freed, all_terms, cut_all, draw_all, free_drawn};
 use crate::family::rewrites;
@@ -77,9 +77,9 @@ fn tell_parents(
     groups: &[Rewritten],
 ) -> Result<Vec<TermDone>, AllocError>
     requires rising { AreRisingPids (pids_in_use tree.old.table) }
-    requires names { CanBeTold parents.now (all_names freed.items) groups.now }
+    requires names { CanTakeTerms parents.now (all_names freed.items) groups.now }
     requires home { AreParentsHome tree.old.table
-        (told_pids parents.now (all_names freed.items) groups.now) }
+        (term_parents parents.now (all_names freed.items) groups.now) }
     ensures made { IfOk result (λ dones. map (λ d. d.made) dones.items ≡
         map (λ t. index_made settings.now (parent_held tree.old.table t))
         (terms_by_parent parents.now (all_names freed.items) groups.now)) }
@@ -88,12 +88,12 @@ fn tell_parents(
         (terms_by_parent parents.now (all_names freed.items) groups.now)) }
     ensures taken { OnOk result (tree.new ≡ record tree.old {
       table = all_taken tree.old.table
-          (told_pids parents.now (all_names freed.items) groups.now);
+          (term_parents parents.now (all_names freed.items) groups.now);
     }) }
     ensures err { OnErr result (tree.new ≡ tree.old) }
 {
-    let told = all_terms(alloc, parents, freed, groups)?;
-    work_parents(rt, crew, gate, alloc, settings, tree, told)
+    let termed = all_terms(alloc, parents, freed, groups)?;
+    work_parents(rt, crew, gate, alloc, settings, tree, termed)
 }
 
 // The groups of a level that are rewritten, cut.

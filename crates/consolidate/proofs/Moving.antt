@@ -10,7 +10,7 @@ use Rattle.keys.specs.OrderedMap.{value_at}
 use Rattle.keys.proofs.MapLemmas.{order_itself}
 use Rattle.consolidate.specs.PutBack.{put_back}
 use Rattle.delta_chain.specs.Exchange.{exchanged_at, exchanged}
-use Rattle.delta_chain.specs.Layers.{Layers, said_or, held_under, holds, entries_of, AllRise, IsInOrder}
+use Rattle.delta_chain.specs.Layers.{Layers, change_or, held_under, holds, entries_of, AllRise, IsInOrder}
 use Rattle.delta_chain.proofs.Exchanging.{with_pair-same, exchanged-back, held-base, holds-exchanged_elsewhere, keys-exchanged_at, item_there}
 use Rattle.delta_chain.proofs.LayerLemmas.{rising-entries_of, value_at-entries_of}
 use Rattle.delta_chain.proofs.Places.{drop_pair}
@@ -142,9 +142,9 @@ module _ {V : Type 0} where
   left_one_fewer was now all bs left at k w b e h t n i j =
       let key : slice_get (keys_of all) at ≡ Some k = rw (← h, ← keys-exchanged_at bs at b) i in
       let first : take (suc at) bs ≡ take (suc at) all = rw (← e) t in
-      let behind : now ≡ put_back was (drop (suc at) all) = rw (← e) n in
+      let following : now ≡ put_back was (drop (suc at) all) = rw (← e) n in
       let value = same_value bs all at w first j in
-      (one_fewer bs all at b first, ap (λ (p : Layers V). exchanged p k w) behind ∙ back_one was all at k w key value)
+      (one_fewer bs all at b first, ap (λ (p : Layers V). exchanged p k w) following ∙ back_one was all at k w key value)
 
   -- ---- cells that were copied
 
@@ -155,7 +155,7 @@ module _ {V : Type 0} where
   same_base_by None k v base e r h = absurd (cc)
   same_base_by (Some w) k v base e r h = rw e (ap (λ (m : List (List ℕ × V)). record { runs = []; base = m }) (with_pair-same base k v r (e ∙ h)))
 
-  same_run_by : (o : Option (Option V)) (k : List ℕ) (v : V) (run : List (List ℕ × Option V)) (p : Layers V) → value_at k run ≡ o → IsRising run → said_or o (holds p k) ≡ Some v → (holds p k ≡ Some v → exchanged p k v ≡ p) → exchanged (Over run p) k v ≡ Over run p
+  same_run_by : (o : Option (Option V)) (k : List ℕ) (v : V) (run : List (List ℕ × Option V)) (p : Layers V) → value_at k run ≡ o → IsRising run → change_or o (holds p k) ≡ Some v → (holds p k ≡ Some v → exchanged p k v ≡ p) → exchanged (Over run p) k v ≡ Over run p
   same_run_by None k v run p e r h ih = rw e (ap (λ (x : Layers V). Over run x) (ih h))
   same_run_by (Some None) k v run p e r h ih = absurd (cc)
   same_run_by (Some (Some w)) k v run p e r h ih =

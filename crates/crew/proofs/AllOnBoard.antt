@@ -23,12 +23,12 @@ pub board_more : {J : Type 0} (board : List (Range ℕ)) (first len i : ℕ) (pi
     → map jobs_in (board ++ record { start = first; end = first + len } ∷ []) ++ numbered_pieces (first + len) (map (λ piece. forgotten piece.items) (drop (i + 1) pieces))
     ≡ map jobs_in board ++ numbered_pieces first (map (λ piece. forgotten piece.items) (drop i pieces))
 board_more board first len i pieces piece there is e =
-    let behind = map (λ piece. forgotten piece.items) (drop (i + 1) pieces) in
-    let next : numbered_pieces first (map (λ piece. forgotten piece.items) (drop i pieces)) ≡ numbered first (forgotten piece.items) ∷ numbered_pieces (first + len) behind =
+    let following = map (λ piece. forgotten piece.items) (drop (i + 1) pieces) in
+    let next : numbered_pieces first (map (λ piece. forgotten piece.items) (drop i pieces)) ≡ numbered first (forgotten piece.items) ∷ numbered_pieces (first + len) following =
     at_drop_more (λ pieces. numbered_pieces first (map (λ piece. forgotten piece.items) pieces)) pieces i piece there
-    ∙ ap (λ piece. numbered first (forgotten piece.items) ∷ numbered_pieces (first + length (forgotten piece.items)) behind) (sym is)
-    ∙ ap (λ n. numbered first (forgotten piece.items) ∷ numbered_pieces (first + n) behind) (length-map piece.items _ ∙ sym e) in
-    ap (λ all. all ++ numbered_pieces (first + len) behind) (map_push jobs_in board (record { start = first; end = first + len }))
-    ∙ append_assoc (map jobs_in board) (jobs_in (record { start = first; end = first + len }) ∷ []) (numbered_pieces (first + len) behind)
-    ∙ ap (λ jobs. map jobs_in board ++ jobs ∷ numbered_pieces (first + len) behind) (jobs_of first len piece.items e)
+    ∙ ap (λ piece. numbered first (forgotten piece.items) ∷ numbered_pieces (first + length (forgotten piece.items)) following) (sym is)
+    ∙ ap (λ n. numbered first (forgotten piece.items) ∷ numbered_pieces (first + n) following) (length-map piece.items _ ∙ sym e) in
+    ap (λ all. all ++ numbered_pieces (first + len) following) (map_push jobs_in board (record { start = first; end = first + len }))
+    ∙ append_assoc (map jobs_in board) (jobs_in (record { start = first; end = first + len }) ∷ []) (numbered_pieces (first + len) following)
+    ∙ ap (λ jobs. map jobs_in board ++ jobs ∷ numbered_pieces (first + len) following) (jobs_of first len piece.items e)
     ∙ ap (λ rest. map jobs_in board ++ rest) (sym next)

@@ -13,7 +13,7 @@ use Rattle.claim_board.specs.declared.draw.Pass.{Pass}
 use Rattle.crew.specs.declared.Work as Work
 use Rattle.crew.specs.declared.home.Worked.{Worked}
 use Rattle.crew.specs.declared.drawn.Hand.{Hand}
-use Rattle.crew.specs.Home.{placed, left_behind, origins, IsMade, home_origins, IsMadeHome, IsWorkedOf}
+use Rattle.crew.specs.Home.{placed, undrawn, origins, IsMade, home_origins, IsMadeHome, IsWorkedOf}
 use Rattle.crew.specs.Drawn.{held_in, AreAccepted, IsHandOf}
 use Rattle.crew.specs.Pieces.{jobs_of}
 
@@ -163,23 +163,23 @@ module _ {W J D : Type 0} (g : Work.Ghosts W J D) where
   -- ---- what nobody drew
 
   left_fits : (pieces left : List (Vec J Global)) (from : ℕ) → ((n : ℕ) → slice_get left n ≡ slice_get pieces (from + n))
-      → AllByRecursion (λ x. slice_get (map (held_in g) pieces) x.number ≡ Some (origins g x.made)) (left_behind {D = D} from left)
+      → AllByRecursion (λ x. slice_get (map (held_in g) pieces) x.number ≡ Some (origins g x.made)) (undrawn {D = D} from left)
   left_fits pieces [] from same = tt
   left_fits pieces (piece ∷ left) from same = (
     get_map (held_in g) pieces from piece (ap (slice_get pieces) (let e : from ≡ from + zero = omega arith in e) ∙ sym (same zero)),
     left_fits pieces left (from + 1) (λ n. same (suc n) ∙ ap (slice_get pieces) (let e : from + suc n ≡ from + 1 + n = omega arith in e)),
   )
 
-  left_made : (w : W) (left : List (Vec J Global)) (from : ℕ) → AllByRecursion (λ x. IsMade g w x.made) (left_behind {D = D} from left)
+  left_made : (w : W) (left : List (Vec J Global)) (from : ℕ) → AllByRecursion (λ x. IsMade g w x.made) (undrawn {D = D} from left)
   left_made w [] from = tt
   left_made w (piece ∷ left) from = (tt, left_made w left (from + 1))
 
-  left_counts : (left : List (Vec J Global)) (from n : ℕ) → from ≤ n → n < from + length left → 0 < times n (map (λ x. x.number) (left_behind {D = D} from left))
+  left_counts : (left : List (Vec J Global)) (from n : ℕ) → from ≤ n → n < from + length left → 0 < times n (map (λ x. x.number) (undrawn {D = D} from left))
   left_counts [] from n a b = let no : ⊥ = omega arith in absurd no
   left_counts (piece ∷ left) from n a b = left_or from n (from == n) refl (λ h. left_counts left (from + 1) n h (omega arith)) a
     where
-      left_or : (from n : ℕ) (t : Bool) → (from == n) ≡ t → (from + 1 ≤ n → 0 < times n (map (λ x. x.number) (left_behind {D = D} (from + 1) left))) → from ≤ n
-          → 0 < (if t then 1 else 0) + times n (map (λ x. x.number) (left_behind {D = D} (from + 1) left))
+      left_or : (from n : ℕ) (t : Bool) → (from == n) ≡ t → (from + 1 ≤ n → 0 < times n (map (λ x. x.number) (undrawn {D = D} (from + 1) left))) → from ≤ n
+          → 0 < (if t then 1 else 0) + times n (map (λ x. x.number) (undrawn {D = D} (from + 1) left))
       left_or from n true e later a = omega arith
       left_or from n false e later a = let apart : from ≢ n = grind (arith, nat_tests) in let h = later (omega arith) in omega arith
 
@@ -266,13 +266,13 @@ module _ {W J D : Type 0} (g : Work.Ghosts W J D) where
         let n = closes.within in let e = ap length closes.left_are in
         omega (arith, length-drop (length (drawn_by_all (map (λ hand. hand.pass) hands))) (pieces_of board))
 
-    behind : (n : ℕ) → slice_get left n ≡ slice_get (pieces_of board) (length (drawn_by_all (map (λ hand. hand.pass) hands)) + n)
-    behind n = ap (λ xs. slice_get xs n) closes.left_are ∙ get_drop (pieces_of board) (length (drawn_by_all (map (λ hand. hand.pass) hands))) n
+    following : (n : ℕ) → slice_get left n ≡ slice_get (pieces_of board) (length (drawn_by_all (map (λ hand. hand.pass) hands)) + n)
+    following n = ap (λ xs. slice_get xs n) closes.left_are ∙ get_drop (pieces_of board) (length (drawn_by_all (map (λ hand. hand.pass) hands))) n
 
     -- each number is one of them
     drawn_or_left : (n : ℕ) (b : Bool) → nat_lt n (length (drawn_by_all (map (λ hand. hand.pass) hands))) ≡ b → n < length (pieces_of board)
         → times n (drawn_by_all (map (λ hand. hand.pass) hands)) ≡ (if b then 1 else 0)
-        → 0 < times n (drawn_by_all (map (λ hand. hand.pass) hands)) + times n (map (λ x. x.number) (left_behind {D = D} (length (drawn_by_all (map (λ hand. hand.pass) hands))) left))
+        → 0 < times n (drawn_by_all (map (λ hand. hand.pass) hands)) + times n (map (λ x. x.number) (undrawn {D = D} (length (drawn_by_all (map (λ hand. hand.pass) hands))) left))
     drawn_or_left n true e h once = omega arith
     drawn_or_left n false e h once =
         let past : length (drawn_by_all (map (λ hand. hand.pass) hands)) ≤ n = grind (arith, nat_tests) in
@@ -280,37 +280,37 @@ module _ {W J D : Type 0} (g : Work.Ghosts W J D) where
         let here = left_counts left (length (drawn_by_all (map (λ hand. hand.pass) hands))) n past (omega arith) in omega arith
 
     is_among : (n : ℕ) → n < length (pieces_of board)
-        → 0 < times n (map (λ x. x.number) (flat_map (λ hand. hand.worked.items) hands ++ left_behind (length (drawn_by_all (map (λ hand. hand.pass) hands))) left))
+        → 0 < times n (map (λ x. x.number) (flat_map (λ hand. hand.worked.items) hands ++ undrawn (length (drawn_by_all (map (λ hand. hand.pass) hands))) left))
     is_among n h =
         let drawn = drawn_by_all (map (λ hand. hand.pass) hands) in
         let either = drawn_or_left n (nat_lt n (length drawn)) refl h (closes.once n) in
-        let ns = map-append (λ x. x.number) (flat_map (λ hand. hand.worked.items) hands) (left_behind (length drawn) left) in
-        let counts : times n (map (λ x. x.number) (flat_map (λ hand. hand.worked.items) hands ++ left_behind (length drawn) left))
-        ≡ times n drawn + times n (map (λ x. x.number) (left_behind {D = D} (length drawn) left))
-        = ap (times n) ns ∙ ap (λ xs. times n (xs ++ map (λ x. x.number) (left_behind {D = D} (length drawn) left))) (hands_numbers w board hands are)
-        ∙ times_append n drawn (map (λ x. x.number) (left_behind {D = D} (length drawn) left)) in
+        let ns = map-append (λ x. x.number) (flat_map (λ hand. hand.worked.items) hands) (undrawn (length drawn) left) in
+        let counts : times n (map (λ x. x.number) (flat_map (λ hand. hand.worked.items) hands ++ undrawn (length drawn) left))
+        ≡ times n drawn + times n (map (λ x. x.number) (undrawn {D = D} (length drawn) left))
+        = ap (times n) ns ∙ ap (λ xs. times n (xs ++ map (λ x. x.number) (undrawn {D = D} (length drawn) left))) (hands_numbers w board hands are)
+        ∙ times_append n drawn (map (λ x. x.number) (undrawn {D = D} (length drawn) left)) in
         rw counts either
 
     -- what is placed, from empty places on
     pub all_home : map (home_origins g) (placed (placed (replicate (length (pieces_of board)) None) (flat_map (λ hand. hand.worked.items) hands))
-        (left_behind (length (drawn_by_all (map (λ hand. hand.pass) hands))) left)) ≡ map (held_in g) (pieces_of board)
+        (undrawn (length (drawn_by_all (map (λ hand. hand.pass) hands))) left)) ≡ map (held_in g) (pieces_of board)
     all_home =
         let from = length (drawn_by_all (map (λ hand. hand.pass) hands)) in
         let none = replicate (length (pieces_of board)) None in
         let worked = flat_map (λ hand. hand.worked.items) hands in
         let len : length none ≡ length (map (held_in g) (pieces_of board)) = length-replicate (length (pieces_of board)) None ∙ sym (length-map (pieces_of board) (held_in g)) in
-        ap (map (home_origins g)) (placed_append none worked (left_behind from left))
-        ∙ placed_right (map (held_in g) (pieces_of board)) (worked ++ left_behind from left) none len
-        (all_append (λ x. slice_get (map (held_in g) (pieces_of board)) x.number ≡ Some (origins g x.made)) worked (left_behind from left)
-        (splits w (pieces_of board) worked (hands_worked w board hands are)).0 (left_fits (pieces_of board) left from behind))
+        ap (map (home_origins g)) (placed_append none worked (undrawn from left))
+        ∙ placed_right (map (held_in g) (pieces_of board)) (worked ++ undrawn from left) none len
+        (all_append (λ x. slice_get (map (held_in g) (pieces_of board)) x.number ≡ Some (origins g x.made)) worked (undrawn from left)
+        (splits w (pieces_of board) worked (hands_worked w board hands are)).0 (left_fits (pieces_of board) left from following))
         (λ n h. inl (is_among n (omega (arith, length-map (pieces_of board) (held_in g)))))
 
     pub all_made : AllByRecursion (IsMadeHome g w) (placed (placed (replicate (length (pieces_of board)) None) (flat_map (λ hand. hand.worked.items) hands))
-        (left_behind (length (drawn_by_all (map (λ hand. hand.pass) hands))) left))
+        (undrawn (length (drawn_by_all (map (λ hand. hand.pass) hands))) left))
     all_made =
         let from = length (drawn_by_all (map (λ hand. hand.pass) hands)) in
         let none = replicate (length (pieces_of board)) None in
         let worked = flat_map (λ hand. hand.worked.items) hands in
-        placed_made w (placed none worked) (left_behind from left)
+        placed_made w (placed none worked) (undrawn from left)
         (placed_made w none worked (all_replicate (IsMadeHome g w) (length (pieces_of board)) None tt) (splits w (pieces_of board) worked (hands_worked w board hands are)).1)
         (left_made w left from)

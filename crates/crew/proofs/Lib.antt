@@ -8,4 +8,4 @@ pub mod SoundLemmas
 pub mod Steps
 pub mod MarkTable
 pub mod AllOnBoard
-pub mod MarksTold
+pub mod MarksMet

@@ -34,9 +34,9 @@ count_before : (n k len : ℕ) → n < k → count n (range_with_len k len) ≡ 
 count_before n k zero h = refl
 count_before n k (suc len) h = count_other n k (range_with_len (k + 1) len) (λ e. omega arith) ∙ count_before n (k + 1) len (omega arith)
 
-count_behind : (n k len : ℕ) → k + len ≤ n → count n (range_with_len k len) ≡ 0
-count_behind n k zero h = refl
-count_behind n k (suc len) h = count_other n k (range_with_len (k + 1) len) (λ e. omega arith) ∙ count_behind n (k + 1) len (omega arith)
+count_after : (n k len : ℕ) → k + len ≤ n → count n (range_with_len k len) ≡ 0
+count_after n k zero h = refl
+count_after n k (suc len) h = count_other n k (range_with_len (k + 1) len) (λ e. omega arith) ∙ count_after n (k + 1) len (omega arith)
 
 count_within_from : (n k len : ℕ) → k ≤ n → (k ≡ n) ⊎ (k ≡ n → ⊥) → (k < n → count n (range_with_len (k + 1) len) ≡ 1) → count n (range_with_len k (suc len)) ≡ 1
 count_within_from n k len low (inl e) later = count_here n k (range_with_len (k + 1) len) e ∙ ap (λ c. 1 + c) (count_before n (k + 1) len (omega arith))
@@ -48,7 +48,7 @@ count_within n k (suc len) low high = count_within_from n k len low (cases_eq k 
 
 count_all_from : (n len : ℕ) → (n < len) ⊎ (len ≤ n) → count n (range_with_len 0 len) ≡ (if nat_lt n len then 1 else 0)
 count_all_from n len (inl h) = count_within n 0 len (omega arith) (omega arith) ∙ ap (λ b. if b then 1 else 0) (sym (lt-ltb n len h))
-count_all_from n len (inr h) = count_behind n 0 len (omega arith) ∙ ap (λ b. if b then 1 else 0) (sym (le-ltb n len h))
+count_all_from n len (inr h) = count_after n 0 len (omega arith) ∙ ap (λ b. if b then 1 else 0) (sym (le-ltb n len h))
 
 -- ---- at the beginning
 

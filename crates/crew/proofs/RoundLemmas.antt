@@ -29,9 +29,9 @@ all_replicate : {X : Type 0} (P : X → Type 0) (n : ℕ) (x : X) → P x → Al
 all_replicate P zero x h = tt
 all_replicate P (suc n) x h = (h, all_replicate P n x h)
 
-get_behind : {X : Type 0} (xs : List X) (y : X) (ys : List X) → slice_get (xs ++ y ∷ ys) (length xs) ≡ Some y
-get_behind [] y ys = refl
-get_behind (x ∷ xs) y ys = get_behind xs y ys
+get_after : {X : Type 0} (xs : List X) (y : X) (ys : List X) → slice_get (xs ++ y ∷ ys) (length xs) ≡ Some y
+get_after [] y ys = refl
+get_after (x ∷ xs) y ys = get_after xs y ys
 
 module _ {J D : Type 0} (made : J → D) (jobs : List J) where
   -- the number is that of the job
@@ -53,13 +53,13 @@ module _ {J D : Type 0} (made : J → D) (jobs : List J) where
 
   -- ---- at the beginning
 
-  numbered_true : (before piece behind : List J) → jobs ≡ before ++ (piece ++ behind) → AllByRecursion IsJob (numbered (length before) piece)
-  numbered_true before [] behind e = tt
-  numbered_true before (j ∷ js) behind e =
+  numbered_true : (before piece following : List J) → jobs ≡ before ++ (piece ++ following) → AllByRecursion IsJob (numbered (length before) piece)
+  numbered_true before [] following e = tt
+  numbered_true before (j ∷ js) following e =
       let n : length (before ++ j ∷ []) ≡ length before + 1 = length-append before (j ∷ []) in (
-        ap (λ all. slice_get all (length before)) e ∙ get_behind before j (js ++ behind),
+        ap (λ all. slice_get all (length before)) e ∙ get_after before j (js ++ following),
         subst (λ k. AllByRecursion IsJob (numbered k js)) n
-            (numbered_true (before ++ j ∷ []) js behind (e ∙ sym (append_assoc before (j ∷ []) (js ++ behind)))),
+            (numbered_true (before ++ j ∷ []) js following (e ∙ sym (append_assoc before (j ∷ []) (js ++ following)))),
       )
 
   pieces_true : (before : List J) (pieces : List (List J)) → jobs ≡ before ++ joined pieces → AllByRecursion (λ piece. AllByRecursion IsJob piece) (numbered_pieces (length before) pieces)
@@ -138,7 +138,7 @@ module _ {J D : Type 0} (made : J → D) (jobs : List J) where
       let here : fate_of (length before) home ≡ Some (Made d) = cc in
       let later : map (λ n. fate_of n home) (range_with_len (length before + 1) (length js)) ≡ map (λ d. Some (Made d)) ds = cc in
       let is = fate_true (length before) home (Made d) all here in
-      let at : slice_get jobs (length before) ≡ Some j = ap (λ all. slice_get all (length before)) e ∙ get_behind before j js in
+      let at : slice_get jobs (length before) ≡ Some j = ap (λ all. slice_get all (length before)) e ∙ get_after before j js in
       let first : d ≡ made j = is.2 ∙ ap made (same_Some is.0 j (sym is.1 ∙ at)) in
       let n : length (before ++ j ∷ []) ≡ length before + 1 = length-append before (j ∷ []) in
       let rest : ds ≡ map made js = made_in_turn home (before ++ j ∷ []) js ds all (e ∙ sym (append_assoc before (j ∷ []) js))

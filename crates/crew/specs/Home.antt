@@ -11,9 +11,9 @@ module _ {J D : Type 0} where
   placed homes (x ∷ xs) = placed (set homes x.number (Some x.made)) xs
 
   -- pieces that nobody drew, from this number on
-  abbrev pub left_behind : ℕ → List (Vec J Global) → List (Worked J D)
-  left_behind n [] = []
-  left_behind n (piece ∷ pieces) = record { number = n; made = Err piece } ∷ left_behind (n + 1) pieces
+  abbrev pub undrawn : ℕ → List (Vec J Global) → List (Worked J D)
+  undrawn n [] = []
+  undrawn n (piece ∷ pieces) = record { number = n; made = Err piece } ∷ undrawn (n + 1) pieces
 
 module _ {W J D : Type 0} (g : Work.Ghosts W J D) where
   -- what the jobs held that this was made of

@@ -1,10 +1,10 @@
 //! What workers bring home of a round: what became of each piece, in its place.
 ghost use Rattle.std.specs.Prelude.{◌≡◌, ◌+◌, ◌^◌, ◌<◌, ◌≤◌, ◌++◌, ◌∷◌, [], map, length, IfOk, IfErr, vec_capacity};
 ghost use Rattle.std.specs.List.{AllByRecursion, flat_map};
-ghost use Rattle.crew.specs.Home.{placed, left_behind, home_origins, IsMadeHome};
+ghost use Rattle.crew.specs.Home.{placed, undrawn, home_origins, IsMadeHome};
 
 use crate::Work;
-use crate::in_turn::undo_behind;
+use crate::in_turn::undo_made;
 
 /// What became of the piece with this number: what was made of each of its jobs, or these as they were.
 #[derive(Drop)]
@@ -43,7 +43,7 @@ pub(crate) fn place_left<J: Drop, D: Drop>(
     left: Vec<Vec<J>>,
 )
     requires { from + length left.items < 2 ^ 64 }
-    ensures { homes.new.items ≡ placed homes.old.items (left_behind from left.items) }
+    ensures { homes.new.items ≡ placed homes.old.items (undrawn from left.items) }
 {
     let mut number = from;
     for piece in left {
@@ -80,14 +80,14 @@ pub(crate) fn gather<W: Work>(
             }
             Some(Err(mut back)) => {
                 refused = true;
-                undo_behind(work, &mut dones, &mut jobs);
+                undo_made(work, &mut dones, &mut jobs);
                 let _fits = jobs.append(&mut back);
             }
             None => {}
         }
     }
     if refused {
-        undo_behind(work, &mut dones, &mut jobs);
+        undo_made(work, &mut dones, &mut jobs);
         return Err(jobs);
     }
     Ok(dones)

@@ -64,7 +64,7 @@ pub(crate) fn undo_all<W: Work, A: Allocator>(
 
 /// Undoes all that was made, and appends the jobs to the list, in their order. It takes no memory, since the list has
 /// room for all.
-pub(crate) fn undo_behind<W: Work>(work: &W, dones: &mut Vec<W::Done>, jobs: &mut Vec<W::Job>)
+pub(crate) fn undo_made<W: Work>(work: &W, dones: &mut Vec<W::Done>, jobs: &mut Vec<W::Job>)
     requires room { length jobs.old.items + length dones.old.items ≤ vec_capacity jobs.old }
     ensures jobs { map W.held jobs.new.items
         ≡ map W.held jobs.old.items ++ map W.origin dones.old.items }

@@ -13,8 +13,8 @@ module _ {T : Type 0} where
   compared : (e : List ℕ × T) (i j k : List ℕ) → i ≡ e.0 → j ≡ k → order i j ≡ order e.0 k
   compared e i j k p q = rw (p, q) refl
 
-  pub behind_alone : (e : List ℕ × T) (i j k : List ℕ) → i ≡ e.0 → j ≡ k → Less ≡ order i j → Answer (e ∷ []) k (Err 1)
-  behind_alone e i j k p q h =
+  pub after_alone : (e : List ℕ × T) (i j k : List ℕ) → i ≡ e.0 → j ≡ k → Less ≡ order i j → Answer (e ∷ []) k (Err 1)
+  after_alone e i j k p q h =
       let above = flipped_less e.0 k (rw (← compared e i j k p q) (sym h)) in
       (omega arith, rw above refl, λ v. rw above refl)
 
@@ -41,10 +41,10 @@ module _ {T : Type 0} where
   pub put_before : (es : List (List ℕ × T)) (d e : List ℕ × T) (at : ℕ) → es ≡ [] → at ≡ 0 → (es ++ e ∷ []) ++ d ∷ [] ≡ insert (d ∷ []) at e
   put_before es d e at n h = rw (n, h) refl
 
-  pub put_behind : (es : List (List ℕ × T)) (d e : List ℕ × T) (at : ℕ) → es ≡ [] → (at ≡ 0 → ⊥) → at ≤ 1 → (es ++ d ∷ []) ++ e ∷ [] ≡ insert (d ∷ []) at e
-  put_behind es d e zero n h l = absurd (h refl)
-  put_behind es d e (suc zero) n h l = rw n refl
-  put_behind es d e (suc (suc at)) n h l = absurd (omega arith)
+  pub put_after : (es : List (List ℕ × T)) (d e : List ℕ × T) (at : ℕ) → es ≡ [] → (at ≡ 0 → ⊥) → at ≤ 1 → (es ++ d ∷ []) ++ e ∷ [] ≡ insert (d ∷ []) at e
+  put_after es d e zero n h l = absurd (h refl)
+  put_after es d e (suc zero) n h l = rw n refl
+  put_after es d e (suc (suc at)) n h l = absurd (omega arith)
 
   pub written_alone : (d e : List ℕ × T) (at : ℕ) → at < length (d ∷ []) → e ∷ [] ≡ set (d ∷ []) at e
   written_alone d e zero l = refl

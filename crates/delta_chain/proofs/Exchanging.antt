@@ -10,7 +10,7 @@ use Rattle.keys.specs.Order.{order, IsRising}
 use Rattle.keys.specs.OrderedMap.{value_at, with_pair}
 use Rattle.keys.proofs.MapLemmas.{order_itself, is_apart, passes_same, same_map, value_at-with_pair_here, rising-with_pair}
 use Rattle.delta_chain.specs.Exchange.{exchanged_at, in_place_of, exchanged_under, exchanged}
-use Rattle.delta_chain.specs.Layers.{Layers, said_or, held_under, holds, entries_of, AllRise, IsInOrder}
+use Rattle.delta_chain.specs.Layers.{Layers, change_or, held_under, holds, entries_of, AllRise, IsInOrder}
 use Rattle.delta_chain.specs.Packed.{packed_from, IsPacked}
 use Rattle.delta_chain.specs.Counted.{IsCounted}
 use Rattle.delta_chain.proofs.Counts.{most_with_pair}
@@ -124,18 +124,18 @@ module _ {V : Type 0} where
   named_base_by None k v base q e r n = absurd (cc)
   named_base_by (Some w) k v base q e r n = rw e (value_at-with_change base k q (Some v) r)
 
-  over_by : (b : Bool) (v : V) (here : Option (Option V)) (below : Option V) → said_or (cond b (Some (Some v)) here) below ≡ cond b (Some v) (said_or here below)
+  over_by : (b : Bool) (v : V) (here : Option (Option V)) (below : Option V) → change_or (cond b (Some (Some v)) here) below ≡ cond b (Some v) (change_or here below)
   over_by true v here below = refl
   over_by false v here below = refl
 
-  under_by : (b : Bool) (k q : List ℕ) (v : V) (run : List (List ℕ × Option V)) (below : Option V) → is_eq (order q k) ≡ b → value_at k run ≡ None → said_or (value_at q run) (cond b (Some v) below) ≡ cond b (Some v) (said_or (value_at q run) below)
+  under_by : (b : Bool) (k q : List ℕ) (v : V) (run : List (List ℕ × Option V)) (below : Option V) → is_eq (order q k) ≡ b → value_at k run ≡ None → change_or (value_at q run) (cond b (Some v) below) ≡ cond b (Some v) (change_or (value_at q run) below)
   under_by true k q v run below e n = rw (passes_same q k e, n) refl
   under_by false k q v run below e n = refl
 
-  named_run_by : (o : Option (Option V)) (k : List ℕ) (v : V) (run : List (List ℕ × Option V)) (p : Layers V) (q : List ℕ) → value_at k run ≡ o → IsRising run → (is_some (holds p k) ≡ true → Named k v p q) → is_some (said_or o (holds p k)) ≡ true → Named k v (Over run p) q
-  named_run_by None k v run p q e r ih n = rw e (ap (λ (t : Option V). said_or (value_at q run) t) (ih n) ∙ under_by (is_eq (order q k)) k q v run (holds p q) refl e)
+  named_run_by : (o : Option (Option V)) (k : List ℕ) (v : V) (run : List (List ℕ × Option V)) (p : Layers V) (q : List ℕ) → value_at k run ≡ o → IsRising run → (is_some (holds p k) ≡ true → Named k v p q) → is_some (change_or o (holds p k)) ≡ true → Named k v (Over run p) q
+  named_run_by None k v run p q e r ih n = rw e (ap (λ (t : Option V). change_or (value_at q run) t) (ih n) ∙ under_by (is_eq (order q k)) k q v run (holds p q) refl e)
   named_run_by (Some None) k v run p q e r ih n = absurd (cc)
-  named_run_by (Some (Some w)) k v run p q e r ih n = rw e (ap (λ (t : Option (Option V)). said_or t (holds p q)) (value_at-with_change run k q (Some (Some v)) r) ∙ over_by (is_eq (order q k)) v (value_at q run) (holds p q))
+  named_run_by (Some (Some w)) k v run p q e r ih n = rw e (ap (λ (t : Option (Option V)). change_or t (holds p q)) (value_at-with_change run k q (Some (Some v)) r) ∙ over_by (is_eq (order q k)) v (value_at q run) (holds p q))
 
   -- where the page holds a cell at the key it has the other one there afterwards, and at every other key what it had
   held_named : (k : List ℕ) (v : V) (runs : List (List (List ℕ × Option V))) (base : List (List ℕ × V)) (q : List ℕ) → AllRise runs base → is_some (held_under k runs base) ≡ true → Named k v (record { runs = runs; base = base }) q
@@ -146,7 +146,7 @@ module _ {V : Type 0} where
   left_base_by None k v base e n = rw e refl
   left_base_by (Some w) k v base e n = absurd (cc)
 
-  left_run_by : (o : Option (Option V)) (k : List ℕ) (v : V) (run : List (List ℕ × Option V)) (p : Layers V) → value_at k run ≡ o → (is_some (holds p k) ≡ false → exchanged p k v ≡ p) → is_some (said_or o (holds p k)) ≡ false → exchanged (Over run p) k v ≡ Over run p
+  left_run_by : (o : Option (Option V)) (k : List ℕ) (v : V) (run : List (List ℕ × Option V)) (p : Layers V) → value_at k run ≡ o → (is_some (holds p k) ≡ false → exchanged p k v ≡ p) → is_some (change_or o (holds p k)) ≡ false → exchanged (Over run p) k v ≡ Over run p
   left_run_by None k v run p e ih n = rw e (ap (λ (x : Layers V). Over run x) (ih n))
   left_run_by (Some None) k v run p e ih n = rw e refl
   left_run_by (Some (Some w)) k v run p e ih n = absurd (cc)
@@ -203,7 +203,7 @@ module _ {V : Type 0} where
   back_base : (k : List ℕ) (v w : V) (base : List (List ℕ × V)) → IsRising base → value_at k base ≡ Some w → exchanged (exchanged (Base base) k v) k w ≡ Base base
   back_base k v w base r h = rw (h, value_at-with_pair_here base k v) (ap Base (with_pair-back base k w v r h))
 
-  back_run_by : (o : Option (Option V)) (k : List ℕ) (v w : V) (run : List (List ℕ × Option V)) (p : Layers V) → value_at k run ≡ o → IsRising run → said_or o (holds p k) ≡ Some w
+  back_run_by : (o : Option (Option V)) (k : List ℕ) (v w : V) (run : List (List ℕ × Option V)) (p : Layers V) → value_at k run ≡ o → IsRising run → change_or o (holds p k) ≡ Some w
       → (holds p k ≡ Some w → exchanged (exchanged p k v) k w ≡ p) → exchanged (exchanged (Over run p) k v) k w ≡ Over run p
   back_run_by None k v w run p e r h ih = rw (e, e) (ap (λ (x : Layers V). Over run x) (ih h))
   back_run_by (Some None) k v w run p e r h ih = absurd (cc)
@@ -256,7 +256,7 @@ module _ {V : Type 0} where
       ap (λ (m : List (List ℕ × Option V)). Over m p) (f o.0 o.1) ∙ exchanged-run_by o.0 run p at k v r h o.1
 
   pub held-run : (run : List (List ℕ × Option V)) (at : ℕ) (k : List ℕ) (below : Option V) (v now : V) → IsRising run → slice_get (keys_of run) at ≡ Some k
-      → ((o : Option V) → slice_get (values_of run) at ≡ Some o → now ≡ unwrap_or o v) → now ≡ unwrap_or (said_or (value_at k run) below) v
+      → ((o : Option V) → slice_get (values_of run) at ≡ Some o → now ≡ unwrap_or o v) → now ≡ unwrap_or (change_or (value_at k run) below) v
   held-run run at k below v now r h f =
       let o = item_there run at k h in
       let there : value_at k run ≡ Some o.0 = value_at-found run at k r h ∙ o.1 in
@@ -266,7 +266,7 @@ module _ {V : Type 0} where
   pub exchanged-below : (run : List (List ℕ × Option V)) (p : Layers V) (k : List ℕ) (v : V) → value_at k run ≡ None → Over run (exchanged p k v) ≡ exchanged (Over run p) k v
   exchanged-below run p k v h = rw h refl
 
-  pub held-below : (run : List (List ℕ × Option V)) (k : List ℕ) (below : Option V) (v now : V) → value_at k run ≡ None → now ≡ unwrap_or below v → now ≡ unwrap_or (said_or (value_at k run) below) v
+  pub held-below : (run : List (List ℕ × Option V)) (k : List ℕ) (below : Option V) (v now : V) → value_at k run ≡ None → now ≡ unwrap_or below v → now ≡ unwrap_or (change_or (value_at k run) below) v
   held-below run k below v now h e = rw h e
 
   -- ---- what a chain keeps

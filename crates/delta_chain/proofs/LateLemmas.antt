@@ -6,7 +6,7 @@ use Rattle.std.proofs.lemmas.List.{take-append-drop, length-take-le, length-drop
 use Rattle.keys.specs.Bytes.{Bytes, Pairs, Changes}
 use Rattle.keys.specs.OrderedMap.{value_at}
 use Rattle.delta_chain.specs.Late.{Late, open_runs, seen}
-use Rattle.delta_chain.specs.Layers.{Layers, said_or, held_under, holds, with_run, entries_under, entries_of, AllRise, IsInOrder}
+use Rattle.delta_chain.specs.Layers.{Layers, change_or, held_under, holds, with_run, entries_under, entries_of, AllRise, IsInOrder}
 use Rattle.delta_chain.proofs.LayerLemmas.{rising-entries_under, value_at-entries_under}
 
 -- the oldest ones of a list that grows at its end are the last ones of it reversed
@@ -42,7 +42,7 @@ module _ {V : Type 0} where
 
   held-parts : (newer older : List (Changes V)) (base : Pairs V) (k : Bytes) → AllRise (newer ++ older) base → held_under k newer (entries_under older base) ≡ held_under k (newer ++ older) base
   held-parts [] older base k a = value_at-entries_under older base k a
-  held-parts (run ∷ newer) older base k a = ap (λ (t : Option V). said_or (value_at k run) t) (held-parts newer older base k a.1)
+  held-parts (run ∷ newer) older base k a = ap (λ (t : Option V). change_or (value_at k run) t) (held-parts newer older base k a.1)
 
   -- ---- the page
 

@@ -7,7 +7,7 @@ use Rattle.std.proofs.lemmas.Map.Keys.{sorted_tail}
 use Rattle.keys.specs.Order.{order, IsRising}
 use Rattle.keys.specs.OrderedMap.{value_at, with_pair}
 use Rattle.keys.proofs.MapLemmas.{alike, passes_same, value_at-with_pair_here, value_at-with_pair_apart, value_at-without, value_at_rest, rising-with_pair, rising-without}
-use Rattle.delta_chain.specs.Layers.{Layers, said_or, held_under, holds, with_change, with_run, entries_under, entries_of, AllRise, IsInOrder}
+use Rattle.delta_chain.specs.Layers.{Layers, change_or, held_under, holds, with_change, with_run, entries_under, entries_of, AllRise, IsInOrder}
 
 module _ {V : Type 0} where
   -- ---- one change
@@ -32,8 +32,8 @@ module _ {V : Type 0} where
   rising-with_run m (c ∷ cs) r = rising-with_run (with_change m c.0 c.1) cs (rising-with_change m c.0 c.1 r)
 
   -- the later changes say nothing of the first key
-  first_change_by : (b : Bool) (o : Option V) (later : Option (Option V)) (old : Option V) → later ≡ cond b None later → said_or later (cond b o old) ≡ said_or (cond b (Some o) later) old
-  first_change_by true o later old h = ap (λ (t : Option (Option V)). said_or t o) h
+  first_change_by : (b : Bool) (o : Option V) (later : Option (Option V)) (old : Option V) → later ≡ cond b None later → change_or later (cond b o old) ≡ change_or (cond b (Some o) later) old
+  first_change_by true o later old h = ap (λ (t : Option (Option V)). change_or t o) h
   first_change_by false o later old h = refl
 
   later_by : (b : Bool) (later whole : Option (Option V)) → later ≡ cond b None whole → later ≡ cond b None later
@@ -41,11 +41,11 @@ module _ {V : Type 0} where
   later_by false later whole h = refl
 
   -- entries with a run applied have what the run says, else what they had
-  pub value_at-with_run : (m : List (List ℕ × V)) (run : List (List ℕ × Option V)) (q : List ℕ) → IsRising m → IsRising run → value_at q (with_run m run) ≡ said_or (value_at q run) (value_at q m)
+  pub value_at-with_run : (m : List (List ℕ × V)) (run : List (List ℕ × Option V)) (q : List ℕ) → IsRising m → IsRising run → value_at q (with_run m run) ≡ change_or (value_at q run) (value_at q m)
   value_at-with_run m [] q r s = refl
   value_at-with_run m (c ∷ cs) q r s =
       value_at-with_run (with_change m c.0 c.1) cs q (rising-with_change m c.0 c.1 r) (sorted_tail order c.0 (keys_of cs) s)
-      ∙ ap (λ (t : Option V). said_or (value_at q cs) t) (value_at-with_change m c.0 q c.1 r)
+      ∙ ap (λ (t : Option V). change_or (value_at q cs) t) (value_at-with_change m c.0 q c.1 r)
       ∙ first_change_by (is_eq (order q c.0)) c.1 (value_at q cs) (value_at q m) (later_by (is_eq (order q c.0)) (value_at q cs) (value_at q (c ∷ cs)) (value_at_rest c cs q s))
 
   -- ---- a page
@@ -61,7 +61,7 @@ module _ {V : Type 0} where
   value_at-entries_under [] base q a = refl
   value_at-entries_under (run ∷ runs) base q a =
       value_at-with_run (entries_under runs base) run q (rising-entries_under runs base a.1) a.0
-      ∙ ap (λ (t : Option V). said_or (value_at q run) t) (value_at-entries_under runs base q a.1)
+      ∙ ap (λ (t : Option V). change_or (value_at q run) t) (value_at-entries_under runs base q a.1)
 
   -- what a page's entries have at a key is what the page holds there
   pub value_at-entries_of : (p : Layers V) (q : List ℕ) → IsInOrder p → value_at q (entries_of p) ≡ holds p q

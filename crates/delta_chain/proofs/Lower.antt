@@ -27,8 +27,8 @@ module _ {T : Type 0} where
   lower-found (e ∷ es) zero k r h =
       let s : e.0 ≡ k = cc in
       let here : is_below e.0 k ≡ false = rw (s, order_itself k) refl in
-      let behind : IsBelowAll k (keys_of es) = rw s at r.0 in
-      sym (kept_by false k e es here ∙ ap (λ (m : List (List ℕ × T)). e ∷ m) (kept_all k es behind))
+      let following : IsBelowAll k (keys_of es) = rw s at r.0 in
+      sym (kept_by false k e es here ∙ ap (λ (m : List (List ℕ × T)). e ∷ m) (kept_all k es following))
   lower-found (e ∷ es) (suc at) k r h =
       let below : is_below e.0 k ≡ true = rw (below_at e.0 (keys_of es) at k r.0 h) refl in
       lower-found es at k r.1 h ∙ sym (kept_by true k e es below)
@@ -46,12 +46,12 @@ module _ {T : Type 0} where
   gap_here Greater e es k v o r n h =
       absurd (let first : e ∷ with_pair es k v ≡ (k, v) ∷ e ∷ es = rw o at h in let wrong = sym o ∙ same_first e k v (with_pair es k v) (e ∷ es) first in cc)
 
-  gap_behind : (o : Ordering) (e : List ℕ × T) (es : List (List ℕ × T)) (at : ℕ) (k : List ℕ) (v : T) → order k e.0 ≡ o → value_at k (e ∷ es) ≡ None → with_pair (e ∷ es) k v ≡ e ∷ insert es at (k, v)
+  gap_after : (o : Ordering) (e : List ℕ × T) (es : List (List ℕ × T)) (at : ℕ) (k : List ℕ) (v : T) → order k e.0 ≡ o → value_at k (e ∷ es) ≡ None → with_pair (e ∷ es) k v ≡ e ∷ insert es at (k, v)
       → (value_at k es ≡ None → with_pair es k v ≡ insert es at (k, v) → drop at es ≡ in_range k None es) → drop at es ≡ in_range k None (e ∷ es)
-  gap_behind Less e es at k v o n h ih =
+  gap_after Less e es at k v o n h ih =
       absurd (let first : (k, v) ∷ e ∷ es ≡ e ∷ insert es at (k, v) = rw o at h in let wrong = sym o ∙ same_first e k v (insert es at (k, v)) (e ∷ es) (sym first) in cc)
-  gap_behind Equal e es at k v o n h ih = absurd (let wrong = rw o at n in cc)
-  gap_behind Greater e es at k v o n h ih =
+  gap_after Equal e es at k v o n h ih = absurd (let wrong = rw o at n in cc)
+  gap_after Greater e es at k v o n h ih =
       let below : is_below e.0 k ≡ true = rw (flipped_greater k e.0 o) refl in
       let missing : value_at k es ≡ None = rw o at n in
       let rest : e ∷ with_pair es k v ≡ e ∷ insert es at (k, v) = rw o at h in
@@ -62,4 +62,4 @@ module _ {T : Type 0} where
   lower-missing [] zero k v r n h = refl
   lower-missing [] (suc at) k v r n h = refl
   lower-missing (e ∷ es) zero k v r n h = gap_here (order k e.0) e es k v refl r n h
-  lower-missing (e ∷ es) (suc at) k v r n h = gap_behind (order k e.0) e es at k v refl n h (λ m i. lower-missing es at k v r.1 m i)
+  lower-missing (e ∷ es) (suc at) k v r n h = gap_after (order k e.0) e es at k v refl n h (λ m i. lower-missing es at k v r.1 m i)

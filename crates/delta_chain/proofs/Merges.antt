@@ -11,23 +11,23 @@ use Rattle.delta_chain.proofs.Places.{drop_pair, front_under, front_at}
 
 module _ {T : Type 0} where
   -- what stands from a place on rises too
-  pub rising_behind : (n : ℕ) (es : List (List ℕ × T)) → IsRising es → IsRising (drop n es)
-  rising_behind zero es r = r
-  rising_behind (suc n) [] r = r
-  rising_behind (suc n) (e ∷ es) r = rising_behind n es (sorted_tail order e.0 (keys_of es) r)
+  pub rising_after : (n : ℕ) (es : List (List ℕ × T)) → IsRising es → IsRising (drop n es)
+  rising_after zero es r = r
+  rising_after (suc n) [] r = r
+  rising_after (suc n) (e ∷ es) r = rising_after n es (sorted_tail order e.0 (keys_of es) r)
 
 module _ {V : Type 0} where
   -- ---- changes at the front
 
   -- a change above the first key leaves that pair
-  change_behind : (e : List ℕ × V) (es : List (List ℕ × V)) (k : List ℕ) (o : Option V) → order e.0 k ≡ Less → with_change (e ∷ es) k o ≡ e ∷ with_change es k o
-  change_behind e es k None h = rw (flipped_less e.0 k h) refl
-  change_behind e es k (Some v) h = rw (flipped_less e.0 k h) refl
+  change_after : (e : List ℕ × V) (es : List (List ℕ × V)) (k : List ℕ) (o : Option V) → order e.0 k ≡ Less → with_change (e ∷ es) k o ≡ e ∷ with_change es k o
+  change_after e es k None h = rw (flipped_less e.0 k h) refl
+  change_after e es k (Some v) h = rw (flipped_less e.0 k h) refl
 
   -- and so does a run above it
-  run_behind : (e : List ℕ × V) (es : List (List ℕ × V)) (run : List (List ℕ × Option V)) → IsBelowAll e.0 (keys_of run) → with_run (e ∷ es) run ≡ e ∷ with_run es run
-  run_behind e es [] a = refl
-  run_behind e es (c ∷ cs) a = ap (λ (m : List (List ℕ × V)). with_run m cs) (change_behind e es c.0 c.1 a.0) ∙ run_behind e (with_change es c.0 c.1) cs a.1
+  run_after : (e : List ℕ × V) (es : List (List ℕ × V)) (run : List (List ℕ × Option V)) → IsBelowAll e.0 (keys_of run) → with_run (e ∷ es) run ≡ e ∷ with_run es run
+  run_after e es [] a = refl
+  run_after e es (c ∷ cs) a = ap (λ (m : List (List ℕ × V)). with_run m cs) (change_after e es c.0 c.1 a.0) ∙ run_after e (with_change es c.0 c.1) cs a.1
 
   without_absent : (k : List ℕ) (es : List (List ℕ × V)) → IsBelowAll k (keys_of es) → without es k ≡ es
   without_absent k [] a = refl
@@ -51,7 +51,7 @@ module _ {V : Type 0} where
   -- ---- the three steps, at the fronts of the pairs and of the run
 
   pub first_stays : (e : List ℕ × V) (es : List (List ℕ × V)) (c : List ℕ × Option V) (cs : List (List ℕ × Option V)) → IsRising (c ∷ cs) → order e.0 c.0 ≡ Less → with_run (e ∷ es) (c ∷ cs) ≡ e ∷ with_run es (c ∷ cs)
-  first_stays e es c cs r h = run_behind e es (c ∷ cs) (h, below_all e.0 c.0 (keys_of cs) h (sorted_head order c.0 (keys_of cs) r))
+  first_stays e es c cs r h = run_after e es (c ∷ cs) (h, below_all e.0 c.0 (keys_of cs) h (sorted_head order c.0 (keys_of cs) r))
 
   pub first_goes : (e : List ℕ × V) (es : List (List ℕ × V)) (c : List ℕ × Option V) (cs : List (List ℕ × Option V)) → IsRising (e ∷ es) → order e.0 c.0 ≡ Equal → with_run (e ∷ es) (c ∷ cs) ≡ with_run es (c ∷ cs)
   first_goes e es c cs r h =
@@ -61,7 +61,7 @@ module _ {V : Type 0} where
 
   change_goes : (es : List (List ℕ × V)) (k : List ℕ) (o : Option V) (cs : List (List ℕ × Option V)) → IsBelowAll k (keys_of cs) → with_run (pair_if k o ++ es) cs ≡ pair_if k o ++ with_run es cs
   change_goes es k None cs a = refl
-  change_goes es k (Some v) cs a = run_behind (k, v) es cs a
+  change_goes es k (Some v) cs a = run_after (k, v) es cs a
 
   pub change_stays : (es : List (List ℕ × V)) (c : List ℕ × Option V) (cs : List (List ℕ × Option V)) → IsRising es → IsRising (c ∷ cs) → first_order es c.0 ≡ Greater → with_run es (c ∷ cs) ≡ pair_if c.0 c.1 ++ with_run es cs
   change_stays es c cs r s h =
@@ -74,7 +74,7 @@ module _ {V : Type 0} where
       let d : drop from es ≡ (j, v) ∷ drop (suc from) es = drop_pair es from j v hj hv in
       let c = front_under run at k hk in
       let l : first_order ((j, v) ∷ drop (suc from) es) k ≡ Less = rw d at (sym h) in
-      let s : IsRising ((k, c.0) ∷ drop (suc at) run) = rw c.1 at (rising_behind at run r) in
+      let s : IsRising ((k, c.0) ∷ drop (suc at) run) = rw c.1 at (rising_after at run r) in
       let w : with_run (drop from es) (drop at run) ≡ (j, v) ∷ with_run (drop (suc from) es) (drop at run) = rw (d, c.1) (first_stays (j, v) (drop (suc from) es) (k, c.0) (drop (suc at) run) s l) in
       append_assoc out ((j, v) ∷ []) (with_run (drop (suc from) es) (drop at run)) ∙ ap (λ (m : List (List ℕ × V)). out ++ m) (sym w) ∙ t
 
@@ -83,15 +83,15 @@ module _ {V : Type 0} where
       let e = front_at es from n in
       let c = front_under run at k hk in
       let l : first_order (e.0 ∷ drop (suc from) es) k ≡ Equal = rw e.1 at (sym h) in
-      let s : IsRising (e.0 ∷ drop (suc from) es) = rw e.1 at (rising_behind from es r) in
+      let s : IsRising (e.0 ∷ drop (suc from) es) = rw e.1 at (rising_after from es r) in
       let w : with_run (drop from es) (drop at run) ≡ with_run (drop (suc from) es) (drop at run) = rw (e.1, c.1) (first_goes e.0 (drop (suc from) es) (k, c.0) (drop (suc at) run) s l) in
       ap (λ (m : List (List ℕ × V)). out ++ m) (sym w) ∙ t
 
   pub greater_step : (es : List (List ℕ × V)) (run : List (List ℕ × Option V)) (from at : ℕ) (k : List ℕ) (o : Option V) (out all : List (List ℕ × V)) → IsRising es → IsRising run → slice_get (keys_of run) at ≡ Some k → slice_get (values_of run) at ≡ Some o → Greater ≡ first_order (drop from es) k → out ++ with_run (drop from es) (drop at run) ≡ all → (out ++ pair_if k o) ++ with_run (drop from es) (drop (suc at) run) ≡ all
   greater_step es run from at k o out all r s hk ho h t =
       let f : drop at run ≡ (k, o) ∷ drop (suc at) run = drop_pair run at k o hk ho in
-      let s' : IsRising ((k, o) ∷ drop (suc at) run) = rw f at (rising_behind at run s) in
-      let w : with_run (drop from es) (drop at run) ≡ pair_if k o ++ with_run (drop from es) (drop (suc at) run) = rw f (change_stays (drop from es) (k, o) (drop (suc at) run) (rising_behind from es r) s' (sym h)) in
+      let s' : IsRising ((k, o) ∷ drop (suc at) run) = rw f at (rising_after at run s) in
+      let w : with_run (drop from es) (drop at run) ≡ pair_if k o ++ with_run (drop from es) (drop (suc at) run) = rw f (change_stays (drop from es) (k, o) (drop (suc at) run) (rising_after from es r) s' (sym h)) in
       append_assoc out (pair_if k o) (with_run (drop from es) (drop (suc at) run)) ∙ ap (λ (m : List (List ℕ × V)). out ++ m) (sym w) ∙ t
 
   -- where the first pair does not stand above the key there is one

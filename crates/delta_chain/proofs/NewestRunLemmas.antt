@@ -20,10 +20,10 @@ module _ {T : Type 0} where
   none_by false q e before after t n f = rw t (f (sym (rw t refl) ∙ n))
 
   -- a key that the first ones don't name, nor the next one
-  none_behind : (es : List (List ℕ × T)) (at : ℕ) (k q : List ℕ) → slice_get (keys_of es) at ≡ Some k → value_at q (take at es) ≡ None → is_eq (order q k) ≡ false → value_at q (take (suc at) es) ≡ None
-  none_behind [] at k q h n d = absurd (cc)
-  none_behind (e ∷ es) zero k q h n d = let s : e.0 ≡ k = cc in rw (s, d) refl
-  none_behind (e ∷ es) (suc at) k q h n d = none_by (is_eq (order q e.0)) q e (take at es) (take (suc at) es) refl n (λ m. none_behind es at k q h m d)
+  none_after : (es : List (List ℕ × T)) (at : ℕ) (k q : List ℕ) → slice_get (keys_of es) at ≡ Some k → value_at q (take at es) ≡ None → is_eq (order q k) ≡ false → value_at q (take (suc at) es) ≡ None
+  none_after [] at k q h n d = absurd (cc)
+  none_after (e ∷ es) zero k q h n d = let s : e.0 ≡ k = cc in rw (s, d) refl
+  none_after (e ∷ es) (suc at) k q h n d = none_by (is_eq (order q e.0)) q e (take at es) (take (suc at) es) refl n (λ m. none_after es at k q h m d)
 
 module _ (newest : List ℕ) (print n : ℕ) (within : print < length newest) where
   -- a fingerprint under which a smaller number stands afterwards is another
@@ -37,7 +37,7 @@ module _ (newest : List ℕ) (print n : ℕ) (within : print < length newest) wh
       let other : fingerprint_of q ≢ print = apart (fingerprint_of q) l in
       let old : newest_for newest q < n = rw (get_or-set_other newest print (fingerprint_of q) n 0 other) at l in
       let one : at + 1 ≡ suc at = omega arith in
-      rw one (none_behind run at k q h (f q old) (is_apart q k (λ e. other (ap fingerprint_of e ∙ sym is))))
+      rw one (none_after run at k q h (f q old) (is_apart q k (λ e. other (ap fingerprint_of e ∙ sym is))))
 
   -- the numbers under other fingerprints stay
   pub kept-next : (initial : List ℕ) → ((m : ℕ) → (get_or newest m 0 ≡ get_or initial m 0) ⊎ (get_or newest m 0 ≡ n)) → (m : ℕ) → (get_or (set newest print n) m 0 ≡ get_or initial m 0) ⊎ (get_or (set newest print n) m 0 ≡ n)

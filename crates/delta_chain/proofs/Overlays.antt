@@ -7,8 +7,8 @@ use Rattle.std.specs.Map.{keys_of, values_of}
 use Rattle.keys.specs.Order.{order, IsRising}
 use Rattle.keys.specs.OrderedMap.{value_at}
 use Rattle.keys.proofs.MapLemmas.{same_map}
-use Rattle.delta_chain.specs.Layers.{said_or, held_under, with_run, entries_under, AllRise}
-use Rattle.delta_chain.specs.Merging.{asserted, said_by}
+use Rattle.delta_chain.specs.Layers.{change_or, held_under, with_run, entries_under, AllRise}
+use Rattle.delta_chain.specs.Merging.{asserted, joined_changes}
 use Rattle.delta_chain.proofs.LayerLemmas.{value_at-with_run, rising-with_run, rising-entries_under, value_at-entries_under}
 
 pub rising-none : (V : Type 0) → IsRising {V = V} []
@@ -39,34 +39,34 @@ module _ {V : Type 0} where
 
   -- what a newer run says of a key is said in place of what was
   said_by_one : (b : Bool) (o : Option V) (here : Option (Option (Option V))) (rest : Option (Option V)) (older : Option (Option V)) (below : Option V)
-      → said_or (said_or here older) below ≡ said_or rest (said_or older below)
-      → said_or (said_or (cond b (Some (Some o)) here) older) below ≡ said_or (cond b (Some o) rest) (said_or older below)
+      → change_or (change_or here older) below ≡ change_or rest (change_or older below)
+      → change_or (change_or (cond b (Some (Some o)) here) older) below ≡ change_or (cond b (Some o) rest) (change_or older below)
   said_by_one true o here rest older below h = refl
   said_by_one false o here rest older below h = h
 
-  pub said_over : (run : List (List ℕ × Option V)) (q : List ℕ) (older : Option (Option V)) (below : Option V) → said_or (said_or (value_at q (asserted run)) older) below ≡ said_or (value_at q run) (said_or older below)
+  pub said_over : (run : List (List ℕ × Option V)) (q : List ℕ) (older : Option (Option V)) (below : Option V) → change_or (change_or (value_at q (asserted run)) older) below ≡ change_or (value_at q run) (change_or older below)
   said_over [] q older below = refl
   said_over (c ∷ cs) q older below = said_by_one (is_eq (order q c.0)) c.1 (value_at q (asserted cs)) (value_at q cs) older below (said_over cs q older below)
 
-  pub rising-said_by : (runs : List (List (List ℕ × Option V))) (base : List (List ℕ × V)) → AllRise runs base → IsRising (said_by runs)
+  pub rising-joined_changes : (runs : List (List (List ℕ × Option V))) (base : List (List ℕ × V)) → AllRise runs base → IsRising (joined_changes runs)
   unfolding IsStrictlySortedBy
-  rising-said_by [] base a = tt
-  rising-said_by (run ∷ runs) base a = rising-with_run (said_by runs) (asserted run) (rising-said_by runs base a.1)
+  rising-joined_changes [] base a = tt
+  rising-joined_changes (run ∷ runs) base a = rising-with_run (joined_changes runs) (asserted run) (rising-joined_changes runs base a.1)
 
-  held-said_by : (runs : List (List (List ℕ × Option V))) (base : List (List ℕ × V)) (q : List ℕ) → AllRise runs base → said_or (value_at q (said_by runs)) (value_at q base) ≡ held_under q runs base
-  held-said_by [] base q a = refl
-  held-said_by (run ∷ runs) base q a =
-      ap (λ (t : Option (Option V)). said_or t (value_at q base)) (value_at-with_run (said_by runs) (asserted run) q (rising-said_by runs base a.1) (rising-asserted run a.0))
-      ∙ said_over run q (value_at q (said_by runs)) (value_at q base)
-      ∙ ap (λ (t : Option V). said_or (value_at q run) t) (held-said_by runs base q a.1)
+  held-joined_changes : (runs : List (List (List ℕ × Option V))) (base : List (List ℕ × V)) (q : List ℕ) → AllRise runs base → change_or (value_at q (joined_changes runs)) (value_at q base) ≡ held_under q runs base
+  held-joined_changes [] base q a = refl
+  held-joined_changes (run ∷ runs) base q a =
+      ap (λ (t : Option (Option V)). change_or t (value_at q base)) (value_at-with_run (joined_changes runs) (asserted run) q (rising-joined_changes runs base a.1) (rising-asserted run a.0))
+      ∙ said_over run q (value_at q (joined_changes runs)) (value_at q base)
+      ∙ ap (λ (t : Option V). change_or (value_at q run) t) (held-joined_changes runs base q a.1)
 
   pub rising-base : (runs : List (List (List ℕ × Option V))) (base : List (List ℕ × V)) → AllRise runs base → IsRising base
   rising-base [] base a = a
   rising-base (run ∷ runs) base a = rising-base runs base a.1
 
   -- so the base with what they say together is the page's entries
-  pub entries-said_by : (runs : List (List (List ℕ × Option V))) (base : List (List ℕ × V)) → AllRise runs base → with_run base (said_by runs) ≡ entries_under runs base
-  entries-said_by runs base a =
+  pub entries-joined_changes : (runs : List (List (List ℕ × Option V))) (base : List (List ℕ × V)) → AllRise runs base → with_run base (joined_changes runs) ≡ entries_under runs base
+  entries-joined_changes runs base a =
       let r = rising-base runs base a in
-      same_map (with_run base (said_by runs)) (entries_under runs base) (rising-with_run base (said_by runs) r) (rising-entries_under runs base a)
-      (λ q. value_at-with_run base (said_by runs) q r (rising-said_by runs base a) ∙ held-said_by runs base q a ∙ sym (value_at-entries_under runs base q a))
+      same_map (with_run base (joined_changes runs)) (entries_under runs base) (rising-with_run base (joined_changes runs) r) (rising-entries_under runs base a)
+      (λ q. value_at-with_run base (joined_changes runs) q r (rising-joined_changes runs base a) ∙ held-joined_changes runs base q a ∙ sym (value_at-entries_under runs base q a))

@@ -41,12 +41,12 @@ piece_stays bytes key from end l m =
     let n : end - from ≤ length (drop from bytes) = rw (length-drop from bytes) (omega arith) in
     ap (λ (x : List ℕ). take (end - from) x) (drop-append-le from bytes key (omega arith)) ∙ take-append-le (end - from) (drop from bytes) key n
 
-piece_behind : (bytes key : List ℕ) (end : ℕ) → end ≡ length bytes + length key → slice_range (bytes ++ key) (length bytes) end ≡ key
-piece_behind [] key end h = simp unary_clauses (take_all end key (omega (arith, h)))
-piece_behind (b ∷ bytes) key zero h = absurd (omega (arith, h))
-piece_behind (b ∷ bytes) key (suc end) h =
+piece_after : (bytes key : List ℕ) (end : ℕ) → end ≡ length bytes + length key → slice_range (bytes ++ key) (length bytes) end ≡ key
+piece_after [] key end h = simp unary_clauses (take_all end key (omega (arith, h)))
+piece_after (b ∷ bytes) key zero h = absurd (omega (arith, h))
+piece_after (b ∷ bytes) key (suc end) h =
     let n : suc end - suc (length bytes) ≡ end - length bytes = omega arith in
-    rw n (piece_behind bytes key end (omega (arith, h)))
+    rw n (piece_after bytes key end (omega (arith, h)))
 
 module _ {V : Type 0} where
   pub length-packed : (from : ℕ) (bytes ends : List ℕ) (cells : List V) → length cells ≡ length ends → length (packed_from from bytes ends cells) ≡ length cells
@@ -101,7 +101,7 @@ module _ {V : Type 0} where
   packed_more : (from : ℕ) (bytes ends : List ℕ) (cells : List V) (key : List ℕ) (cell : V) (end : ℕ) → AreEnds from ends (length bytes) → length cells ≡ length ends → end ≡ length bytes + length key
       → packed_from from (bytes ++ key) (ends ++ end ∷ []) (cells ++ cell ∷ []) ≡ packed_from from bytes ends cells ++ (key, cell) ∷ []
   packed_more from bytes [] [] key cell end h n e =
-      let s : slice_range (bytes ++ key) from end ≡ key = rw h (piece_behind bytes key end e) in
+      let s : slice_range (bytes ++ key) from end ≡ key = rw h (piece_after bytes key end e) in
       ap (λ (k : List ℕ). (k, cell) ∷ []) s
   packed_more from bytes [] (c ∷ cells) key cell end h n e = absurd (omega (arith, n))
   packed_more from bytes (f ∷ ends) [] key cell end h n e = absurd (omega (arith, n))

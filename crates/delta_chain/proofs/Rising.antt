@@ -11,10 +11,10 @@ use Rattle.delta_chain.specs.Building.{goes_last}
 use Rattle.delta_chain.proofs.Places.{front_under}
 
 -- what stands from a place on is the key there, and then the rest
-key_behind : (ks : List (List ℕ)) (at : ℕ) (k : List ℕ) → slice_get ks at ≡ Some k → drop at ks ≡ k ∷ drop (suc at) ks
-key_behind [] at k h = absurd (cc)
-key_behind (j ∷ ks) zero k h = let s : j ≡ k = cc in ap (λ (i : List ℕ). i ∷ ks) s
-key_behind (j ∷ ks) (suc at) k h = key_behind ks at k h
+key_after : (ks : List (List ℕ)) (at : ℕ) (k : List ℕ) → slice_get ks at ≡ Some k → drop at ks ≡ k ∷ drop (suc at) ks
+key_after [] at k h = absurd (cc)
+key_after (j ∷ ks) zero k h = let s : j ≡ k = cc in ap (λ (i : List ℕ). i ∷ ks) s
+key_after (j ∷ ks) (suc at) k h = key_after ks at k h
 
 module _ {V : Type 0} where
   -- a key above the last one is above the first
@@ -81,7 +81,7 @@ module _ {V : Type 0} where
 
   pub goes_last-next_key : (built : List (List ℕ × V)) (ks : List (List ℕ)) (at : ℕ) (k : List ℕ) → AreRisingKeys ks → slice_get ks at ≡ Some k → keys_of built ++ drop at ks ≡ ks → goes_last k built ≡ true
   goes_last-next_key built ks at k r h t =
-      let s : keys_of built ++ k ∷ drop (suc at) ks ≡ ks = rw (key_behind ks at k h) at t in
+      let s : keys_of built ++ k ∷ drop (suc at) ks ≡ ks = rw (key_after ks at k h) at t in
       goes_last-rising_keys built k (drop (suc at) ks) (rw s r)
 
   keys_of-push : (es : List (List ℕ × V)) (k : List ℕ) (v : V) → keys_of (es ++ (k, v) ∷ []) ≡ keys_of es ++ k ∷ []
@@ -90,4 +90,4 @@ module _ {V : Type 0} where
 
   pub push_key : (built : List (List ℕ × V)) (ks : List (List ℕ)) (at : ℕ) (k : List ℕ) (v : V) → slice_get ks at ≡ Some k → keys_of built ++ drop at ks ≡ ks → keys_of (built ++ (k, v) ∷ []) ++ drop (at + 1) ks ≡ ks
   push_key built ks at k v h t =
-      rw (keys_of-push built k v, add-one) (append_assoc (keys_of built) (k ∷ []) (drop (suc at) ks) ∙ ap (λ (x : List (List ℕ)). keys_of built ++ x) (sym (key_behind ks at k h)) ∙ t)
+      rw (keys_of-push built k v, add-one) (append_assoc (keys_of built) (k ∷ []) (drop (suc at) ks) ∙ ap (λ (x : List (List ℕ)). keys_of built ++ x) (sym (key_after ks at k h)) ∙ t)

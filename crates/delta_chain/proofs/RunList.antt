@@ -11,7 +11,7 @@ use Rattle.keys.specs.Order.{IsRising}
 use Rattle.keys.specs.OrderedMap.{value_at}
 use Rattle.delta_chain.specs.Exchange.{exchanged_at, in_place_of, exchanged, exchanged_under}
 use Rattle.delta_chain.specs.Layers.{Layers, held_under, entries_under, AllRise}
-use Rattle.delta_chain.specs.Merging.{said_by, overlaid}
+use Rattle.delta_chain.specs.Merging.{joined_changes, overlaid}
 use Rattle.delta_chain.specs.Counted.{IsCounted}
 use Rattle.delta_chain.specs.NewestRuns.{NamesKnown}
 use Rattle.delta_chain.proofs.Counts.{least_with_run, still_fewest, still_most, most_before}
@@ -24,17 +24,17 @@ more_by named n more top sum all run e s t h = omega (arith, e, s, t, h)
 
 module _ {T : Type 0} where
   -- what is appended is the first in reverse
-  pub reverse-behind : (xs : List T) (x : T) → reverse (xs ++ x ∷ []) ≡ x ∷ reverse xs
-  reverse-behind xs x = reverse-append xs (x ∷ [])
+  pub reverse-following : (xs : List T) (x : T) → reverse (xs ++ x ∷ []) ≡ x ∷ reverse xs
+  reverse-following xs x = reverse-append xs (x ∷ [])
 
-  take-behind : (xs : List T) (at : ℕ) (x : T) → slice_get xs at ≡ Some x → take (suc at) xs ≡ take at xs ++ x ∷ []
-  take-behind [] at x h = absurd (cc)
-  take-behind (y ∷ xs) zero x h = let s : y ≡ x = cc in ap (λ (z : T). z ∷ []) s
-  take-behind (y ∷ xs) (suc at) x h = ap (λ (zs : List T). y ∷ zs) (take-behind xs at x h)
+  take-following : (xs : List T) (at : ℕ) (x : T) → slice_get xs at ≡ Some x → take (suc at) xs ≡ take at xs ++ x ∷ []
+  take-following [] at x h = absurd (cc)
+  take-following (y ∷ xs) zero x h = let s : y ≡ x = cc in ap (λ (z : T). z ∷ []) s
+  take-following (y ∷ xs) (suc at) x h = ap (λ (zs : List T). y ∷ zs) (take-following xs at x h)
 
   -- one more of the first ones
   reverse-take : (xs : List T) (at : ℕ) (x : T) → slice_get xs at ≡ Some x → reverse (take (suc at) xs) ≡ x ∷ reverse (take at xs)
-  reverse-take xs at x h = ap reverse (take-behind xs at x h) ∙ reverse-behind (take at xs) x
+  reverse-take xs at x h = ap reverse (take-following xs at x h) ∙ reverse-following (take at xs) x
 
   -- what is lent as a slice and stays as long is all of the list
   pub all_of : (len : ℕ) (items lent now rest : List T) → len ≡ length items → lent ≡ items → length now ≡ length lent → take len (now ++ rest) ≡ now
@@ -52,7 +52,7 @@ module _ {V : Type 0} where
   counted-push runs now run base n fewest left most more newest noted number i r e s t c a f h =
       let long = length-reverse runs in
       let count : suc (length (reverse runs)) ≡ number = omega (arith, long, c) in
-      rw (i, reverse-behind runs run) (record {
+      rw (i, reverse-following runs run) (record {
         rising = (r, h.rising);
         entries = still_fewest n fewest left (entries_under (reverse runs) base) run h.entries e s;
         no_more = still_most n most more (2 ^ 64 - 1) (entries_under (reverse runs) base) run h.no_more e t;
@@ -60,12 +60,12 @@ module _ {V : Type 0} where
       })
 
   pub page-push : (runs now : List (Changes V)) (run : Changes V) (base : List (List ℕ × V)) → now ≡ runs ++ run ∷ [] → Page now base ≡ record { runs = run ∷ reverse runs; base = base }
-  page-push runs now run base i = rw (i, reverse-behind runs run) refl
+  page-push runs now run base i = rw (i, reverse-following runs run) refl
 
   pub counted-pop : (runs older : List (Changes V)) (run : Changes V) (base : List (List ℕ × V)) (n fewest left most more : ℕ) (newest : List ℕ) → runs ≡ older ++ run ∷ [] → n ≡ length run → left ≡ fewest - n → more ≡ min (most + n) (2 ^ 64 - 1)
       → IsCounted (Page runs base) fewest most newest → IsCounted (Page older base) left more newest
   counted-pop runs older run base n fewest left most more newest i e s t h =
-      let is : reverse runs ≡ run ∷ reverse older = ap reverse i ∙ reverse-behind older run in
+      let is : reverse runs ≡ run ∷ reverse older = ap reverse i ∙ reverse-following older run in
       let rising = rw is at h.rising in
       let entries = rw is at h.entries in
       let no_more = rw is at h.no_more in
@@ -120,13 +120,13 @@ module _ {V : Type 0} where
 
   -- ---- what the first ones say together
 
-  pub said-next : (runs : List (Changes V)) (at : ℕ) (run older : Changes V) → slice_get runs at ≡ Some run → older ≡ said_by (reverse (take at runs)) → overlaid older run ≡ said_by (reverse (take (at + 1) runs))
+  pub said-next : (runs : List (Changes V)) (at : ℕ) (run older : Changes V) → slice_get runs at ≡ Some run → older ≡ joined_changes (reverse (take at runs)) → overlaid older run ≡ joined_changes (reverse (take (at + 1) runs))
   said-next runs at run older h e =
       let step : at + 1 ≡ suc at = omega arith in
       rw (step, reverse-take runs at run h) (ap (λ (m : Changes V). overlaid m run) e)
 
-  pub said-all : (runs : List (Changes V)) (at : ℕ) (changes : Changes V) → length runs ≤ at → changes ≡ said_by (reverse (take at runs)) → changes ≡ said_by (reverse runs)
-  said-all runs at changes l h = h ∙ ap (λ (m : List (Changes V)). said_by (reverse m)) (take_all at runs l)
+  pub said-all : (runs : List (Changes V)) (at : ℕ) (changes : Changes V) → length runs ≤ at → changes ≡ joined_changes (reverse (take at runs)) → changes ≡ joined_changes (reverse runs)
+  said-all runs at changes l h = h ∙ ap (λ (m : List (Changes V)). joined_changes (reverse m)) (take_all at runs l)
 
   -- ---- a cell exchanged in the newest run that names the key
 
@@ -137,24 +137,24 @@ module _ {V : Type 0} where
   pub cell-newest : (runs older : List (Changes V)) (run : Changes V) (at : ℕ) (k : List ℕ) (v now : V) → runs ≡ older ++ run ∷ [] → IsRising run → slice_get (keys_of run) at ≡ Some k
       → ((o : Option V) → slice_get (values_of run) at ≡ Some o → now ≡ unwrap_or o v) → (base : List (List ℕ × V)) → unwrap_or (held_under k (reverse runs) base) v ≡ now
   cell-newest runs older run at k v now i r h f base =
-      rw (i, reverse-behind older run) (sym (held-run run at k (held_under k (reverse older) base) v now r h f))
+      rw (i, reverse-following older run) (sym (held-run run at k (held_under k (reverse older) base) v now r h f))
 
   pub page-newest : (runs older : List (Changes V)) (run now : Changes V) (at : ℕ) (k : List ℕ) (v : V) → runs ≡ older ++ run ∷ [] → IsRising run → slice_get (keys_of run) at ≡ Some k
       → ((o : Option V) → slice_get (values_of run) at ≡ Some o → now ≡ exchanged_at run at (in_place_of o v)) → (base : List (List ℕ × V)) → exchanged_under k v (reverse runs) base ≡ Page (older ++ now ∷ []) base
   page-newest runs older run now at k v i r h f base =
-      rw (i, reverse-behind older run, reverse-behind older now) (sym (exchanged-run run now (Page older base) at k v r h f))
+      rw (i, reverse-following older run, reverse-following older now) (sym (exchanged-run run now (Page older base) at k v r h f))
 
   -- below one that doesn't name the key
   pub cell-older : (runs older : List (Changes V)) (run : Changes V) (k : List ℕ) (v now : V) (b : Bool) → runs ≡ older ++ run ∷ [] → value_at k run ≡ None
       → ((base : List (List ℕ × V)) → unwrap_or (held_under k (reverse older) base) v ≡ (if b then now else unwrap_or (value_at k base) v))
       → (base : List (List ℕ × V)) → unwrap_or (held_under k (reverse runs) base) v ≡ (if b then now else unwrap_or (value_at k base) v)
-  cell-older runs older run k v now b i h f base = rw (i, reverse-behind older run, h) (f base)
+  cell-older runs older run k v now b i h f base = rw (i, reverse-following older run, h) (f base)
 
   pub page-older : (runs older after : List (Changes V)) (run : Changes V) (k : List ℕ) (v : V) (b : Bool) → runs ≡ older ++ run ∷ [] → value_at k run ≡ None
       → ((base : List (List ℕ × V)) → exchanged_under k v (reverse older) base ≡ record { runs = reverse after; base = if b then base else (exchanged_under k v [] base).base })
       → (base : List (List ℕ × V)) → exchanged_under k v (reverse runs) base ≡ record { runs = reverse (after ++ run ∷ []); base = if b then base else (exchanged_under k v [] base).base }
   page-older runs older after run k v b i h f base =
-      rw (i, reverse-behind older run, reverse-behind after run, h)
+      rw (i, reverse-following older run, reverse-following after run, h)
       (ap (λ (p : Layers V). record { runs = run ∷ p.runs; base = p.base }) (f base))
 
   -- ---- in a chain, whose list of runs is what was left of it

@@ -10,14 +10,14 @@ pub record Layers (V : Type 0) : Type 0 where
   pub base : Pairs V
 
 -- a run's change of a key, else what is below it
-abbrev pub said_or : {V : Type 0} → Option (Option V) → Option V → Option V
-said_or None below = below
-said_or (Some change) below = change
+abbrev pub change_or : {V : Type 0} → Option (Option V) → Option V → Option V
+change_or None below = below
+change_or (Some change) below = change
 
 -- the change of the newest run that names the key, else the base's entry
 abbrev pub held_under : {V : Type 0} → Bytes → List (Changes V) → Pairs V → Option V
 held_under k [] base = value_at k base
-held_under k (run ∷ runs) base = said_or (value_at k run) (held_under k runs base)
+held_under k (run ∷ runs) base = change_or (value_at k run) (held_under k runs base)
 
 -- what the page holds at the key
 abbrev pub holds : {V : Type 0} → Layers V → Bytes → Option V

@@ -25,6 +25,6 @@ abbrev pub overlaid : {V : Type 0} → Changes V → Changes V → Changes V
 overlaid older newer = with_run older (asserted newer)
 
 -- the changes of runs joined, the newest run first
-abbrev pub said_by : {V : Type 0} → List (Changes V) → Changes V
-said_by [] = []
-said_by (run ∷ runs) = overlaid (said_by runs) run
+abbrev pub joined_changes : {V : Type 0} → List (Changes V) → Changes V
+joined_changes [] = []
+joined_changes (run ∷ runs) = overlaid (joined_changes runs) run

@@ -4,12 +4,12 @@ ghost use Rattle.keys.specs.Bytes.{Bytes, Pairs, Changes};
 ghost use Rattle.keys.specs.Order.{IsRising};
 ghost use Rattle.keys.specs.OrderedMap.{value_at};
 ghost use Rattle.delta_chain.specs.Late.{Late, seen};
-ghost use Rattle.delta_chain.specs.Layers.{Layers, said_or, holds, with_run, entries_of, IsInOrder};
+ghost use Rattle.delta_chain.specs.Layers.{Layers, change_or, holds, with_run, entries_of, IsInOrder};
 
 /// Entries with a run applied have at each key the run's change, else what they had, and they rise.
 pub fn a_run_says_or_leaves<V>()
     ensures holds { (m : Pairs V) (run : Changes V) (k : Bytes) → IsRising m → IsRising run →
-        value_at k (with_run m run) ≡ said_or (value_at k run) (value_at k m) }
+        value_at k (with_run m run) ≡ change_or (value_at k run) (value_at k m) }
     ensures rising { (m : Pairs V) (run : Changes V) → IsRising m → IsRising (with_run m run) }
 {}
 

@@ -4,7 +4,7 @@ ghost use Rattle.std.specs.Option.{option_copied};
 ghost use Rattle.keys.specs.Order.{IsRising};
 ghost use Rattle.delta_chain.specs.Layers.{AllRise, with_run};
 ghost use Rattle.delta_chain.specs.Lent.{pairs_lent};
-ghost use Rattle.delta_chain.specs.Merging.{pair_if, first_order, overlaid, said_by};
+ghost use Rattle.delta_chain.specs.Merging.{pair_if, first_order, overlaid, joined_changes};
 
 use crate::base::Base;
 use crate::pairs::Pairs;
@@ -52,7 +52,7 @@ pub(crate) fn merged<'a, V, A: Allocator + Copy>(
     alloc: A,
     runs: &'a [Run<V, A>],
 ) -> Result<Pairs<'a, Option<V>, A>, AllocError>
-    ensures changes { IfOk result (λ changes. changes ≡ said_by (reverse runs.now)) }
+    ensures changes { IfOk result (λ changes. changes ≡ joined_changes (reverse runs.now)) }
     ensures rising { IfOk result (λ changes. AllRise {V = V} (reverse runs.now) []) }
 {
     let Some((newest, others)) = runs.split_last() else {

@@ -42,13 +42,13 @@ module _ {D : Type 0} (view : D → View) (s : Settings) (st : Store) (old new :
   -- and where it was refused
   pub refused-sound : (b : Bool) (fault : Fault) (W : Type 0) → ((fault ≡ Device) × (b ≡ true)) ⊎ ((fault ≢ Device) × (b ≡ false)) → (IsTrue (view old).is_honest → Same (view old) (view new) ⊎ ((fault ≡ Device) × W))
       → IsSound view (record { settings = s; store = st; disk = new; has_failed = b })
-  refused-sound b fault W told written = record {
+  refused-sound b fault W reported written = record {
     is = was.is;
     room = subst (λ (n : ℕ). disk_size s ≤ n) (sym keeps.size) was.room;
     step = λ none still. (
         let honest = subst IsTrue keeps.honest still in
         ⊎_elim
         (λ same. subst (λ (f : List ℕ). IsInStep s st f) (sym same.seen) (was.step fine honest))
-        (λ device. ⊎_elim (λ yes. (let has = yes.1 in absurd (cc))) (λ no. absurd (no.0 device.0)) told)
+        (λ device. ⊎_elim (λ yes. (let has = yes.1 in absurd (cc))) (λ no. absurd (no.0 device.0)) reported)
         (written honest));
   }

@@ -28,7 +28,7 @@ use Rattle.engine.specs.Steps.Answer.{Flushed, Cleaned}
 use Rattle.engine.specs.Turns.{IsTurn}
 use Rattle.engine.specs.declared.step.Answer as code_answer
 use Rattle.engine.specs.declared.step.Step.TheVariants as called
-use Rattle.engine.proofs.PlayTurn.{no_turn, turn_as, stays, still_said, still_exact, goes_on, crash_on, refused_behind}
+use Rattle.engine.proofs.PlayTurn.{no_turn, turn_as, stays, still_said, still_exact, goes_on, crash_on, refused_after}
 
 -- ---- steps
 
@@ -116,11 +116,11 @@ gone_on fault left (inl full) = (full.0, full.1, λ device. (let e = full.0 in a
 gone_on fault left (inr other) = (let e = other.1 in absurd (cc))
 
 -- not gone on: with the same fault, and none are left for a full log
-pub not_gone_on : {T : Type 0} {x : T} (fault told : Fault) (left : ℕ)
-    → ((fault ≡ Full) × (0 < left) × (let q : Result T Fault = Err told in q ≡ Ok x)) ⊎ ((fault ≡ Full → left ≡ 0) × (let q : Result T Fault = Err told in q ≡ Err fault))
-    → (told ≡ fault) × (fault ≡ Full → left ≡ 0)
-not_gone_on fault told left (inl full) = (let e = full.2 in absurd (cc))
-not_gone_on fault told left (inr other) = ((let e = other.1 in cc), other.0)
+pub not_gone_on : {T : Type 0} {x : T} (fault reported : Fault) (left : ℕ)
+    → ((fault ≡ Full) × (0 < left) × (let q : Result T Fault = Err reported in q ≡ Ok x)) ⊎ ((fault ≡ Full → left ≡ 0) × (let q : Result T Fault = Err reported in q ≡ Err fault))
+    → (reported ≡ fault) × (fault ≡ Full → left ≡ 0)
+not_gone_on fault reported left (inl full) = (let e = full.2 in absurd (cc))
+not_gone_on fault reported left (inr other) = ((let e = other.1 in cc), other.0)
 
 -- ---- so far
 
@@ -213,27 +213,27 @@ module _ {D : Type 0} (view : D → View) (failures : D → ℕ) (lawful : (disk
         tree = ap (λ (x : Store). x.tree) unchanged ∙ done.tree;
       }
 
-      abbrev FaultBehind : Step Global → Fault → Type 0
-      FaultBehind x fault = (file : List ℕ) × (IsTrue (view old.disk).is_honest → file ≡ (plays (batching old.settings) old.settings old.store first (cleans count)).bytes)
+      abbrev FaultAfter : Step Global → Fault → Type 0
+      FaultAfter x fault = (file : List ℕ) × (IsTrue (view old.disk).is_honest → file ≡ (plays (batching old.settings) old.settings old.store first (cleans count)).bytes)
           × IsStepFault old.settings next.store file (failures old.disk) (failures next.disk) x fault
 
-      flush_behind : (fault : Fault) → FaultIn Flush fault → FaultBehind Flush fault
-      flush_behind fault why = refused_behind view failures lawful old (cleans count) done.said cur done.turn next called.Flush (failures next.disk) fault unchanged why
+      flush_after : (fault : Fault) → FaultIn Flush fault → FaultAfter Flush fault
+      flush_after fault why = refused_after view failures lawful old (cleans count) done.said cur done.turn next called.Flush (failures next.disk) fault unchanged why
 
-      clean_behind : (fault : Fault) → FaultIn Clean fault → FaultBehind Clean fault
-      clean_behind fault why = refused_behind view failures lawful old (cleans count) done.said cur done.turn next called.Clean (failures next.disk) fault unchanged why
+      clean_after : (fault : Fault) → FaultIn Clean fault → FaultAfter Clean fault
+      clean_after fault why = refused_after view failures lawful old (cleans count) done.said cur done.turn next called.Clean (failures next.disk) fault unchanged why
 
       -- the log is full, in a flush that was refused so
       pub is_full : (fault : Fault) → fault ≡ Full → FaultIn Flush fault → (other : List ℕ) → after_flush old.settings next.store other ≡ Err Full
-      is_full fault full behind other =
-          let (file, shown, why) = flush_behind fault behind in
+      is_full fault full following other =
+          let (file, shown, why) = flush_after fault following in
           full_any old.settings next.store file other (full_of old.settings next.store file (failures old.disk) (failures next.disk) fault full why)
 
       pub full_needed : (fault : Fault) → fault ≡ Full → FaultIn Flush fault → IsTrue (view old.disk).is_honest → AreNeeded old.settings old.store first (suc count)
-      full_needed fault full behind honest =
+      full_needed fault full following honest =
           let p : Played Global = plays (batching old.settings) old.settings old.store first (cleans count) in
           let store : next.store ≡ p.store = unchanged ∙ (done.turn.exact honest).store in
-          needed_more old.settings old.store first count (done.needed honest) (subst (λ (x : Store). after_flush old.settings x p.bytes ≡ Err Full) store (is_full fault full behind p.bytes))
+          needed_more old.settings old.store first count (done.needed honest) (subst (λ (x : Store). after_flush old.settings x p.bytes ≡ Err Full) store (is_full fault full following p.bytes))
 
       module _ (rest : (next.settings ≡ cur.settings) × Kept (view cur.disk) (view next.disk)) (fine : old.has_failed ≡ false) (sound : IsSound view next) where
         -- stopped in a step, with this fault, which a caller is answered
@@ -271,8 +271,8 @@ module _ {D : Type 0} (view : D → View) (failures : D → ℕ) (lawful : (disk
             → FaultIn Flush fault
             → (fault ≡ Full → count ≡ old.settings.segments)
             → IsStoppedCleaning view failures old next fault
-        stopped_flush fault counted same device crash behind last =
-            let (file, shown, why) = flush_behind fault behind in
+        stopped_flush fault counted same device crash following last =
+            let (file, shown, why) = flush_after fault following in
             stopped_in Flush fault fault (λ other. other) (λ is. is) counted same device crash (file, shown, inl (refl, why, last))
 
         -- in a clean
@@ -285,7 +285,7 @@ module _ {D : Type 0} (view : D → View) (failures : D → ℕ) (lawful : (disk
             → count < old.settings.segments
             → ((other : List ℕ) → after_flush old.settings cur.store other ≡ Err Full)
             → IsStoppedCleaning view failures old next fault
-        stopped_clean why fault want counted same device crash behind more full =
-            let (file, shown, is) = clean_behind why behind in
+        stopped_clean why fault want counted same device crash following more full =
+            let (file, shown, is) = clean_after why following in
             stopped_in Clean why fault (want_other why fault want) (want_device why fault want) counted same device crash
             (file, shown, inr (refl, more, subst (λ (x : Store). after_flush old.settings x file ≡ Err Full) (sym unchanged) (full file), why, want, is))

@@ -64,7 +64,7 @@ module _ {D : Type 0} (view : D → View) (s : Settings) (tree : TreeInMemory) (
   opened-seen honest = subst (λ (f : Bytes). store_of_disk f ≡ read_as s (store_in tree log version)) (read.honest honest) opened-read
 
 pub refused-seen : (v : View) (file : Bytes) (fault : Fault) (L : Type 0) → IsReadOf v file → (store_of_disk file ≡ Err fault) ⊎ L → IsTrue v.is_honest → (store_of_disk v.seen ≡ Err fault) ⊎ L
-refused-seen v file fault L read told honest = subst (λ (f : Bytes). (store_of_disk f ≡ Err fault) ⊎ L) (read.honest honest) told
+refused-seen v file fault L read reported honest = subst (λ (f : Bytes). (store_of_disk f ≡ Err fault) ⊎ L) (read.honest honest) reported
 
 -- what was opened of the bytes that were read is what was opened of those that a read gives
 pub opened_seen : {D : Type 0} (failed : D → ℕ) (v : View) (file : Bytes) (count : ℕ) (r : Result (State D) (Fault × D)) → IsReadOf v file → IsOpened failed file count r

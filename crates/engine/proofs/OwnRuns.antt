@@ -14,7 +14,7 @@ use Rattle.index_page.specs.Children.{is_between}
 use Rattle.index_page.specs.Range.{is_below, is_before, is_within}
 use Rattle.index_page.proofs.PageLemmas.{all_keys_entries}
 use Rattle.index_page.proofs.MeetingLemmas.{not_met}
-use Rattle.index_page.proofs.RangeLemmas.{below_is_less, less_is_below, low_through, rising-filter, value_at-behind}
+use Rattle.index_page.proofs.RangeLemmas.{below_is_less, less_is_below, low_through, rising-filter, value_at-following}
 use Rattle.mapping.specs.Levels.{Placed, entries, joined}
 use Rattle.mapping.specs.Proper.{next_low, Tiled}
 use Rattle.mapping.proofs.TileLemmas.{rising-tile, value_at-joined}
@@ -126,7 +126,7 @@ later_part m run p q qs left t l = record {
       ∙ ap (λ (o : Option (Option (List ℕ))). cond (not (is_below k q.page.low)) o None) (l.says k)
       ∙ later_part_by (is_below k p.page.low) (is_below k q.page.low) (value_at k run) (below_later p q qs t k);
   has = λ k h. l.has k (not_by (is_below k p.page.low) (is_below k q.page.low) (below_later p q qs t k) h)
-      ∙ value_at-behind q.page.low k (entries p) (joined (q ∷ qs)) h (all_keys_entries (λ j. is_below j q.page.low ≡ true) p.page t.0.keys.before);
+      ∙ value_at-following q.page.low k (entries p) (joined (q ∷ qs)) h (all_keys_entries (λ j. is_below j q.page.low ≡ true) p.page t.0.keys.before);
 }
 
 not_below_nothing : (k : List ℕ) → is_below k [] ≡ false

@@ -29,8 +29,8 @@ one_taken xs i x h is =
     ∙ ap (λ (y : code_step.Step). map step_of (take i xs) ++ step_of y ∷ []) (sym is)
 
 -- and the one after those that were taken
-pub one_behind : (xs : List code_step.Step) (i : ℕ) (x : code_step.Step) → i < length xs → x ≡ get_or xs i x → drop i xs ≡ x ∷ drop (i + 1) xs
-one_behind xs i x h is = drop_more xs i x h ∙ ap (λ (y : code_step.Step). y ∷ drop (i + 1) xs) (sym is)
+pub one_after : (xs : List code_step.Step) (i : ℕ) (x : code_step.Step) → i < length xs → x ≡ get_or xs i x → drop i xs ≡ x ∷ drop (i + 1) xs
+one_after xs i x h is = drop_more xs i x h ∙ ap (λ (y : code_step.Step). y ∷ drop (i + 1) xs) (sym is)
 
 -- where none are taken of some, none are asked for
 pub none_taken : (xs : List code_step.Step) (i : ℕ) → i < length xs → map step_of (take i xs) ≡ [] → i ≡ 0
@@ -150,8 +150,8 @@ module _ (s : Settings) (st : Store) (file : List ℕ) where
 -- ---- turns
 
 -- of the same steps and answers
-pub turn_as : {D : Type 0} (view : D → View) (failures : D → ℕ) (old now : State D) (xs ys : List (Step Global)) (said told : List code_answer.Answer) → ys ≡ xs → told ≡ said → IsTurn view failures old xs said now → IsTurn view failures old ys told now
-turn_as view failures old now xs ys said told steps answers turn =
+pub turn_as : {D : Type 0} (view : D → View) (failures : D → ℕ) (old now : State D) (xs ys : List (Step Global)) (said reported : List code_answer.Answer) → ys ≡ xs → reported ≡ said → IsTurn view failures old xs said now → IsTurn view failures old ys reported now
+turn_as view failures old now xs ys said reported steps answers turn =
     subst (λ (l : List code_answer.Answer). IsTurn view failures old ys l now) (sym answers) (subst (λ (l : List (Step Global)). IsTurn view failures old l said now) (sym steps) turn)
 
 module _ {D : Type 0} (view : D → View) (failures : D → ℕ) (lawful : (disk : D) → IsTrue (view disk).is_honest → Lawful (view disk)) (old : State D) where
@@ -225,10 +225,10 @@ module _ {D : Type 0} (view : D → View) (failures : D → ℕ) (lawful : (disk
         }
 
     -- why it was refused
-    pub refused_behind : (y : code_step.Step) (count : ℕ) (fault : Fault) → next.store ≡ cur.store
+    pub refused_after : (y : code_step.Step) (count : ℕ) (fault : Fault) → next.store ≡ cur.store
         → (file : List ℕ) × (IsTrue (view cur.disk).is_honest → file ≡ (view cur.disk).seen) × IsStepFault cur.settings cur.store file (failures cur.disk) count (step_of y) fault
         → (file : List ℕ) × (IsTrue (view old.disk).is_honest → file ≡ (plays (batching s) s old.store first xs).bytes) × IsStepFault s next.store file (failures old.disk) count (step_of y) fault
-    refused_behind y count fault store (file, shown, why) =
+    refused_after y count fault store (file, shown, why) =
         let here = subst (λ (z : Settings). IsStepFault z cur.store file (failures cur.disk) count (step_of y) fault) turn.settings why in
         let there = subst (λ (n : ℕ). IsStepFault s cur.store file n count (step_of y) fault) turn.failed here in (
           file,
@@ -262,9 +262,9 @@ module _ {D : Type 0} (view : D → View) (failures : D → ℕ) (lawful : (disk
           still_words s old.store first xs said cur.store (turn.exact honest) x (turn.words honest)
           (subst (λ (z : Settings). HasWords {A = Global} (batching z) z cur.store x) turn.settings here)
 
-      pub left_behind_it : Kept (view cur.disk) (view next.disk) → CrashOfStep → old.has_failed ≡ false → IsSettled (view old.disk) → (c : List ℕ) → (view next.disk).may_leave c
+      pub left_after_it : Kept (view cur.disk) (view next.disk) → CrashOfStep → old.has_failed ≡ false → IsSettled (view old.disk) → (c : List ℕ) → (view next.disk).may_leave c
           → (store_of_disk c ≡ store_of_disk (plays (batching s) s old.store first xs).bytes) ⊎ (store_of_disk c ≡ store_of_disk (plays (batching s) s old.store first (xs ++ x ∷ [])).bytes)
-      left_behind_it kept crash fine was c left =
+      left_after_it kept crash fine was c left =
           left_by s old.store first xs said cur.store (turn.exact was.honest) x (view cur.disk).seen c (turn.bytes was.honest)
           (now_leaves (view cur.disk) (view next.disk) (Left s) (lawful next.disk (subst IsTrue (sym kept.honest) (still_honest was.honest))) (step_leaves crash fine was) c left)
 

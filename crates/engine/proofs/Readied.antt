@@ -28,7 +28,7 @@ use Rattle.climb_plan.proofs.ArrivedPages.{home_keys}
 use Rattle.climb_plan.proofs.BridgeTables.{taken_others, taken_logged, taken_pids}
 use Rattle.climb_plan.proofs.Climbing.{still_home_above}
 use Rattle.climb_plan.proofs.Installing.{distinct_first}
-use Rattle.climb_plan.proofs.InstallingLemmas.{none_of, not_among, away-all_taken, put_back_is_before, none_behind}
+use Rattle.climb_plan.proofs.InstallingLemmas.{none_of, not_among, away-all_taken, put_back_is_before, none_after}
 use Rattle.engine.specs.Leaves.{route_pids, leaves_made}
 use Rattle.engine.specs.SoundTree.{IsSoundInMemory}
 use Rattle.engine.proofs.OwnRuns.{all_left}
@@ -98,7 +98,7 @@ module _ (t : Mapping PageOfKind) (cs : List (Command Global)) (w : Route → Bo
 
   above_stay : (ls : List (List (Placed ℕ))) → Distinct (all_pids ps ls) → AllByRecursion (AreHome Index t) ls → AllByRecursion (AreHome Index taken) ls
   above_stay ls d h =
-      still_home_above t taken ls (all_weaker (λ n. is_among n (pids ps) ≡ false) (λ n. place_of taken n ≡ place_of t n) others_stay (flat_map pids ls) (none_behind (pids ps) (flat_map pids ls) d)) h
+      still_home_above t taken ls (all_weaker (λ n. is_among n (pids ps) ≡ false) (λ n. place_of taken n ≡ place_of t n) others_stay (flat_map pids ls) (none_after (pids ps) (flat_map pids ls) d)) h
 
 -- ---- the leaves are put back
 

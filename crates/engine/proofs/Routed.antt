@@ -155,17 +155,17 @@ module _ (s : Settings) (m : TreeInMemory) (cs : List (Command Global)) (sound :
   blanks_missing = all_but_blank s cs routed.0 m.table rs here same
 
   -- what was answered is what the leaves answer to the commands with nearer ends, but for blank answers
-  module _ (ps : List (Piece Global)) (told : ps ≡ answers (leaves_made s cs m.table rs)) where
+  module _ (ps : List (Piece Global)) (reported : ps ≡ answers (leaves_made s cs m.table rs)) where
     pub answered : AreAnswers cs ps
     answered =
         let right = but_answers ended (answers (leaves_made s ended m.table rs)) (answers (leaves_made s ended m.table here)) blanks_missing (answered_rightly s m ended sound.home sound.sound.proper) in
         let all : AreAnswers cs (answers (leaves_made s cs m.table rs)) = answers-ended cs routed.0 (answers (leaves_made s cs m.table rs)) (rw all_made right) in
-        subst (λ (qs : List (Piece Global)). AreAnswers cs qs) (sym told) all
+        subst (λ (qs : List (Piece Global)). AreAnswers cs qs) (sym reported) all
 
     pub as_a_map : length (contents (tree_of m)) + length cs ≤ most_counted → (xs : List (Reply Global)) → ((place : ℕ) → slice_get xs place ≡ reply_at cs ps place) → xs ≡ replies_to (contents (tree_of m)) cs
     as_a_map few xs at =
         answered_as_a_map s m ended sound.home sound.sound.proper (rw (length-with_ends cs routed.0) few) xs
-        (λ place. at place ∙ ap (λ (qs : List (Piece Global)). reply_at cs qs place) told ∙ sym (reply-ended cs routed.0 (answers (leaves_made s cs m.table rs)) place) ∙ ap (λ (ms : List LeafMade). reply_at ended (answers ms) place) all_made
+        (λ place. at place ∙ ap (λ (qs : List (Piece Global)). reply_at cs qs place) reported ∙ sym (reply-ended cs routed.0 (answers (leaves_made s cs m.table rs)) place) ∙ ap (λ (ms : List LeafMade). reply_at ended (answers ms) place) all_made
         ∙ but_reply ended (answers (leaves_made s ended m.table rs)) (answers (leaves_made s ended m.table here)) blanks_missing place)
         ∙ replies-with_ends (keys_of (names (levels_of (tree_of m)).level)) (contents (tree_of m)) cs routed.0 (rising-joined (levels_of (tree_of m)).level None sound.sound.proper.levels.tiled) routed.1
 

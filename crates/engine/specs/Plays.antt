@@ -110,7 +110,7 @@ IsLeftInStep s st file x c =
     ⊎ ((answer : Answer Global) × (now : Store) × (after_step (batching s) s st file x ≡ Ok (answer, (now, c))))
 
 -- it leaves the store after the first n of these steps, or after one more
-abbrev pub IsLeftBehind : Settings → Store → Bytes → List code_step.Step → ℕ → Bytes → Type 0
-IsLeftBehind s st file xs n c =
+abbrev pub IsLeftAfter : Settings → Store → Bytes → List code_step.Step → ℕ → Bytes → Type 0
+IsLeftAfter s st file xs n c =
     (store_of_disk c ≡ store_of_disk (plays (batching s) s st file (map step_of (take n xs))).bytes)
     ⊎ (store_of_disk c ≡ store_of_disk (plays (batching s) s st file (map step_of (take (n + 1) xs))).bytes)

@@ -68,12 +68,12 @@ pub record Played (A : Type 0) : Type 0 where
   pub fault : Option Fault
 
 -- the same after another answer
-abbrev pub behind_answer : {A : Type 0} → Answer A → Played A → Played A
-behind_answer a p = record { answers = a ∷ p.answers; store = p.store; bytes = p.bytes; fault = p.fault }
+abbrev pub after_answer : {A : Type 0} → Answer A → Played A → Played A
+after_answer a p = record { answers = a ∷ p.answers; store = p.store; bytes = p.bytes; fault = p.fault }
 
 -- what is played on from what a step left; where it was refused, nothing is, and the store and the bytes stay
 abbrev pub played_on : {A : Type 0} → Store → Bytes → Stepped A → (Store → Bytes → Played A) → Played A
-played_on st file (Ok p) next = behind_answer p.0 (next p.1.0 p.1.1)
+played_on st file (Ok p) next = after_answer p.0 (next p.1.0 p.1.1)
 played_on st file (Err fault) next = record { answers = []; store = st; bytes = file; fault = Some fault }
 
 -- the steps, played on a store and the bytes of its disk

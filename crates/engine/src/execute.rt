@@ -5,7 +5,7 @@ ghost use Rattle.keys.specs.declared.command.Command.{Command};
 ghost use Rattle.keys.specs.declared.fault.Fault.TheVariants.{NoMemory};
 ghost use Rattle.keys.specs.Step.{replies_to, map_after_all};
 ghost use Rattle.mapping.specs.Levels.{contents, levels_of};
-ghost use Rattle.mapping.specs.Proper.{AreLevels, HoldsLevels};
+ghost use Rattle.mapping.specs.Proper.{AreLevels, HoldsItsLevels};
 ghost use Rattle.mapping.specs.Tree as definitions;
 ghost use Rattle.mapping.specs.Tree.{most_levels};
 ghost use Rattle.mapping.specs.TreeInMemory.{AreAllHome, tree_of};
@@ -86,7 +86,7 @@ fn routes_to_leaves(
 ) -> Result<Vec<PageRun>, Fault>
     requires home { AreAllHome tree.now }
     requires height { tree.now.height ≤ most_levels }
-    requires held { HoldsLevels (tree_of tree.now).pages (levels_of (tree_of tree.now)) }
+    requires held { HoldsItsLevels (tree_of tree.now) }
     requires levels { AreLevels (levels_of (tree_of tree.now)) }
     ensures ok { IfOk result (λ runs. AreRoutesFor (tree_of tree.now) commands.now runs.items) }
     ensures err { IfErr result (λ fault. fault ≡ NoMemory) }

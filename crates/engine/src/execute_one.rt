@@ -5,7 +5,7 @@ ghost use Rattle.keys.specs.Step.{replies_to, map_after_all};
 ghost use Rattle.keys.specs.declared.command.Command.{Command};
 ghost use Rattle.index_page.specs.Page.PageOfKind.{Leaf};
 ghost use Rattle.mapping.specs.Levels.{contents, levels_of};
-ghost use Rattle.mapping.specs.Proper.{AreLevels, HoldsLevels};
+ghost use Rattle.mapping.specs.Proper.{AreLevels, HoldsItsLevels};
 ghost use Rattle.mapping.specs.Table.{place_of, with_place};
 ghost use Rattle.mapping.specs.Tree as definitions;
 ghost use Rattle.mapping.specs.Tree.{most_levels};
@@ -78,7 +78,7 @@ pub(crate) fn execute_one(
 // The page id of the leaf that the command goes to.
 fn leaf_of(tree: &Tree<Global>, command: &Command<Global>) -> Pid
     requires home { AreAllHome tree.now }
-    requires held { HoldsLevels (tree_of tree.now).pages (levels_of (tree_of tree.now)) }
+    requires held { HoldsItsLevels (tree_of tree.now) }
     requires levels { AreLevels (levels_of (tree_of tree.now)) }
     requires point { is_ranged command.now ≡ false }
     ensures { IsOnlyLeaf (tree_of tree.now) command.now result }

@@ -44,7 +44,7 @@ impl fmt::Display for OpenFault {
 impl Error for OpenFault {}
 
 impl From<Fault> for OpenFault {
-    ghost from_gives = { λ fault told. told ≡ open_fault.Store fault };
+    ghost from_gives = { λ fault reported. reported ≡ open_fault.Store fault };
 
     fn from(fault: Fault) -> OpenFault {
         OpenFault::Store(fault)
@@ -52,7 +52,7 @@ impl From<Fault> for OpenFault {
 }
 
 impl From<io::Error> for OpenFault {
-    ghost from_gives = { λ reason told. (told ≡ Locked) ⊎ (told ≡ open_fault.File reason) };
+    ghost from_gives = { λ reason fault. (fault ≡ Locked) ⊎ (fault ≡ open_fault.File reason) };
 
     fn from(reason: io::Error) -> OpenFault {
         match reason.kind() {

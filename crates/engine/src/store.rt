@@ -219,7 +219,7 @@ impl<D: Disk> Store<D> {
     /// Looks at every page, whether the tree is proper. It always is, so the answer is the report: how many pages the tree
     /// has, how many levels, and how many pairs. It is refused only for lack of memory, with `Fault::NoMemory`.
     pub fn verify(&self, rt: &(impl Threads + Sync)) -> Result<Report, Fault>
-        ensures ok { IfOk result (λ told. told ≡ report self.now.store.tree) }
+        ensures ok { IfOk result (λ reported. reported ≡ report self.now.store.tree) }
         ensures err { IfErr result (λ fault. fault ≡ NoMemory) }
     {
         // Only for the proof.

@@ -26,15 +26,15 @@ no_block bytes other = of (bytes_eq (settings_block (settings_in bytes)) bytes) 
     of false same = refl
 
 -- of the settings in them, whether they spell these and these pass
-pub block_told : (bytes : Bytes) (s : Settings) (same good : Bool) → s ≡ settings_in bytes → same ≡ bytes_eq (settings_block s) bytes → good ≡ is_none (first_bad_field s)
+pub block_read : (bytes : Bytes) (s : Settings) (same good : Bool) → s ≡ settings_in bytes → same ≡ bytes_eq (settings_block s) bytes → good ≡ is_none (first_bad_field s)
     → chosen s (same && good) ≡ read_settings bytes
-block_told bytes s same good is e g =
+block_read bytes s same good is e g =
     let tests : same && good ≡ bytes_eq (settings_block s) bytes && is_none (first_bad_field s) = ap₂ (λ (a b : Bool). a && b) e g in
     ap (chosen s) tests ∙ ap (λ (t : Settings). chosen t (bytes_eq (settings_block t) bytes && is_none (first_bad_field t))) is
 
 -- where they don't pass
 pub refused : (bytes : Bytes) (s : Settings) → s ≡ settings_in bytes → false ≡ is_none (first_bad_field s) → None ≡ read_settings bytes
-refused bytes s is g = none (bytes_eq (settings_block s) bytes) ∙ block_told bytes s (bytes_eq (settings_block s) bytes) false is refl g
+refused bytes s is g = none (bytes_eq (settings_block s) bytes) ∙ block_read bytes s (bytes_eq (settings_block s) bytes) false is refl g
   where
     none : (b : Bool) → None ≡ chosen s (b && false)
     none true = refl

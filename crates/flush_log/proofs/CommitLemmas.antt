@@ -230,8 +230,8 @@ module _ (s : Settings) (file : List ℕ) (spans : List Span) (t : Slot) (long :
 
     -- ---- all calls
 
-    abbrev behind : List Call
-    behind = Sync ∷ Write (place + 1) (slot_body t) ∷ Sync ∷ []
+    abbrev following : List Call
+    following = Sync ∷ Write (place + 1) (slot_body t) ∷ Sync ∷ []
 
     abbrev possible : List ℕ → Type 0
     possible = MayLeave (close_gate b place) file (λ d. d ≡ file)
@@ -252,27 +252,27 @@ module _ (s : Settings) (file : List ℕ) (spans : List Span) (t : Slot) (long :
     staged_before c is = half c (subst (λ (f : List ℕ). AgreeAt (IsBeside (place + 1) 63) mid f) (sym is) staged_same)
 
     -- in steps 3 to 5
-    behind_before : (c : List ℕ) → During behind mid (MayLeave (writes s spans) shut_file possible) c → Before c
-    behind_before c (zero, h) = spans_before c (after_all (writes s spans) shut_file possible c h)
-    behind_before c (suc zero, h) = mid_before c h
-    behind_before c (suc (suc zero), (d, is, torn)) = half c (subst (λ (f : List ℕ). AgreeAt (IsBeside (place + 1) 63) f c) is torn)
-    behind_before c (suc (suc (suc zero)), h) = staged_before c h
-    behind_before c (suc (suc (suc (suc k))), h) = staged_before c h
+    after_before : (c : List ℕ) → During following mid (MayLeave (writes s spans) shut_file possible) c → Before c
+    after_before c (zero, h) = spans_before c (after_all (writes s spans) shut_file possible c h)
+    after_before c (suc zero, h) = mid_before c h
+    after_before c (suc (suc zero), (d, is, torn)) = half c (subst (λ (f : List ℕ). AgreeAt (IsBeside (place + 1) 63) f c) is torn)
+    after_before c (suc (suc (suc zero)), h) = staged_before c h
+    after_before c (suc (suc (suc (suc k))), h) = staged_before c h
 
     abbrev first_calls : List Call
-    first_calls = close_gate b place ++ (writes s spans ++ behind)
+    first_calls = close_gate b place ++ (writes s spans ++ following)
 
     first_before : (c : List ℕ) → During first_calls file (λ d. d ≡ file) c → Before c
     first_before c h =
         ⊎_elim (close_before c)
-        (λ later. ⊎_elim (spans_before c) (behind_before c) (during-append (writes s spans) behind shut_file possible c later))
-        (during-append (close_gate b place) (writes s spans ++ behind) file (λ d. d ≡ file) c h)
+        (λ later. ⊎_elim (spans_before c) (after_before c) (during-append (writes s spans) following shut_file possible c later))
+        (during-append (close_gate b place) (writes s spans ++ following) file (λ d. d ≡ file) c h)
 
     first_seen : seen_after first_calls file ≡ staged
-    first_seen = seen_after-append (close_gate b place) (writes s spans ++ behind) file ∙ seen_after-append (writes s spans) behind shut_file
+    first_seen = seen_after-append (close_gate b place) (writes s spans ++ following) file ∙ seen_after-append (writes s spans) following shut_file
 
     first_leave : (c : List ℕ) → MayLeave first_calls file (λ d. d ≡ file) c → c ≡ staged
-    first_leave c h = leave-append (writes s spans) behind shut_file possible c (leave-append (close_gate b place) (writes s spans ++ behind) file (λ d. d ≡ file) c h)
+    first_leave c h = leave-append (writes s spans) following shut_file possible c (leave-append (close_gate b place) (writes s spans ++ following) file (λ d. d ≡ file) c h)
 
     open_end : (seen c : List ℕ) → seen ≡ staged → c ≡ overlay seen place (1 ∷ []) → c ≡ committed s file spans t
     open_end seen c is h = h ∙ ap (λ (f : List ℕ). overlay f place (1 ∷ [])) is ∙ done

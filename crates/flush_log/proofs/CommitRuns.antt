@@ -8,7 +8,7 @@ use Rattle.flush_log.specs.Images.{AreOfText}
 use Rattle.flush_log.specs.Layout.{Span, spans, with_spans}
 use Rattle.flush_log.specs.Disk.{View, Lawful, IsSettled, Leaves, LeavesOnly}
 use Rattle.flush_log.specs.Slot.{Slot, slot_place, slot_bytes, is_open}
-use Rattle.flush_log.specs.Commit.{seen_after, AreWithin, close_gate, IsClosing, committed, IsBehindGate, IsBesideSpans, IsBesideSlot, IsUncommitted}
+use Rattle.flush_log.specs.Commit.{seen_after, AreWithin, close_gate, IsClosing, committed, LeavesGateClosed, IsBesideSpans, IsBesideSlot, IsUncommitted}
 use Rattle.flush_log.proofs.OverlayLemmas.{overlay-beside, overlay-at, overlay-is, agree_same, agree_then, agree_less}
 use Rattle.flush_log.proofs.CallLemmas.{seen_after-writes, writes}
 use Rattle.flush_log.proofs.CommitLemmas.{slot_low, spans-beside, spans-over, before_from, mid_agree, mid_shut}
@@ -109,7 +109,7 @@ module _ (s : Settings) (t : Slot) (b : Bool) (spans : List Span) (file : List �
     pub mid_closed : is_open t.sequence mid ≡ false
     mid_closed = subst (λ (f : List ℕ). is_open t.sequence f ≡ false) mid_is (mid_shut s file spans t long fit b (sym was))
 
-    pub half_left : (c : List ℕ) → IsBehindGate t.sequence mid c ⊎ (c ≡ overlay mid place (slot_bytes t)) → IsUncommitted s t.sequence spans file c ⊎ (c ≡ committed s file spans t)
+    pub half_left : (c : List ℕ) → LeavesGateClosed t.sequence mid c ⊎ (c ≡ overlay mid place (slot_bytes t)) → IsUncommitted s t.sequence spans file c ⊎ (c ≡ committed s file spans t)
     half_left c left = ⊎_elim
         (λ half. inl (inr (
           half.0,
@@ -128,8 +128,8 @@ module _ (s : Settings) (t : Slot) (b : Bool) (spans : List Span) (file : List �
     unfinished first = weaker old last (IsUncommitted s t.sequence spans file) Left (λ c before. inl before) first
 
     pub commit_leaves : (new : View) → b ≡ is_open t.sequence file → last.seen ≡ mid → LeavesOnly old last (IsUncommitted s t.sequence spans file)
-        → LeavesOnly last new (λ c. IsBehindGate t.sequence last.seen c ⊎ (c ≡ overlay last.seen place (slot_bytes t))) → LeavesOnly old new Left
+        → LeavesOnly last new (λ c. LeavesGateClosed t.sequence last.seen c ⊎ (c ≡ overlay last.seen place (slot_bytes t))) → LeavesOnly old new Left
     commit_leaves new was seen first second =
         only_then old last new Left (unfinished first)
-        (weaker last new (λ c. IsBehindGate t.sequence last.seen c ⊎ (c ≡ overlay last.seen place (slot_bytes t))) Left
-        (λ c left. half_left was c (subst (λ (f : List ℕ). IsBehindGate t.sequence f c ⊎ (c ≡ overlay f place (slot_bytes t))) seen left)) second)
+        (weaker last new (λ c. LeavesGateClosed t.sequence last.seen c ⊎ (c ≡ overlay last.seen place (slot_bytes t))) Left
+        (λ c left. half_left was c (subst (λ (f : List ℕ). LeavesGateClosed t.sequence f c ⊎ (c ≡ overlay f place (slot_bytes t))) seen left)) second)

@@ -56,8 +56,8 @@ torn-append fill (Write at bytes ∷ xs) ys file = torn-append fill xs ys (torn_
 torn-append fill (Sync ∷ xs) ys file = torn-append fill xs ys file
 
 -- what is in range is so from a place on
-pub range-behind : (n at : ℕ) (calls : List Call) → AreCalls n calls → AreCalls n (drop at calls)
-range-behind n at calls fit =
+pub range-following : (n at : ℕ) (calls : List Call) → AreCalls n calls → AreCalls n (drop at calls)
+range-following n at calls fit =
     (all_apart (λ call. end_of_call call ≤ n) (take at calls) (drop at calls) (subst (λ (xs : List Call). AreCalls n xs) (sym (take-append-drop at calls)) fit)).1
 
 -- ---- calls as they are kept in memory
@@ -69,8 +69,8 @@ front_call cs at c l is =
     ∙ ap (λ (xs : List Call). call_of c ∷ xs) (sym (drop-map call_of (at + 1) cs))
 
 -- those from a place on of a record that was lent
-pub calls_behind : {A : Type 0} (cs held : List (RecordedCall A)) (since : ℕ) → held ≡ cs → calls_of (take (length held - since) (drop since held)) ≡ drop since (calls_of cs)
-calls_behind cs held since is = ap (λ xs. calls_of xs) (take_rest held since) ∙ sym (drop-map call_of since held) ∙ ap (λ xs. drop since (calls_of xs)) is
+pub calls_after : {A : Type 0} (cs held : List (RecordedCall A)) (since : ℕ) → held ≡ cs → calls_of (take (length held - since) (drop since held)) ≡ drop since (calls_of cs)
+calls_after cs held since is = ap (λ xs. calls_of xs) (take_rest held since) ∙ sym (drop-map call_of since held) ∙ ap (λ xs. drop since (calls_of xs)) is
 
 -- a file in which the calls before this place are torn: those that are left lie within it, and make of it what all make of it as it was
 pub record IsTearing (fill : Fill) (calls : List Call) (start : List ℕ) (at : ℕ) (file : List ℕ) : Type 0 where
@@ -124,22 +124,22 @@ module _ {A : Type 0} (cs held : List (RecordedCall A)) (is : held ≡ cs) (n si
   pub tear-fits : (bytes : List ℕ) → bytes ≡ settled → AreCalls n (calls_of cs) → length settled ≡ length {A = ℕ} (replicate n 0) → AreCalls (length bytes) (calls_of (take (length held - since) (drop since held)))
   tear-fits bytes copied fit long =
       let zeros : length {A = ℕ} (replicate n 0) ≡ n = length-replicate n 0 in
-      subst (λ (xs : List Call). AreCalls (length bytes) xs) (sym (calls_behind cs held since is))
-      (range-behind (length bytes) since (calls_of cs) (subst (λ (k : ℕ). AreCalls k (calls_of cs)) (sym (ap length copied ∙ long ∙ zeros)) fit))
+      subst (λ (xs : List Call). AreCalls (length bytes) xs) (sym (calls_after cs held since is))
+      (range-following (length bytes) since (calls_of cs) (subst (λ (k : ℕ). AreCalls k (calls_of cs)) (sym (ap length copied ∙ long ∙ zeros)) fit))
 
   -- with these writes torn they are what is left
   pub tear-left : (fill : Fill) (bytes now : List ℕ) → bytes ≡ settled → IsSettledAt (replicate n 0) (calls_of cs) since settled
       → now ≡ all_torn fill (calls_of (take (length held - since) (drop since held))) bytes → now ≡ left_with fill (calls_of cs) (replicate n 0) (replicate n 0)
   tear-left fill bytes now copied at torn =
       torn
-      ∙ ap (λ (xs : List Call). all_torn fill xs bytes) (calls_behind cs held since is)
+      ∙ ap (λ (xs : List Call). all_torn fill xs bytes) (calls_after cs held since is)
       ∙ ap (λ (f : List ℕ). all_torn fill (drop since (calls_of cs)) f) copied
       ∙ sym (at.left fill)
 
 -- one call more
 module _ (file : List ℕ) (calls more : List Call) (since : ℕ) (settled : List ℕ) (was : IsSettledAt file calls since settled) where
-  behind : (x : Call) → more ≡ calls ++ x ∷ [] → drop since more ≡ drop since calls ++ x ∷ []
-  behind x is = ap (λ (xs : List Call). drop since xs) is ∙ drop-append-le since calls (x ∷ []) was.within
+  following : (x : Call) → more ≡ calls ++ x ∷ [] → drop since more ≡ drop since calls ++ x ∷ []
+  following x is = ap (λ (xs : List Call). drop since xs) is ∙ drop-append-le since calls (x ∷ []) was.within
 
   pub settled-write : (at : ℕ) (bytes : List ℕ) → more ≡ calls ++ Write at bytes ∷ [] → IsSettledAt file more since settled
   settled-write at bytes is = record {
@@ -150,7 +150,7 @@ module _ (file : List ℕ) (calls more : List Call) (since : ℕ) (settled : Lis
         ∙ left-append fill calls (Write at bytes ∷ []) file file
         ∙ ap (λ (f : List ℕ). torn_by fill at bytes f) (was.left fill)
         ∙ sym (torn-append fill (drop since calls) (Write at bytes ∷ []) settled)
-        ∙ ap (λ (xs : List Call). all_torn fill xs settled) (sym (behind (Write at bytes) is));
+        ∙ ap (λ (xs : List Call). all_torn fill xs settled) (sym (following (Write at bytes) is));
   }
 
   pub settled-sync : (upto : ℕ) (now : List ℕ) → more ≡ calls ++ Sync ∷ [] → upto ≡ length more → now ≡ all_torn Written (drop since more) settled → length now ≡ length settled → IsSettledAt file more upto now
@@ -163,7 +163,7 @@ module _ (file : List ℕ) (calls more : List Call) (since : ℕ) (settled : Lis
         ∙ sym (left-written calls file)
         ∙ was.left Written
         ∙ sym (torn-append Written (drop since calls) (Sync ∷ []) settled)
-        ∙ ap (λ (xs : List Call). all_torn Written xs settled) (sym (behind Sync is))
+        ∙ ap (λ (xs : List Call). all_torn Written xs settled) (sym (following Sync is))
         ∙ sym torn
         ∙ sym (ap (λ (xs : List Call). all_torn fill xs now) (drop_all upto more (omega (arith, all))));
   }
@@ -175,7 +175,7 @@ pub settled-tear : {A : Type 0} (cs held counted : List (RecordedCall A)) (n m :
 settled-tear cs held counted n m calls since settled now is again same more was torn long =
     subst (λ (k : ℕ). IsSettledAt (replicate k 0) (calls_of cs) (length counted) now) (sym same)
     (settled-sync (replicate n 0) calls (calls_of cs) since settled was (length counted) now more
-    (ap (λ xs. length xs) again ∙ sym (length-map cs call_of)) (torn ∙ ap (λ (xs : List Call). all_torn Written xs settled) (calls_behind cs held since is)) long)
+    (ap (λ xs. length xs) again ∙ sym (length-map cs call_of)) (torn ∙ ap (λ (xs : List Call). all_torn Written xs settled) (calls_after cs held since is)) long)
 
 -- a write of a disk of n zeros, made or refused; m is the disk's length after it
 pub settled-either : {T E : Type 0} (result : Result T E) (n m : ℕ) (calls more : List Call) (since : ℕ) (settled : List ℕ) (at : ℕ) (bytes : List ℕ) → m ≡ n

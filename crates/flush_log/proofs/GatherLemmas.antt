@@ -8,7 +8,7 @@ use Rattle.frame_codec.specs.Frame.{Frame, bytes_of}
 use Rattle.keys.specs.declared.settings.Settings.{Settings}
 use Rattle.flush_log.specs.declared.write.Part.{Part}
 use Rattle.flush_log.specs.Gathering.{left_by, open_after, span_of, IsInside}
-use Rattle.flush_log.specs.Images.{FitSegments, Reached, from_tail, reached, behind_frames}
+use Rattle.flush_log.specs.Images.{FitSegments, Reached, from_tail, reached, after_frames}
 use Rattle.flush_log.specs.Segments.{segment_header}
 use Rattle.flush_log.specs.Layout.{Span, end_of, longer, filled, begun, opened, placed_from, spans_from, spans, tail_after}
 use Rattle.flush_log.proofs.LayoutLemmas.{opened-segment, opened-end, goes_on_span, next_span}
@@ -16,9 +16,9 @@ use Rattle.flush_log.proofs.ReachLemmas.{frames-are, start-is, text_tail}
 use borrow.Rule.Slice.PartMut.{put_mid}
 
 -- bytes that are put after those that are gathered up to a place
-pub put_behind : (buffer new : Bytes) (from at size end : ℕ) → from ≤ at → at + size ≡ end → end ≤ length buffer → length new ≡ size
+pub put_after : (buffer new : Bytes) (from at size end : ℕ) → from ≤ at → at + size ≡ end → end ≤ length buffer → length new ≡ size
     → slice_range (put_mid at size buffer new) from end ≡ slice_range buffer from at ++ new
-put_behind buffer new from at size end rising is within long = same_lists _ _ (grind (arith, places)) (λ k d h. grind (arith, places))
+put_after buffer new from at size end rising is within long = same_lists _ _ (grind (arith, places)) (λ k d h. grind (arith, places))
 
 -- and zeros
 pub put_zeros : (buffer new : Bytes) (from at end size : ℕ) → from ≤ at → at ≤ end → end ≤ length buffer → size ≡ end - at → new ≡ replicate size 0
@@ -26,7 +26,7 @@ pub put_zeros : (buffer new : Bytes) (from at end size : ℕ) → from ≤ at �
 put_zeros buffer new from at end size rising upto within long zeros =
     let same : new ≡ replicate (end - at) 0 = zeros ∙ ap (λ (n : ℕ). replicate n 0) long in
     let count : length new ≡ end - at = ap (λ (bs : Bytes). length bs) same ∙ length-replicate {A = ℕ} (end - at) 0 in
-    put_behind buffer new from at (end - at) end rising (omega arith) within count
+    put_after buffer new from at (end - at) end rising (omega arith) within count
     ∙ ap (λ (bs : Bytes). slice_range buffer from at ++ bs) same
 
 -- ---- what is gathered, and the spans that are left
@@ -85,7 +85,7 @@ module _ (s : Settings) where
   end_of_part p buffer is room =
       let rising = is.rising in
       let within = is.within in
-      let behind = length-drop p.from buffer in
+      let following = length-drop p.from buffer in
       let long = length-take-le (p.end - p.from) (drop p.from buffer) (omega arith) in
       omega (arith, long)
 
@@ -166,18 +166,18 @@ module _ (s : Settings) where
       ∙ ap (λ (m : ℕ). spans_from s r (placed_from s n m (f ∷ fs))) (opened-end n at)
 
   -- the segment of what is gathered is the one that the log's end reaches
-  pub open-reached : (q : Reached) (r : Span) (frames : List Bytes) → q.segment ≡ r.segment → q.offset ≡ end_of r → (open_after s r frames).segment ≡ (behind_frames s q frames).segment
+  pub open-reached : (q : Reached) (r : Span) (frames : List Bytes) → q.segment ≡ r.segment → q.offset ≡ end_of r → (open_after s r frames).segment ≡ (after_frames s q frames).segment
   open-reached q r [] same at = sym same
   open-reached q r (bytes ∷ frames) same at =
       of (Fits r bytes)
       (open-reached (reached s q.segment (q.offset + length bytes)) (longer r bytes) frames same (ap (λ (n : ℕ). n + length bytes) at ∙ sym (longer-end r bytes)))
       (open-reached (reached s (suc q.segment) (16 + length bytes)) (begun (suc r.segment) bytes) frames (ap suc same) (sym (begun-end (suc r.segment) bytes)))
-      ∙ ap (λ (n : ℕ). (behind_frames s (if nat_le (n + length bytes) s.seg_size then reached s q.segment (q.offset + length bytes) else reached s (suc q.segment) (16 + length bytes)) frames).segment) (sym at)
+      ∙ ap (λ (n : ℕ). (after_frames s (if nat_le (n + length bytes) s.seg_size then reached s q.segment (q.offset + length bytes) else reached s (suc q.segment) (16 + length bytes)) frames).segment) (sym at)
     where
-      of : (b : Bool) → (open_after s (longer r bytes) frames).segment ≡ (behind_frames s (reached s q.segment (q.offset + length bytes)) frames).segment
-          → (open_after s (begun (suc r.segment) bytes) frames).segment ≡ (behind_frames s (reached s (suc q.segment) (16 + length bytes)) frames).segment
+      of : (b : Bool) → (open_after s (longer r bytes) frames).segment ≡ (after_frames s (reached s q.segment (q.offset + length bytes)) frames).segment
+          → (open_after s (begun (suc r.segment) bytes) frames).segment ≡ (after_frames s (reached s (suc q.segment) (16 + length bytes)) frames).segment
           → (if b then open_after s (longer r bytes) frames else open_after s (begun (suc r.segment) bytes) frames).segment
-          ≡ (behind_frames s (if b then reached s q.segment (q.offset + length bytes) else reached s (suc q.segment) (16 + length bytes)) frames).segment
+          ≡ (after_frames s (if b then reached s q.segment (q.offset + length bytes) else reached s (suc q.segment) (16 + length bytes)) frames).segment
       of true here there = here
       of false here there = there
 
@@ -191,7 +191,7 @@ module _ (s : Settings) where
       let same = open-reached q (opened n at) frames (sym (opened-segment n at)) (sym (opened-end n at)) in
       let is = frames-are s q frames (start-is s tail room) fits in
       let above = is.above in
-      let one : (behind_frames s q frames).segment * 1 ≤ (behind_frames s q frames).segment * s.seg_size = mul-le-mul_left (behind_frames s q frames).segment (omega arith) in
+      let one : (after_frames s q frames).segment * 1 ≤ (after_frames s q frames).segment * s.seg_size = mul-le-mul_left (after_frames s q frames).segment (omega arith) in
       let end = text_tail s tail frames text h in
       omega (arith, same, above, one, end)
 

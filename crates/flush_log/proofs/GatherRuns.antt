@@ -11,7 +11,7 @@ use Rattle.flush_log.specs.Overlay.{overlay, AgreeAt}
 use Rattle.flush_log.specs.Slot.{greatest}
 use Rattle.flush_log.proofs.GatherLemmas.{left-append, open-append, open-rises}
 use Rattle.flush_log.proofs.OverlayLemmas.{agree_same, agree_then, agree_less}
-use Rattle.flush_log.proofs.ReachLemmas.{fits-behind}
+use Rattle.flush_log.proofs.ReachLemmas.{fits-following}
 use Rattle.flush_log.proofs.ViewLemmas.{then}
 
 -- a run by nothing
@@ -41,9 +41,9 @@ pub beside-before : (s : Settings) (us vs : List Span) (place : ℕ) → IsBesid
 beside-before s [] vs place h = tt
 beside-before s (u ∷ us) vs place h = (h.0, beside-before s us vs place h.1)
 
-pub beside-behind : (s : Settings) (us vs : List Span) (place : ℕ) → IsBesideSpans s (us ++ vs) place → IsBesideSpans s vs place
-beside-behind s [] vs place h = h
-beside-behind s (u ∷ us) vs place h = beside-behind s us vs place h.1
+pub beside-following : (s : Settings) (us vs : List Span) (place : ℕ) → IsBesideSpans s (us ++ vs) place → IsBesideSpans s vs place
+beside-following s [] vs place h = h
+beside-following s (u ∷ us) vs place h = beside-following s us vs place h.1
 
 module _ (s : Settings) (start : Span) (frames : List Bytes) (old : View) where
   abbrev pub Beside : List Span → Bytes → Bytes → Type 0
@@ -90,7 +90,7 @@ module _ (s : Settings) (start : Span) (frames : List Bytes) (old : View) where
 
     beside_rest : (place : ℕ) → IsBesideSpans s (left_by s start frames) place → IsBesideSpans s (left_by s (open_after s r us) vs) place
     beside_rest place h =
-        beside-behind s (left_by s r us) (left_by s (open_after s r us) vs) place
+        beside-following s (left_by s r us) (left_by s (open_after s r us) vs) place
         (subst (λ (rs : List Span). IsBesideSpans s rs place) (left-append s r us vs) (going.beside place h))
 
     pub going-kept : Kept old new
@@ -111,7 +111,7 @@ module _ (s : Settings) (start : Span) (frames : List Bytes) (old : View) where
         let at_next : open_after s next vs ≡ open_after s r (us ++ vs) = ap (λ (x : Span). open_after s x vs) is ∙ sym (open-append s r us vs) in
         let left_next : left_by s next vs ≡ left_by s (open_after s r us) vs = ap (λ (x : Span). left_by s x vs) is in
         record {
-          fits = fits-behind s us vs going.fits;
+          fits = fits-following s us vs going.fits;
           room = subst (λ (x : Span). x.segment ≤ greatest) (sym at_next) going.room;
           same = at_next ∙ going.same;
           kept = going-kept;
@@ -150,7 +150,7 @@ module _ (s : Settings) (start : Span) (frames : List Bytes) (old : View) where
     ends-leaves honest wrote =
         let last = leaves_less now new (Beside (r ∷ [])) (Beside all_spans)
         (λ d e h. agree_less (IsBesideSpans s (r ∷ [])) (IsBesideSpans s all_spans) d e
-        (λ place k. subst (λ (x : Span). IsBesideSpans s (x ∷ []) place) (sym going.same) (beside-behind s (left_by s start frames) (open_after s start frames ∷ []) place k)) h)
+        (λ place k. subst (λ (x : Span). IsBesideSpans s (x ∷ []) place) (sym going.same) (beside-following s (left_by s start frames) (open_after s start frames ∷ []) place k)) h)
         (wrote (alive honest)) in
         then old now new (Beside all_spans) (Beside all_spans) (Beside all_spans) (law (alive honest))
         (λ d e f. agree_then (IsBesideSpans s all_spans) d e f) (λ d e h. h) (leaves-all now (going.crash honest)) last

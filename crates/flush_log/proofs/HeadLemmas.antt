@@ -12,9 +12,9 @@ use Rattle.frame_codec.specs.Frame.{Frame}
 use Rattle.flush_log.specs.Reading.{Found, all_in, is_at_tail, is_padding, in_segment, read_frames, read_segment, followed_by, read_earlier, read_log, log_between}
 use Rattle.flush_log.specs.Segments.{segment_header, segment_bytes, last_segment, bytes_in_use}
 use Rattle.index_page.proofs.ListLemmas.{all_weaker}
-use Rattle.flush_log.specs.Layout.{placed_from, behind_header, found_in_text}
+use Rattle.flush_log.specs.Layout.{placed_from, past_header, found_in_text}
 use Rattle.flush_log.proofs.LayoutLemmas.{found_at, by_places, split-tail, Start, starts}
-use Rattle.flush_log.proofs.LayoutLemmas.Start.{Inside, Behind}
+use Rattle.flush_log.proofs.LayoutLemmas.Start.{Inside, Following}
 use Rattle.flush_log.proofs.SegmentLemmas.{in_segment-ok}
 use Rattle.flush_log.proofs.ReadBackLemmas.{ok, followed_by-ok}
 
@@ -125,15 +125,15 @@ module _ (g : Format) (file : List ℕ) (head tail : ℕ) (found : List Found) (
       (sym (log-first g file head k used) ∙ subst (λ (n : ℕ). read_log g file head n used ≡ ok found) is reads)
 
   made_of : (in_head rest : List Found) → read_segment g is_padding head (segment_bytes g.settings file head) ≡ ok in_head → log_between g file (suc head) tail ≡ ok rest → found ≡ in_head ++ rest → HeadOff
-  made_of in_head rest first behind all =
+  made_of in_head rest first following all =
       let (here, are) = segment-ok g is_padding head (segment_bytes g.settings file head) in_head first in
       record {
         here = here;
         rest = rest;
         all = all ∙ ap (λ (xs : List Found). xs ++ rest) are;
         later = are-wider (suc head) (suc head + (last_segment g.settings tail - suc head)) (suc head) (last_segment g.settings tail) rest (omega arith) (omega (arith, more))
-            (log-in g file (suc head) (last_segment g.settings tail - suc head) (bytes_in_use g.settings tail) rest behind);
-        read_on = behind;
+            (log-in g file (suc head) (last_segment g.settings tail - suc head) (bytes_in_use g.settings tail) rest following);
+        read_on = following;
       }
 
   pub head-off : HeadOff
@@ -171,6 +171,6 @@ module _ (s : Settings) where
       let split = split-tail s 0 tail some (omega arith) in
       from_start (last_segment s tail) (bytes_in_use s tail) (tail / s.seg_size) (tail % s.seg_size) text (starts s (last_segment s tail) (bytes_in_use s tail) tail split.is split.high some)
     where
-      from_start : (q used n at : ℕ) (text : List Frame) → Start s q used n at → AllByRecursion (λ f. q ≤ f.segment) (map found_at (placed_from s n (behind_header at) text))
-      from_start q used n at text (Inside room) = placed-from q (behind_header used) text
-      from_start q used n at text (Behind full) = all_weaker (λ f. suc q ≤ f.segment) (λ f. q ≤ f.segment) (λ f l. omega arith) (map found_at (placed_from s (suc q) 16 text)) (placed-from (suc q) 16 text)
+      from_start : (q used n at : ℕ) (text : List Frame) → Start s q used n at → AllByRecursion (λ f. q ≤ f.segment) (map found_at (placed_from s n (past_header at) text))
+      from_start q used n at text (Inside room) = placed-from q (past_header used) text
+      from_start q used n at text (Following full) = all_weaker (λ f. suc q ≤ f.segment) (λ f. q ≤ f.segment) (λ f l. omega arith) (map found_at (placed_from s (suc q) 16 text)) (placed-from (suc q) 16 text)

@@ -14,10 +14,10 @@ use Rattle.flush_log.specs.Commit.{AreWithin, IsBesideSpans}
 use Rattle.flush_log.specs.Overlay.{IsBeside, AgreeAt}
 use Rattle.flush_log.specs.Reading.{log_between}
 use Rattle.flush_log.specs.Segments.{place_of_segment, HasSegments, IsInLog, position, last_segment, bytes_in_use}
-use Rattle.flush_log.specs.Layout.{PlacedFrame, Span, placed_from, behind_header, tail_after, end_of, longer, begun, opened, spans_from, spans, place_of_span}
+use Rattle.flush_log.specs.Layout.{PlacedFrame, Span, placed_from, past_header, tail_after, end_of, longer, begun, opened, spans_from, spans, place_of_span}
 use Rattle.flush_log.proofs.FitLemmas.{are_sized}
-use Rattle.flush_log.proofs.LayoutLemmas.{end_point, by_places, AllFit, split-tail, Start, starts, opened-segment, opened-end, opened-inside, behind_header-within, text-last, goes_on_span, next_span, filled-end}
-use Rattle.flush_log.proofs.LayoutLemmas.Start.{Inside, Behind}
+use Rattle.flush_log.proofs.LayoutLemmas.{end_point, by_places, AllFit, split-tail, Start, starts, opened-segment, opened-end, opened-inside, past_header-within, text-last, goes_on_span, next_span, filled-end}
+use Rattle.flush_log.proofs.LayoutLemmas.Start.{Inside, Following}
 use Rattle.flush_log.proofs.OverlayLemmas.{part_same}
 use Rattle.flush_log.proofs.PlaceLemmas.{remainders_differ, place-within, places-beside}
 use Rattle.flush_log.proofs.ReadBackLemmas.{log-same, all_fit}
@@ -76,14 +76,14 @@ module _ (g : Format) where
 
 module _ (g : Format) where
   -- a span of the segment q from the byte `used` on, or of a later segment that is free
-  record IsBehind (head q used : ℕ) (r : Span) : Type 0 where
+  record IsAfter (head q used : ℕ) (r : Span) : Type 0 where
     later : q ≤ r.segment
     beyond : r.segment ≡ q → used ≤ r.offset
     free : r.segment < head + g.settings.segments
     fits : end_of r ≤ g.settings.seg_size
 
   -- no place of the log is in it
-  beside : (head tail q used : ℕ) (r : Span) → tail ≡ position g.settings q used → used ≤ g.settings.seg_size → IsBehind head q used r → (place : ℕ) → IsInLog g.settings head tail place → IsBeside (place_of_span g.settings r) (length r.bytes) place
+  beside : (head tail q used : ℕ) (r : Span) → tail ≡ position g.settings q used → used ≤ g.settings.seg_size → IsAfter head q used r → (place : ℕ) → IsInLog g.settings head tail place → IsBeside (place_of_span g.settings r) (length r.bytes) place
   beside head tail q used r is high h place in_log =
       let m : ℕ = in_log.segment in
       let later = h.later in
@@ -110,13 +110,13 @@ module _ (g : Format) where
             ]
       ]
 
-  abbrev AreBehind : ℕ → ℕ → ℕ → ℕ → ℕ → List Frame → List PlacedFrame → Type 0
-  AreBehind head q used n offset fs ps = (n ≤ (end_point n offset ps).0) × ((r : Span) → r.segment ≡ n → end_of r ≡ offset → q ≤ n → (n ≡ q → used ≤ r.offset) → offset ≤ g.settings.seg_size → AllFit g.settings fs →
-      (end_point n offset ps).0 < head + g.settings.segments → AllByRecursion (IsBehind head q used) (spans_from g.settings r ps))
+  abbrev AreAfter : ℕ → ℕ → ℕ → ℕ → ℕ → List Frame → List PlacedFrame → Type 0
+  AreAfter head q used n offset fs ps = (n ≤ (end_point n offset ps).0) × ((r : Span) → r.segment ≡ n → end_of r ≡ offset → q ≤ n → (n ≡ q → used ≤ r.offset) → offset ≤ g.settings.seg_size → AllFit g.settings fs →
+      (end_point n offset ps).0 < head + g.settings.segments → AllByRecursion (IsAfter head q used) (spans_from g.settings r ps))
 
-  all-behind : (head q used n offset : ℕ) (fs : List Frame) → AreBehind head q used n offset fs (placed_from g.settings n offset fs)
-  all-behind head q used =
-      by_places g.settings (AreBehind head q used)
+  all-following : (head q used n offset : ℕ) (fs : List Frame) → AreAfter head q used n offset fs (placed_from g.settings n offset fs)
+  all-following head q used =
+      by_places g.settings (AreAfter head q used)
       (λ n offset. (
         omega arith,
         λ r number end later beyond room all free.
@@ -140,26 +140,26 @@ module _ (g : Format) where
             ),
       ))
 
-  starts-behind : (head q used n at : ℕ) (fs : List Frame) → Start g.settings q used n at → 1 ≤ used → 16 ≤ g.settings.seg_size → AllFit g.settings fs
-      → (end_point n (behind_header at) (placed_from g.settings n (behind_header at) fs)).0 < head + g.settings.segments
-      → AllByRecursion (IsBehind head q used) (spans_from g.settings (opened n at) (placed_from g.settings n (behind_header at) fs))
-  starts-behind head q used n at fs (Inside room) low high all free =
-      let start = behind_header-within g.settings.seg_size used room high in
+  starts-following : (head q used n at : ℕ) (fs : List Frame) → Start g.settings q used n at → 1 ≤ used → 16 ≤ g.settings.seg_size → AllFit g.settings fs
+      → (end_point n (past_header at) (placed_from g.settings n (past_header at) fs)).0 < head + g.settings.segments
+      → AllByRecursion (IsAfter head q used) (spans_from g.settings (opened n at) (placed_from g.settings n (past_header at) fs))
+  starts-following head q used n at fs (Inside room) low high all free =
+      let start = past_header-within g.settings.seg_size used room high in
       let offset : (opened q used).offset ≡ used = ap (λ (r : Span). r.offset) (opened-inside q used low) in
-      (all-behind head q used q (behind_header used) fs).1 (opened q used) (opened-segment q used) (opened-end q used) (omega arith) (λ e. omega (arith, offset)) start.1 all free
-  starts-behind head q used n at fs (Behind full) low high all free =
-      (all-behind head q used (suc q) 16 fs).1 (opened (suc q) 0) refl (opened-end (suc q) 0) (omega arith) (λ e. absurd (omega arith)) high all free
+      (all-following head q used q (past_header used) fs).1 (opened q used) (opened-segment q used) (opened-end q used) (omega arith) (λ e. omega (arith, offset)) start.1 all free
+  starts-following head q used n at fs (Following full) low high all free =
+      (all-following head q used (suc q) 16 fs).1 (opened (suc q) 0) refl (opened-end (suc q) 0) (omega arith) (λ e. absurd (omega arith)) high all free
 
   module _ (good : first_bad_field g.settings ≡ None) where
-    text-behind : (head tail : ℕ) (text : List Frame) → head * g.settings.seg_size < tail → AllByRecursion (λ f. is_frame g f ≡ true) text → last_segment g.settings (tail_after g.settings tail text) < head + g.settings.segments
-        → AllByRecursion (IsBehind head (last_segment g.settings tail) (bytes_in_use g.settings tail)) (spans g.settings tail text)
-    text-behind head tail [] h within free = tt
-    text-behind head tail (f ∷ fs) h within free =
+    text-following : (head tail : ℕ) (text : List Frame) → head * g.settings.seg_size < tail → AllByRecursion (λ f. is_frame g f ≡ true) text → last_segment g.settings (tail_after g.settings tail text) < head + g.settings.segments
+        → AllByRecursion (IsAfter head (last_segment g.settings tail) (bytes_in_use g.settings tail)) (spans g.settings tail text)
+    text-following head tail [] h within free = tt
+    text-following head tail (f ∷ fs) h within free =
         let least = (are_sized g.settings good).least_size in
         let split = split-tail g.settings head tail (omega arith) h in
         let all = all_fit g good (f ∷ fs) within in
         let (last, used) = text-last g.settings tail (f ∷ fs) (omega arith) (omega arith) all in
-        starts-behind head (last_segment g.settings tail) (bytes_in_use g.settings tail) (tail / g.settings.seg_size) (tail % g.settings.seg_size) (f ∷ fs)
+        starts-following head (last_segment g.settings tail) (bytes_in_use g.settings tail) (tail / g.settings.seg_size) (tail % g.settings.seg_size) (f ∷ fs)
         (starts g.settings (last_segment g.settings tail) (bytes_in_use g.settings tail) tail split.is split.high (omega arith)) split.low (omega arith) all (omega (arith, last, free))
 
     -- no place of the log is in a span of a text that finds room
@@ -168,19 +168,19 @@ module _ (g : Format) where
     text-beside head tail text h within free place in_log =
         let least = (are_sized g.settings good).least_size in
         let split = split-tail g.settings head tail (omega arith) h in
-        all_weaker (IsBehind head (last_segment g.settings tail) (bytes_in_use g.settings tail)) (λ r. IsBeside (place_of_span g.settings r) (length r.bytes) place)
-        (λ r behind. beside head tail (last_segment g.settings tail) (bytes_in_use g.settings tail) r split.is split.high behind place in_log) (spans g.settings tail text) (text-behind head tail text h within free)
+        all_weaker (IsAfter head (last_segment g.settings tail) (bytes_in_use g.settings tail)) (λ r. IsBeside (place_of_span g.settings r) (length r.bytes) place)
+        (λ r following. beside head tail (last_segment g.settings tail) (bytes_in_use g.settings tail) r split.is split.high following place in_log) (spans g.settings tail text) (text-following head tail text h within free)
 
     -- nor one before the segments; and all lie within them
     pub text-apart : (head tail : ℕ) (text : List Frame) → head * g.settings.seg_size < tail → AllByRecursion (λ f. is_frame g f ≡ true) text → last_segment g.settings (tail_after g.settings tail text) < head + g.settings.segments
         → (place : ℕ) → place < 512 → IsBesideSpans g.settings (spans g.settings tail text) place
     text-apart head tail text h within free place low =
-        all_weaker (IsBehind head (last_segment g.settings tail) (bytes_in_use g.settings tail)) (λ r. IsBeside (place_of_span g.settings r) (length r.bytes) place)
-        (λ r behind. inl (omega (arith, low))) (spans g.settings tail text) (text-behind head tail text h within free)
+        all_weaker (IsAfter head (last_segment g.settings tail) (bytes_in_use g.settings tail)) (λ r. IsBeside (place_of_span g.settings r) (length r.bytes) place)
+        (λ r following. inl (omega (arith, low))) (spans g.settings tail text) (text-following head tail text h within free)
 
     pub text-inside : (head tail : ℕ) (text : List Frame) → head * g.settings.seg_size < tail → AllByRecursion (λ f. is_frame g f ≡ true) text → last_segment g.settings (tail_after g.settings tail text) < head + g.settings.segments
         → AreWithin g.settings (512 + g.settings.segments * g.settings.seg_size) (spans g.settings tail text)
     text-inside head tail text h within free =
         let least = (are_sized g.settings good).least_count in
-        all_weaker (IsBehind head (last_segment g.settings tail) (bytes_in_use g.settings tail)) (λ r. place_of_span g.settings r + length r.bytes ≤ 512 + g.settings.segments * g.settings.seg_size)
-        (λ r behind. let fits = behind.fits in let room = place-within g.settings r.segment (omega arith) in omega (arith, fits, room)) (spans g.settings tail text) (text-behind head tail text h within free)
+        all_weaker (IsAfter head (last_segment g.settings tail) (bytes_in_use g.settings tail)) (λ r. place_of_span g.settings r + length r.bytes ≤ 512 + g.settings.segments * g.settings.seg_size)
+        (λ r following. let fits = following.fits in let room = place-within g.settings r.segment (omega arith) in omega (arith, fits, room)) (spans g.settings tail text) (text-following head tail text h within free)

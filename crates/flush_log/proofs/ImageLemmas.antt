@@ -67,17 +67,17 @@ part_stays bytes more from end l m =
     let n : end - from ≤ length (drop from bytes) = rw (length-drop from bytes) (omega arith) in
     ap (λ (x : List ℕ). take (end - from) x) (drop-append-le from bytes more (omega arith)) ∙ take-append-le (end - from) (drop from bytes) more n
 
-part_behind : (bytes more : Bytes) (end : ℕ) → end ≡ length bytes + length more → slice_range (bytes ++ more) (length bytes) end ≡ more
-part_behind [] more end h = simp unary_clauses (take_all end more (omega (arith, h)))
-part_behind (b ∷ bytes) more zero h = absurd (omega (arith, h))
-part_behind (b ∷ bytes) more (suc end) h =
+part_after : (bytes more : Bytes) (end : ℕ) → end ≡ length bytes + length more → slice_range (bytes ++ more) (length bytes) end ≡ more
+part_after [] more end h = simp unary_clauses (take_all end more (omega (arith, h)))
+part_after (b ∷ bytes) more zero h = absurd (omega (arith, h))
+part_after (b ∷ bytes) more (suc end) h =
     let n : suc end - suc (length bytes) ≡ end - length bytes = omega arith in
-    rw n (part_behind bytes more end (omega (arith, h)))
+    rw n (part_after bytes more end (omega (arith, h)))
 
 cut_more : (from : ℕ) (bytes more : Bytes) (ends : List ℕ) (end : ℕ) → AreEnds from ends (length bytes) → end ≡ length bytes + length more
     → cut_at from (bytes ++ more) (ends ++ end ∷ []) ≡ cut_at from bytes ends ++ more ∷ []
 cut_more from bytes more [] end h e =
-    let part : slice_range (bytes ++ more) from end ≡ more = rw h (part_behind bytes more end e) in
+    let part : slice_range (bytes ++ more) from end ≡ more = rw h (part_after bytes more end e) in
     ap (λ (x : List ℕ). x ∷ []) part
 cut_more from bytes more (f ∷ ends) end h e =
     let upto = ends_upto f ends (length bytes) h.1 in

@@ -10,12 +10,12 @@ use Rattle.keys.specs.declared.settings.Settings.{Settings}
 use Rattle.frame_codec.specs.Frame.{Frame, bytes_of}
 use Rattle.flush_log.specs.Reading.{Found}
 use Rattle.flush_log.specs.Segments.{position, last_segment, bytes_in_use}
-use Rattle.flush_log.specs.Layout.{PlacedFrame, offset_behind, placed_from, placed, behind_header, tail_behind, tail_after, Span, longer, filled, begun, spans_from, end_of, opened}
+use Rattle.flush_log.specs.Layout.{PlacedFrame, offset_after, placed_from, placed, past_header, end_of_frames, tail_after, Span, longer, filled, begun, spans_from, end_of, opened}
 
 -- the segment and the offset after the last of some frames
 abbrev pub end_point : ℕ → ℕ → List PlacedFrame → ℕ × ℕ
 end_point n offset [] = (n, offset)
-end_point n offset (p ∷ ps) = end_point p.segment (offset_behind p) ps
+end_point n offset (p ∷ ps) = end_point p.segment (offset_after p) ps
 
 -- a frame as it is found where it stands
 abbrev pub found_at : PlacedFrame → Found
@@ -47,18 +47,18 @@ module _ (s : Settings) where
 
   -- ---- where the last frame ends
 
-  pub tail-behind : (n offset : ℕ) (ps : List PlacedFrame) → tail_behind s (position s n offset) ps ≡ position s (end_point n offset ps).0 (end_point n offset ps).1
-  tail-behind n offset [] = refl
-  tail-behind n offset (p ∷ ps) = tail-behind p.segment (offset_behind p) ps
+  pub tail-following : (n offset : ℕ) (ps : List PlacedFrame) → end_of_frames s (position s n offset) ps ≡ position s (end_point n offset ps).0 (end_point n offset ps).1
+  tail-following n offset [] = refl
+  tail-following n offset (p ∷ ps) = tail-following p.segment (offset_after p) ps
 
   -- so a text's tail doesn't hang on the tail before it
   pub tail-text : (n offset : ℕ) (fs : List Frame) (tail : ℕ) → 1 ≤ length fs
-      → tail_behind s tail (placed_from s n offset fs) ≡ position s (end_point n offset (placed_from s n offset fs)).0 (end_point n offset (placed_from s n offset fs)).1
+      → end_of_frames s tail (placed_from s n offset fs) ≡ position s (end_point n offset (placed_from s n offset fs)).0 (end_point n offset (placed_from s n offset fs)).1
   tail-text =
-      by_places (λ n offset fs ps. (tail : ℕ) → 1 ≤ length fs → tail_behind s tail ps ≡ position s (end_point n offset ps).0 (end_point n offset ps).1)
+      by_places (λ n offset fs ps. (tail : ℕ) → 1 ≤ length fs → end_of_frames s tail ps ≡ position s (end_point n offset ps).0 (end_point n offset ps).1)
       (λ n offset tail some. absurd (omega arith))
-      (λ n offset f fs ps room later tail some. tail-behind n (offset + length (bytes_of f)) ps)
-      (λ n offset f fs ps later tail some. tail-behind (suc n) (16 + length (bytes_of f)) ps)
+      (λ n offset f fs ps room later tail some. tail-following n (offset + length (bytes_of f)) ps)
+      (λ n offset f fs ps later tail some. tail-following (suc n) (16 + length (bytes_of f)) ps)
 
   pub segments-rise : (n offset : ℕ) (fs : List Frame) → n ≤ (end_point n offset (placed_from s n offset fs)).0
   segments-rise =
@@ -110,7 +110,7 @@ module _ (s : Settings) where
   -- where what follows the tail begins: in its segment, or where that is full, in the next one
   pub data Start (q used : ℕ) : ℕ → ℕ → Type 0 where
     Inside : used < s.seg_size → Start q used q used
-    Behind : used ≡ s.seg_size → Start q used (suc q) 0
+    Following : used ≡ s.seg_size → Start q used (suc q) 0
 
   pub starts : (q used tail : ℕ) → tail ≡ position s q used → used ≤ s.seg_size → 0 < s.seg_size → Start q used (tail / s.seg_size) (tail % s.seg_size)
   starts q used tail is high some =
@@ -124,7 +124,7 @@ module _ (s : Settings) where
             let is2 : tail ≡ suc q * s.seg_size + 0 = omega (arith, is, full) in
             let quotient : suc q ≡ tail / s.seg_size = sym (ap (λ (x : ℕ). x / s.seg_size) is2 ∙ div-mul-add (suc q) s.seg_size 0 some) in
             let rest : 0 ≡ tail % s.seg_size = sym (ap (λ (x : ℕ). x % s.seg_size) is2 ∙ mod-mul-add (suc q) s.seg_size 0 some) in
-            subst (λ (n : ℕ). Start q used n (tail % s.seg_size)) quotient (subst (λ (at : ℕ). Start q used (suc q) at) rest (Behind full)))
+            subst (λ (n : ℕ). Start q used n (tail % s.seg_size)) quotient (subst (λ (at : ℕ). Start q used (suc q) at) rest (Following full)))
       ]
 
 -- ---- the span that a text begins with
@@ -133,7 +133,7 @@ pub opened-segment : (n at : ℕ) → (opened n at).segment ≡ n
 opened-segment n zero = refl
 opened-segment n (suc at) = refl
 
-pub opened-end : (n at : ℕ) → end_of (opened n at) ≡ behind_header at
+pub opened-end : (n at : ℕ) → end_of (opened n at) ≡ past_header at
 opened-end n zero = omega arith
 opened-end n (suc at) = omega arith
 
@@ -141,27 +141,27 @@ pub opened-inside : (n at : ℕ) → 1 ≤ at → opened n at ≡ record { segme
 opened-inside n zero some = absurd (omega arith)
 opened-inside n (suc at) some = refl
 
-pub behind_header-within : (size at : ℕ) → at < size → 16 ≤ size → (1 ≤ behind_header at) × (behind_header at ≤ size)
-behind_header-within size zero low room = (omega arith, room)
-behind_header-within size (suc at) low room = (omega arith, omega arith)
+pub past_header-within : (size at : ℕ) → at < size → 16 ≤ size → (1 ≤ past_header at) × (past_header at ≤ size)
+past_header-within size zero low room = (omega arith, room)
+past_header-within size (suc at) low room = (omega arith, omega arith)
 
 module _ (s : Settings) where
   -- a text's end, where it has a frame
   pub text-end : (tail : ℕ) (fs : List Frame) → 16 ≤ s.seg_size → 1 ≤ length fs → AllFit s fs
-      → (let n : ℕ = tail / s.seg_size in let at : ℕ = behind_header (tail % s.seg_size) in
+      → (let n : ℕ = tail / s.seg_size in let at : ℕ = past_header (tail % s.seg_size) in
       (tail_after s tail fs ≡ position s (end_point n at (placed s tail fs)).0 (end_point n at (placed s tail fs)).1) × EndsWithin s n at (placed s tail fs))
   text-end tail fs room some all =
       let n : ℕ = tail / s.seg_size in
-      let at : ℕ = behind_header (tail % s.seg_size) in
+      let at : ℕ = past_header (tail % s.seg_size) in
       let below = mod_below tail s.seg_size (omega arith) in
-      let start = behind_header-within s.seg_size (tail % s.seg_size) below room in
+      let start = past_header-within s.seg_size (tail % s.seg_size) below room in
       (tail-text s n at fs tail some, ends-within s n at fs start.0 start.1 all)
 
   pub text-last : (tail : ℕ) (fs : List Frame) → 16 ≤ s.seg_size → 1 ≤ length fs → AllFit s fs
-      → (let e : ℕ × ℕ = end_point (tail / s.seg_size) (behind_header (tail % s.seg_size)) (placed s tail fs) in
+      → (let e : ℕ × ℕ = end_point (tail / s.seg_size) (past_header (tail % s.seg_size)) (placed s tail fs) in
       (last_segment s (tail_after s tail fs) ≡ e.0) × (bytes_in_use s (tail_after s tail fs) ≡ e.1))
   text-last tail fs room some all =
-      let e : ℕ × ℕ = end_point (tail / s.seg_size) (behind_header (tail % s.seg_size)) (placed s tail fs) in
+      let e : ℕ × ℕ = end_point (tail / s.seg_size) (past_header (tail % s.seg_size)) (placed s tail fs) in
       let (is, within) = text-end tail fs room some all in
       (ap (λ (t : ℕ). last_segment s t) is ∙ last-is s e.0 e.1 within.0 within.1, ap (λ (t : ℕ). bytes_in_use s t) is ∙ used-is s e.0 e.1 within.0 within.1)
 

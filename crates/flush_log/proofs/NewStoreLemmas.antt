@@ -58,7 +58,7 @@ module _ (s : Settings) (disk : List ℕ) (good : first_bad_field s ≡ None) (r
       is-slot s 1 first_slot (record {
         sequence = (omega arith, omega arith);
         own = refl;
-        behind = omega arith;
+        following = omega arith;
         tail = omega arith;
         ends = tail_good s first_tail 0 first_tail (omega arith) first_ends;
         last = omega arith;

@@ -8,11 +8,11 @@ use Rattle.keys.specs.declared.settings.Settings.{Settings}
 use Rattle.frame_codec.specs.declared.format.Format.{Format}
 use Rattle.frame_codec.specs.Frame.{Frame, is_frame}
 use Rattle.flush_log.specs.Segments.{position, last_segment, bytes_in_use}
-use Rattle.flush_log.specs.Layout.{placed_from, placed, behind_header, tail_after}
+use Rattle.flush_log.specs.Layout.{placed_from, placed, past_header, tail_after}
 use Rattle.flush_log.specs.Slot.{Slot, greatest, is_tail, is_slot}
 use Rattle.flush_log.proofs.FitLemmas.{are_sized}
 use Rattle.flush_log.proofs.LayoutLemmas.{end_point, by_places, split-tail, segments-rise, Start, starts, text-end, text-last}
-use Rattle.flush_log.proofs.LayoutLemmas.Start.{Inside, Behind}
+use Rattle.flush_log.proofs.LayoutLemmas.Start.{Inside, Following}
 use Rattle.flush_log.proofs.ReadBackLemmas.{all_fit}
 use Rattle.flush_log.proofs.SlotLemmas.{IsSlot, is-slot}
 
@@ -25,7 +25,7 @@ module _ (s : Settings) where
 
   tail_at : (q used n at : ℕ) → Start s q used n at → 16 < used → (at == 0 || nat_lt 16 at) ≡ true
   tail_at q used n at (Inside room) low = or_right (used == 0) (nat_lt 16 used) (lt-ltb 16 used low)
-  tail_at q used n at (Behind full) low = refl
+  tail_at q used n at (Following full) low = refl
 
   pub tail_good : (tail q used : ℕ) → 0 < s.seg_size → EndsIn tail q used → is_tail s tail ≡ true
   tail_good tail q used some e = tail_at q used (tail / s.seg_size) (tail % s.seg_size) (starts s q used tail e.is e.high some) e.low
@@ -33,12 +33,12 @@ module _ (s : Settings) where
   used_low : (q used n at : ℕ) → Start s q used n at → 256 ≤ s.seg_size → 1 ≤ used → (at == 0 || nat_lt 16 at) ≡ true → 16 < used
   used_low q used n at (Inside room) size some is =
       ⊎_elim (λ zero_is. absurd (let e = eqb-true used 0 zero_is in omega arith)) (λ above. ltb-true 16 used above) (or_cases (used == 0) (nat_lt 16 used) is)
-  used_low q used n at (Behind full) size some is = omega arith
+  used_low q used n at (Following full) size some is = omega arith
 
   -- so does that of a slot
   pub slot_ends : (n : ℕ) (t : Slot) → 256 ≤ s.seg_size → IsSlot s n t → EndsIn t.tail (last_segment s t.tail) (bytes_in_use s t.tail)
   slot_ends n t size f =
-      let behind = f.behind in
+      let following = f.following in
       let split = split-tail s t.head t.tail (omega arith) (omega arith) in
       let start = starts s (last_segment s t.tail) (bytes_in_use s t.tail) t.tail split.is split.high (omega arith) in
       record { is = split.is; low = used_low (last_segment s t.tail) (bytes_in_use s t.tail) (t.tail / s.seg_size) (t.tail % s.seg_size) start size split.low f.ends; high = split.high }
@@ -51,7 +51,7 @@ module _ (s : Settings) where
       (λ n offset f fs ps room later low which. later (omega arith) (inl (omega arith)))
       (λ n offset f fs ps later low which. later (omega arith) (inl (omega arith)))
 
-  header_low : (at : ℕ) → (at == 0 || nat_lt 16 at) ≡ true → 16 ≤ behind_header at
+  header_low : (at : ℕ) → (at == 0 || nat_lt 16 at) ≡ true → 16 ≤ past_header at
   header_low zero is = omega arith
   header_low (suc at) is = ⊎_elim (λ zero_is. absurd (let e = eqb-true (suc at) 0 zero_is in omega arith)) (λ above. let h = ltb-true 16 (suc at) above in omega arith) (or_cases (suc at == 0) (nat_lt 16 (suc at)) is)
 
@@ -66,9 +66,9 @@ module _ (g : Format) where
   new_end good n t slot (f ∷ fs) within =
       let sized = are_sized g.settings good in
       let least = sized.least_size in
-      let behind = slot.behind in
+      let following = slot.following in
       let all = all_fit g good (f ∷ fs) within in
-      let at : ℕ = behind_header (t.tail % g.settings.seg_size) in
+      let at : ℕ = past_header (t.tail % g.settings.seg_size) in
       let e : ℕ × ℕ = end_point (t.tail / g.settings.seg_size) at (placed g.settings t.tail (f ∷ fs)) in
       let (is, ends) = text-end g.settings t.tail (f ∷ fs) (omega arith) (omega arith) all in
       let (last, used) = text-last g.settings t.tail (f ∷ fs) (omega arith) (omega arith) all in
@@ -101,7 +101,7 @@ next_good g n t u text good slot within next few tail small from to free root lo
     is-slot g.settings u.sequence u (record {
       sequence = (omega arith, few);
       own = refl;
-      behind = omega (arith, is, above, before);
+      following = omega (arith, is, above, before);
       tail = small;
       ends = tail_good g.settings u.tail (last_segment g.settings u.tail) (bytes_in_use g.settings u.tail) (omega arith) ends;
       last = free;

@@ -26,7 +26,7 @@ module _ (s : Settings) (good : first_bad_field s ≡ None) where
       let all = room in
       omega arith
 
-module _ (s : Settings) (head tail : ℕ) (good : first_bad_field s ≡ None) (behind : head * s.seg_size + 16 < tail) (small : tail ≤ greatest) where
+module _ (s : Settings) (head tail : ℕ) (good : first_bad_field s ≡ None) (following : head * s.seg_size + 16 < tail) (small : tail ≤ greatest) where
   pub head_small : head < 2 ^ 62
   head_small =
       let sized = (are_sized s good).least_size in
@@ -58,6 +58,6 @@ pub head_test : (s : Settings) (head tail : ℕ) → first_bad_field s ≡ None 
 head_test s head tail good =
     let least = (are_sized s good).least_size in
     let quotient = le-div_iff_mul-le {k = s.seg_size} {x = head} {y = tail - 17} (omega arith) in (
-      λ behind. (omega arith, quotient.1 (omega arith)),
+      λ following. (omega arith, quotient.1 (omega arith)),
       λ h. let below = quotient.0 h.1 in let some = h.0 in omega arith,
     )

@@ -27,12 +27,12 @@ module _ (s : Settings) where
   module _ (is_end : List ℕ → Bool) where
     then-known : (most : ℕ) (bs : List ℕ) (fs : List Frame) (o : Option (Frame × List ℕ)) → read_frame older bs ≡ o
         → ((rest : List ℕ) (gs : List Frame) → read_frames older is_end most rest ≡ AllOk gs → read_frames newer is_end most rest ≡ AllOk gs)
-        → read_then (length bs) o (λ behind. read_frames older is_end most behind) ≡ AllOk fs
-        → read_then (length bs) (read_frame newer bs) (λ behind. read_frames newer is_end most behind) ≡ AllOk fs
+        → read_then (length bs) o (λ following. read_frames older is_end most following) ≡ AllOk fs
+        → read_then (length bs) (read_frame newer bs) (λ following. read_frames newer is_end most following) ≡ AllOk fs
     then-known most bs fs None is further h = absurd (cc)
     then-known most bs fs (Some p) is further h =
         let (gs, read, all) = with_first-ok older p.0 (read_frames older is_end most p.1) fs h in
-        ap (λ (o : Option (Frame × List ℕ)). read_then (length bs) o (λ behind. read_frames newer is_end most behind)) (read-known s bs p.0 p.1 is)
+        ap (λ (o : Option (Frame × List ℕ)). read_then (length bs) o (λ following. read_frames newer is_end most following)) (read-known s bs p.0 p.1 is)
         ∙ ap (λ (r : Result (List Frame) ℕ). with_first p.0 r) (further p.1 gs read)
         ∙ ap AllOk (sym all)
 
@@ -41,8 +41,8 @@ module _ (s : Settings) where
     frames-known (suc most) bs fs h = of (λ rest gs read. frames-known most rest gs read) (is_end bs) h
       where
         of : ((rest : List ℕ) (gs : List Frame) → read_frames older is_end most rest ≡ AllOk gs → read_frames newer is_end most rest ≡ AllOk gs)
-            → (b : Bool) → (if b then Ok [] else read_then (length bs) (read_frame older bs) (λ behind. read_frames older is_end most behind)) ≡ AllOk fs
-            → (if b then Ok [] else read_then (length bs) (read_frame newer bs) (λ behind. read_frames newer is_end most behind)) ≡ AllOk fs
+            → (b : Bool) → (if b then Ok [] else read_then (length bs) (read_frame older bs) (λ following. read_frames older is_end most following)) ≡ AllOk fs
+            → (if b then Ok [] else read_then (length bs) (read_frame newer bs) (λ following. read_frames newer is_end most following)) ≡ AllOk fs
         of further true h = h
         of further false h = then-known most bs fs (read_frame older bs) refl further h
 

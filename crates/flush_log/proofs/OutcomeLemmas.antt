@@ -110,14 +110,14 @@ module _ (s : Settings) (file : List ℕ) (spans : List Span) (u : Slot) (long :
       store_slot-next s after t u (kept ∙ store_slot-read s file t is) (ap (λ (n : ℕ). read_slot s n after) (sym next) ∙ new) (omega arith)
 
   -- what lies after the first 512 bytes is what the spans left
-  pub after-behind : AgreeAt (λ i. 512 ≤ i) (with_spans s file spans) after
-  after-behind =
+  pub after-following : AgreeAt (λ i. 512 ≤ i) (with_spans s file spans) after
+  after-following =
       let low = slot_low u.sequence in
       agree_less (IsBeside (slot_place u.sequence) 64) (λ i. 512 ≤ i) (with_spans s file spans) after (λ i high. inr (omega arith)) written_beside
 
 -- the log stands there alone
-pub log-behind : (g : Format) (file other : List ℕ) → 0 < g.settings.segments → HasSegments g.settings file → AgreeAt (λ i. 512 ≤ i) file other → (head tail : ℕ) → log_between g other head tail ≡ log_between g file head tail
-log-behind g file other some whole same head tail =
+pub log-following : (g : Format) (file other : List ℕ) → 0 < g.settings.segments → HasSegments g.settings file → AgreeAt (λ i. 512 ≤ i) file other → (head tail : ℕ) → log_between g other head tail ≡ log_between g file head tail
+log-following g file other some whole same head tail =
     log-same g file other head (last_segment g.settings tail - head) (bytes_in_use g.settings tail) (λ m h. bytes (head + m))
     (ap (λ (bs : List ℕ). take (bytes_in_use g.settings tail) bs) (bytes (head + (last_segment g.settings tail - head))))
   where
@@ -130,7 +130,7 @@ pub after-log : (g : Format) (file : List ℕ) (spans : List Span) (u : Slot) �
     → log_between g (committed g.settings file spans u) head tail ≡ log_between g (with_spans g.settings file spans) head tail
 after-log g file spans u whole fit some head tail =
     let long = (spans-beside g.settings spans file fit).long in
-    log-behind g (with_spans g.settings file spans) (committed g.settings file spans u) some (omega (arith, whole, long)) (after-behind g.settings file spans u (omega (arith, whole)) fit) head tail
+    log-following g (with_spans g.settings file spans) (committed g.settings file spans u) some (omega (arith, whole, long)) (after-following g.settings file spans u (omega (arith, whole)) fit) head tail
 
 -- ---- the commit of a text
 
@@ -144,13 +144,13 @@ module _ (g : Format) (file : List ℕ) (t : Slot) (text : List Frame) (h : HasR
 
   pub text-fits : AreWithin g.settings (length file) (spans g.settings t.tail text)
   text-fits =
-      let behind = slot_good.behind in
+      let following = slot_good.following in
       within_more g.settings (512 + g.settings.segments * g.settings.seg_size) (length file) (spans g.settings t.tail text) h.whole (text-inside g h.good t.head t.tail text (omega arith) h.within h.free)
 
   -- the log is as it was
   pub before-log : (c : List ℕ) → IsUncommitted g.settings (suc t.sequence) (spans g.settings t.tail text) file c → log g.settings c t ≡ log g.settings file t
   before-log c before =
-      let behind = slot_good.behind in
+      let following = slot_good.following in
       let sized = are_sized g.settings h.good in
       let size = sized.least_size in
       let count = sized.least_count in
@@ -163,7 +163,7 @@ module _ (g : Format) (file : List ℕ) (t : Slot) (text : List Frame) (h : HasR
   -- the text is read after what was there
   pub after-text : (u : Slot) (found : List Found) → log_between g file t.head t.tail ≡ Ok found → log_between g (committed g.settings file (spans g.settings t.tail text) u) t.head (tail_after g.settings t.tail text) ≡ Ok (found ++ found_in_text g.settings t.tail text)
   after-text u found read =
-      let behind = slot_good.behind in
+      let following = slot_good.following in
       let count = (are_sized g.settings h.good).least_count in
       after-log g file (spans g.settings t.tail text) u h.whole text-fits (omega arith) t.head (tail_after g.settings t.tail text)
       ∙ text-back g h.good file t.head t.tail found text h.whole h.within (omega arith) read h.free

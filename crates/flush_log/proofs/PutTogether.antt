@@ -5,10 +5,10 @@ use Rattle.keys.specs.Bytes.{Bytes}
 use borrow.Rule.Slice.PartMut.{put_mid}
 
 -- a part that stands between two others
-put_between : (before part behind new : Bytes) (at size : ℕ) → length before ≡ at → length part ≡ size → put_mid at size (before ++ (part ++ behind)) new ≡ before ++ (new ++ behind)
-put_between before part behind new at size a b =
-    ap₂ (λ (front back : Bytes). front ++ (new ++ back)) (take_at before (part ++ behind) at a)
-    (ap (drop size) (drop_at before (part ++ behind) at a) ∙ drop_at part behind size b)
+put_between : (before part following new : Bytes) (at size : ℕ) → length before ≡ at → length part ≡ size → put_mid at size (before ++ (part ++ following)) new ≡ before ++ (new ++ following)
+put_between before part following new at size a b =
+    ap₂ (λ (front back : Bytes). front ++ (new ++ back)) (take_at before (part ++ following) at a)
+    (ap (drop size) (drop_at before (part ++ following) at a) ∙ drop_at part following size b)
 
 -- three parts after a first one: the second with zeros before it, the third with zeros before it, and one to the end
 pub put_in_zeros : (a y b z h f old_b old_h old_f : Bytes) (at size to_h size_h to_f size_f : ℕ)

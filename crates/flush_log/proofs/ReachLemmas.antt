@@ -7,11 +7,11 @@ use Rattle.keys.specs.Limits.{first_bad_field}
 use Rattle.keys.specs.declared.settings.Settings.{Settings}
 use Rattle.frame_codec.specs.declared.format.Format.{Format}
 use Rattle.frame_codec.specs.Frame.{Frame, bytes_of, is_frame}
-use Rattle.flush_log.specs.Images.{frames_in, AreOfText, FitSegments, Reached, from_tail, reached, behind_frame, behind_frames, IsReached, unless_spent}
-use Rattle.flush_log.specs.Layout.{behind_header, placed_from, tail_behind, tail_after}
+use Rattle.flush_log.specs.Images.{frames_in, AreOfText, FitSegments, Reached, from_tail, reached, after_frame, after_frames, IsReached, unless_spent}
+use Rattle.flush_log.specs.Layout.{past_header, placed_from, end_of_frames, tail_after}
 use Rattle.flush_log.specs.Slot.{greatest}
 use Rattle.flush_log.proofs.FitLemmas.{frame_fits}
-use Rattle.flush_log.proofs.LayoutLemmas.{behind_header-within}
+use Rattle.flush_log.proofs.LayoutLemmas.{past_header-within}
 
 abbrev pub some_tail : ℕ → Option ℕ
 some_tail t = Some t
@@ -37,63 +37,63 @@ module _ (s : Settings) where
       let below = is.below in
       record { is = record { within = fits; above = omega arith; below = omega arith }; rises = omega arith }
 
-  pub frame-rises : (r : Reached) (size : ℕ) → IsReached s r → 16 + size ≤ s.seg_size → Rises r (behind_frame s r size)
+  pub frame-rises : (r : Reached) (size : ℕ) → IsReached s r → 16 + size ≤ s.seg_size → Rises r (after_frame s r size)
   frame-rises r size is fits = of_room r size (nat_le (r.offset + size) s.seg_size) refl is fits
 
   -- any more of them
-  pub frames-rise : (r : Reached) (frames : List Bytes) → IsReached s r → FitSegments s frames → r.tail ≤ (behind_frames s r frames).tail
+  pub frames-rise : (r : Reached) (frames : List Bytes) → IsReached s r → FitSegments s frames → r.tail ≤ (after_frames s r frames).tail
   frames-rise r [] is fits = omega arith
   frames-rise r (bytes ∷ frames) is fits =
       let one = frame-rises r (length bytes) is fits.0 in
-      let rest = frames-rise (behind_frame s r (length bytes)) frames one.is fits.1 in
+      let rest = frames-rise (after_frame s r (length bytes)) frames one.is fits.1 in
       let first = one.rises in
       omega (arith, rest, first)
 
-  pub frames-are : (r : Reached) (frames : List Bytes) → IsReached s r → FitSegments s frames → IsReached s (behind_frames s r frames)
+  pub frames-are : (r : Reached) (frames : List Bytes) → IsReached s r → FitSegments s frames → IsReached s (after_frames s r frames)
   frames-are r [] is fits = is
-  frames-are r (bytes ∷ frames) is fits = let one = frame-rises r (length bytes) is fits.0 in frames-are (behind_frame s r (length bytes)) frames one.is fits.1
+  frames-are r (bytes ∷ frames) is fits = let one = frame-rises r (length bytes) is fits.0 in frames-are (after_frame s r (length bytes)) frames one.is fits.1
 
-  pub frames-append : (r : Reached) (us vs : List Bytes) → behind_frames s r (us ++ vs) ≡ behind_frames s (behind_frames s r us) vs
+  pub frames-append : (r : Reached) (us vs : List Bytes) → after_frames s r (us ++ vs) ≡ after_frames s (after_frames s r us) vs
   frames-append r [] vs = refl
-  frames-append r (u ∷ us) vs = frames-append (behind_frame s r (length u)) us vs
+  frames-append r (u ∷ us) vs = frames-append (after_frame s r (length u)) us vs
 
   -- where a text begins
   pub start-is : (tail : ℕ) → 16 ≤ s.seg_size → IsReached s (from_tail s tail)
   start-is tail room =
       let below = mod_below tail s.seg_size (omega arith) in
-      let start = behind_header-within s.seg_size (tail % s.seg_size) below room in
+      let start = past_header-within s.seg_size (tail % s.seg_size) below room in
       let parts = div-add-mod' tail s.seg_size in
       record { within = start.1; above = omega arith; below = upto (tail % s.seg_size) (tail / s.seg_size * s.seg_size) tail parts }
     where
-      upto : (at start tail : ℕ) → start + at ≡ tail → tail ≤ start + behind_header at
+      upto : (at start tail : ℕ) → start + at ≡ tail → tail ≤ start + past_header at
       upto zero start tail is = omega arith
       upto (suc at) start tail is = omega arith
 
   -- the tail after a text is reached by its frames
   abbrev Ends : Reached → List Frame → Type 0
-  Ends r text = (behind_frames s r (map (λ f. bytes_of f) text)).tail ≡ tail_behind s r.tail (placed_from s r.segment r.offset text)
+  Ends r text = (after_frames s r (map (λ f. bytes_of f) text)).tail ≡ end_of_frames s r.tail (placed_from s r.segment r.offset text)
 
-  abbrev behind_first : Reached → Frame → List Frame → Bool → ℕ
-  behind_first r f fs b =
-      tail_behind s r.tail
+  abbrev after_first : Reached → Frame → List Frame → Bool → ℕ
+  after_first r f fs b =
+      end_of_frames s r.tail
       (if b
       then record { segment = r.segment; offset = r.offset; frame = f } ∷ placed_from s r.segment (r.offset + length (bytes_of f)) fs
       else (record { segment = suc r.segment; offset = 16; frame = f } ∷ placed_from s (suc r.segment) (16 + length (bytes_of f)) fs))
 
   by_first : (r : Reached) (f : Frame) (fs : List Frame) (b : Bool) → Ends (by_room r (length (bytes_of f)) b) fs
-      → (behind_frames s (by_room r (length (bytes_of f)) b) (map (λ g. bytes_of g) fs)).tail ≡ behind_first r f fs b
+      → (after_frames s (by_room r (length (bytes_of f)) b) (map (λ g. bytes_of g) fs)).tail ≡ after_first r f fs b
   by_first r f fs true later = later
   by_first r f fs false later = later
 
   pub tail_reached : (r : Reached) (text : List Frame) → Ends r text
   tail_reached r [] = refl
-  tail_reached r (f ∷ fs) = by_first r f fs (nat_le (r.offset + length (bytes_of f)) s.seg_size) (tail_reached (behind_frame s r (length (bytes_of f))) fs)
+  tail_reached r (f ∷ fs) = by_first r f fs (nat_le (r.offset + length (bytes_of f)) s.seg_size) (tail_reached (after_frame s r (length (bytes_of f))) fs)
 
   -- ---- a walk over frames and images
 
-  pub fits-behind : (us vs : List Bytes) → FitSegments s (us ++ vs) → FitSegments s vs
-  fits-behind [] vs h = h
-  fits-behind (u ∷ us) vs h = fits-behind us vs h.1
+  pub fits-following : (us vs : List Bytes) → FitSegments s (us ++ vs) → FitSegments s vs
+  fits-following [] vs h = h
+  fits-following (u ∷ us) vs h = fits-following us vs h.1
 
   pub fits-before : (us vs : List Bytes) → FitSegments s (us ++ vs) → FitSegments s us
   fits-before [] vs h = tt
@@ -101,51 +101,51 @@ module _ (s : Settings) where
 
   -- from a start over all frames, as far as the rest; none of the positions on the way is above the greatest
   pub record Walk (start : Reached) (frames : List Bytes) (r : Reached) (rest : List Bytes) : Type 0 where
-    pub walked : behind_frames s r rest ≡ behind_frames s start frames
+    pub walked : after_frames s r rest ≡ after_frames s start frames
     pub is : IsReached s r
     pub fits : FitSegments s rest
     pub room : r.tail ≤ greatest
 
-  pub walk-on : (start : Reached) (frames : List Bytes) (r q : Reached) (us vs : List Bytes) → Walk start frames r (us ++ vs) → q ≡ behind_frames s r us → q.tail ≤ greatest → Walk start frames q vs
+  pub walk-on : (start : Reached) (frames : List Bytes) (r q : Reached) (us vs : List Bytes) → Walk start frames r (us ++ vs) → q ≡ after_frames s r us → q.tail ≤ greatest → Walk start frames q vs
   walk-on start frames r q us vs w h room =
       let before = fits-before us vs w.fits in
       record {
-        walked = ap (λ (x : Reached). behind_frames s x vs) h ∙ sym (frames-append r us vs) ∙ w.walked;
+        walked = ap (λ (x : Reached). after_frames s x vs) h ∙ sym (frames-append r us vs) ∙ w.walked;
         is = subst (λ (x : Reached). IsReached s x) (sym h) (frames-are r us w.is before);
-        fits = fits-behind us vs w.fits;
+        fits = fits-following us vs w.fits;
         room = room;
       }
 
-  abbrev told : Reached → Bool → Option Reached
-  told r b = if b then None else Some r
+  abbrev reported : Reached → Bool → Option Reached
+  reported r b = if b then None else Some r
 
   -- one position is above the greatest, and so each later one
-  pub walk-spent : (start : Reached) (frames : List Bytes) (r q : Reached) (us vs : List Bytes) → Walk start frames r (us ++ vs) → q ≡ behind_frames s r us → greatest < q.tail → None ≡ unless_spent (behind_frames s start frames)
+  pub walk-spent : (start : Reached) (frames : List Bytes) (r q : Reached) (us vs : List Bytes) → Walk start frames r (us ++ vs) → q ≡ after_frames s r us → greatest < q.tail → None ≡ unless_spent (after_frames s start frames)
   walk-spent start frames r q us vs w h over =
       let before = fits-before us vs w.fits in
       let is = subst (λ (x : Reached). IsReached s x) (sym h) (frames-are r us w.is before) in
-      let rise = frames-rise q vs is (fits-behind us vs w.fits) in
-      let all : behind_frames s q vs ≡ behind_frames s start frames = ap (λ (x : Reached). behind_frames s x vs) h ∙ sym (frames-append r us vs) ∙ w.walked in
+      let rise = frames-rise q vs is (fits-following us vs w.fits) in
+      let all : after_frames s q vs ≡ after_frames s start frames = ap (λ (x : Reached). after_frames s x vs) h ∙ sym (frames-append r us vs) ∙ w.walked in
       let same = ap (λ (x : Reached). x.tail) all in
-      sym (ap (told (behind_frames s start frames)) (lt-ltb greatest (behind_frames s start frames).tail (omega (arith, rise, same, over))))
+      sym (ap (reported (after_frames s start frames)) (lt-ltb greatest (after_frames s start frames).tail (omega (arith, rise, same, over))))
 
-  pub walk-end : (start : Reached) (frames : List Bytes) (r : Reached) (rest : List Bytes) → Walk start frames r rest → rest ≡ [] → Some r ≡ unless_spent (behind_frames s start frames)
+  pub walk-end : (start : Reached) (frames : List Bytes) (r : Reached) (rest : List Bytes) → Walk start frames r rest → rest ≡ [] → Some r ≡ unless_spent (after_frames s start frames)
   walk-end start frames r rest w none =
-      let same : r ≡ behind_frames s start frames = ap (behind_frames s r) (sym none) ∙ w.walked in
-      sym (ap (told r) (le-ltb greatest r.tail w.room)) ∙ ap unless_spent same
+      let same : r ≡ after_frames s start frames = ap (after_frames s r) (sym none) ∙ w.walked in
+      sym (ap (reported r) (le-ltb greatest r.tail w.room)) ∙ ap unless_spent same
 
   -- what a walk over some of the frames finds
-  pub told_none : (q : Reached) → None ≡ unless_spent q → greatest < q.tail
-  told_none q = of (nat_lt greatest q.tail) refl
+  pub reported_none : (q : Reached) → None ≡ unless_spent q → greatest < q.tail
+  reported_none q = of (nat_lt greatest q.tail) refl
     where
-      of : (b : Bool) → nat_lt greatest q.tail ≡ b → None ≡ told q b → greatest < q.tail
+      of : (b : Bool) → nat_lt greatest q.tail ≡ b → None ≡ reported q b → greatest < q.tail
       of true is h = ltb-true greatest q.tail is
       of false is h = absurd (cc)
 
-  pub told_some : (r q : Reached) → Some r ≡ unless_spent q → (r ≡ q) × (r.tail ≤ greatest)
-  told_some r q = of (nat_lt greatest q.tail) refl
+  pub reported_some : (r q : Reached) → Some r ≡ unless_spent q → (r ≡ q) × (r.tail ≤ greatest)
+  reported_some r q = of (nat_lt greatest q.tail) refl
     where
-      of : (b : Bool) → nat_lt greatest q.tail ≡ b → Some r ≡ told q b → (r ≡ q) × (r.tail ≤ greatest)
+      of : (b : Bool) → nat_lt greatest q.tail ≡ b → Some r ≡ reported q b → (r ≡ q) × (r.tail ≤ greatest)
       of true is h = absurd (cc)
       of false is h =
           let same : r ≡ q = cc in
@@ -155,20 +155,20 @@ module _ (s : Settings) where
 
   -- ---- the tail after a text
 
-  abbrev pub tail_told : ℕ → Bool → Option ℕ
-  tail_told t b = if b then None else Some t
+  abbrev pub tail_read : ℕ → Bool → Option ℕ
+  tail_read t b = if b then None else Some t
 
-  pub text_tail : (tail : ℕ) (frames : List Bytes) (text : List Frame) → frames ≡ map (λ f. bytes_of f) text → (behind_frames s (from_tail s tail) frames).tail ≡ tail_after s tail text
-  text_tail tail frames text h = ap (λ (bs : List Bytes). (behind_frames s (from_tail s tail) bs).tail) h ∙ tail_reached (from_tail s tail) text
+  pub text_tail : (tail : ℕ) (frames : List Bytes) (text : List Frame) → frames ≡ map (λ f. bytes_of f) text → (after_frames s (from_tail s tail) frames).tail ≡ tail_after s tail text
+  text_tail tail frames text h = ap (λ (bs : List Bytes). (after_frames s (from_tail s tail) bs).tail) h ∙ tail_reached (from_tail s tail) text
 
-  pub text_spent : (q : Reached) (t : ℕ) → None ≡ unless_spent q → q.tail ≡ t → None ≡ tail_told t (nat_lt greatest t)
-  text_spent q t h same = let over = told_none q h in sym (ap (tail_told t) (lt-ltb greatest t (omega (arith, over, same))))
+  pub text_spent : (q : Reached) (t : ℕ) → None ≡ unless_spent q → q.tail ≡ t → None ≡ tail_read t (nat_lt greatest t)
+  text_spent q t h same = let over = reported_none q h in sym (ap (tail_read t) (lt-ltb greatest t (omega (arith, over, same))))
 
-  pub text_ends : (r q : Reached) (t : ℕ) → Some r ≡ unless_spent q → q.tail ≡ t → Some r.tail ≡ tail_told t (nat_lt greatest t)
+  pub text_ends : (r q : Reached) (t : ℕ) → Some r ≡ unless_spent q → q.tail ≡ t → Some r.tail ≡ tail_read t (nat_lt greatest t)
   text_ends r q t h same =
-      let (is, low) = told_some r q h in
+      let (is, low) = reported_some r q h in
       let tail : r.tail ≡ t = ap (λ (x : Reached). x.tail) is ∙ same in
-      sym (ap (tail_told r.tail) (le-ltb greatest r.tail low)) ∙ ap (λ (n : ℕ). tail_told n (nat_lt greatest n)) tail
+      sym (ap (tail_read r.tail) (le-ltb greatest r.tail low)) ∙ ap (λ (n : ℕ). tail_read n (nat_lt greatest n)) tail
 
 -- the frames of a text that a store may have fit
 pub text-fits : (g : Format) → first_bad_field g.settings ≡ None → (images : List (List Bytes)) (text : List Frame) → AreOfText images text → AllByRecursion (λ f. is_frame g f ≡ true) text → FitSegments g.settings (frames_in images)

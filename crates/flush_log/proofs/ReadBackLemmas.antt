@@ -11,12 +11,12 @@ use Rattle.frame_codec.specs.Frame.{Frame, bytes_of, is_frame}
 use Rattle.flush_log.specs.Overlay.{overlay}
 use Rattle.flush_log.specs.Reading.{Found, all_in, is_at_tail, is_padding, read_segment, followed_by, read_earlier, read_log, log_between}
 use Rattle.flush_log.specs.Segments.{place_of_segment, HasSegments, segment_bytes, last_segment, bytes_in_use}
-use Rattle.flush_log.specs.Layout.{PlacedFrame, Span, placed_from, placed, behind_header, tail_after, found_in_text, end_of, longer, filled, begun, opened, spans_from, spans, place_of_span, with_spans}
+use Rattle.flush_log.specs.Layout.{PlacedFrame, Span, placed_from, placed, past_header, tail_after, found_in_text, end_of, longer, filled, begun, opened, spans_from, spans, place_of_span, with_spans}
 use Rattle.flush_log.proofs.FitLemmas.{are_sized, frame_fits}
 use Rattle.flush_log.proofs.SegmentLemmas.{Holds, header-holds, frame-holds, holds-read, read-holds, tail-ends, padding-ends, zeros-pad}
 use Rattle.flush_log.proofs.PlaceLemmas.{remainders_differ, whole-written, segment-written, segment-beside}
 use Rattle.flush_log.proofs.LayoutLemmas.{end_point, found_at, by_places, AllFit, split-tail, Start, starts, opened-segment, opened-end, opened-inside, text-last, goes_on_span, next_span, filled-end}
-use Rattle.flush_log.proofs.LayoutLemmas.Start.{Inside, Behind}
+use Rattle.flush_log.proofs.LayoutLemmas.Start.{Inside, Following}
 
 -- ---- files with some parts the same
 
@@ -215,9 +215,9 @@ module _ (g : Format) (good : first_bad_field g.settings ≡ None) where
         free = free;
       }
 
-  starts-behind : (file : List ℕ) (head k : ℕ) (found : List Found) → read_log g file head k g.settings.seg_size ≡ ok found → HasSegments g.settings file → suc k < g.settings.segments
+  starts-following : (file : List ℕ) (head k : ℕ) (found : List Found) → read_log g file head k g.settings.seg_size ≡ ok found → HasSegments g.settings file → suc k < g.settings.segments
       → Stands file head (suc k) (begun (suc (head + k)) []) found
-  starts-behind file head k found h whole free =
+  starts-following file head k found h whole free =
       let bytes : List ℕ = segment_bytes g.settings file (head + k) in
       let (before, more, old, read, all) = followed_by-ok (read_earlier g file head k) (read_segment g is_at_tail (head + k) (take g.settings.seg_size bytes)) found h in
       let (here, holds, same) = read-holds g (head + k) (take g.settings.seg_size bytes) more read in
@@ -239,24 +239,24 @@ module _ (g : Format) (good : first_bad_field g.settings ≡ None) where
         free = free;
       }
 
-  text-behind : (file : List ℕ) (head q used n at : ℕ) (found : List Found) (fs : List Frame) → Start g.settings q used n at → head ≤ q → 1 ≤ used → used ≤ g.settings.seg_size
+  text-following : (file : List ℕ) (head q used n at : ℕ) (found : List Found) (fs : List Frame) → Start g.settings q used n at → head ≤ q → 1 ≤ used → used ≤ g.settings.seg_size
       → HasSegments g.settings file → read_log g file head (q - head) used ≡ ok found → AllByRecursion (λ f. is_frame g f ≡ true) fs
-      → (let ps : List PlacedFrame = placed_from g.settings n (behind_header at) fs in (end_point n (behind_header at) ps).0 < head + g.settings.segments
-      → read_log g (with_spans g.settings file (spans_from g.settings (opened n at) ps)) head ((end_point n (behind_header at) ps).0 - head) (end_point n (behind_header at) ps).1 ≡ ok (found ++ map found_at ps))
-  text-behind file head q used n at found fs (Inside room) from low high whole h within free =
+      → (let ps : List PlacedFrame = placed_from g.settings n (past_header at) fs in (end_point n (past_header at) ps).0 < head + g.settings.segments
+      → read_log g (with_spans g.settings file (spans_from g.settings (opened n at) ps)) head ((end_point n (past_header at) ps).0 - head) (end_point n (past_header at) ps).1 ≡ ok (found ++ map found_at ps))
+  text-following file head q used n at found fs (Inside room) from low high whole h within free =
       let k : ℕ = q - head in
-      let (rise, read) = text-read q (behind_header used) fs in
+      let (rise, read) = text-read q (past_header used) fs in
       let is : q ≡ head + (q - head) = omega arith in
       let stands : Stands file head k (record { segment = head + k; offset = used; bytes = [] }) found = starts-inside file head k used found h high whole (omega (arith, rise, free, is)) in
       let first : Stands file head k (opened q used) found = rw (opened-inside q used low) (subst (λ (m : ℕ). Stands file head k (record { segment = m; offset = used; bytes = [] }) found) (sym is) stands) in
       read file head k (opened q used) found (opened-segment q used) (opened-end q used) first within
-      ((end_point q (behind_header used) (placed_from g.settings q (behind_header used) fs)).0 - head) (omega (arith, rise, from)) (omega (arith, rise, free, from))
-  text-behind file head q used n at found fs (Behind full) from low high whole h within free =
+      ((end_point q (past_header used) (placed_from g.settings q (past_header used) fs)).0 - head) (omega (arith, rise, from)) (omega (arith, rise, free, from))
+  text-following file head q used n at found fs (Following full) from low high whole h within free =
       let k : ℕ = q - head in
       let (rise, read) = text-read (suc q) 16 fs in
       let is : q ≡ head + (q - head) = omega arith in
       let filled_up : read_log g file head k g.settings.seg_size ≡ ok found = ap (λ (x : ℕ). read_log g file head k x) (sym full) ∙ h in
-      let stands : Stands file head (suc k) (begun (suc (head + k)) []) found = starts-behind file head k found filled_up whole (omega (arith, rise, free, is)) in
+      let stands : Stands file head (suc k) (begun (suc (head + k)) []) found = starts-following file head k found filled_up whole (omega (arith, rise, free, is)) in
       let first : Stands file head (suc k) (begun (suc q) []) found = subst (λ (m : ℕ). Stands file head (suc k) (begun (suc m) []) found) (sym is) stands in
       read file head (suc k) (begun (suc q) []) found refl (opened-end q 0) first within
       ((end_point (suc q) 16 (placed_from g.settings (suc q) 16 fs)).0 - head) (omega (arith, rise, from)) (omega (arith, rise, free, from))
@@ -275,10 +275,10 @@ module _ (g : Format) (good : first_bad_field g.settings ≡ None) where
       let text : List Frame = f ∷ fs in
       let new : List ℕ = with_spans g.settings file (spans g.settings tail (f ∷ fs)) in
       let after : ℕ = tail_after g.settings tail (f ∷ fs) in
-      let e : ℕ × ℕ = end_point n (behind_header at) (placed g.settings tail (f ∷ fs)) in
+      let e : ℕ × ℕ = end_point n (past_header at) (placed g.settings tail (f ∷ fs)) in
       let least = (are_sized g.settings good).least_size in
       let split = split-tail g.settings head tail (omega arith) h in
       let (last, used) = text-last g.settings tail (f ∷ fs) (omega arith) (omega arith) (all_fit (f ∷ fs) within) in
       ap (λ (m : ℕ). read_log g new head (m - head) (bytes_in_use g.settings after)) last
       ∙ ap (λ (u : ℕ). read_log g new head (e.0 - head) u) used
-      ∙ text-behind file head (last_segment g.settings tail) (bytes_in_use g.settings tail) n at found (f ∷ fs) (starts g.settings (last_segment g.settings tail) (bytes_in_use g.settings tail) tail split.is split.high (omega arith)) split.from split.low split.high whole read within (omega (arith, last, free))
+      ∙ text-following file head (last_segment g.settings tail) (bytes_in_use g.settings tail) n at found (f ∷ fs) (starts g.settings (last_segment g.settings tail) (bytes_in_use g.settings tail) tail split.is split.high (omega arith)) split.from split.low split.high whole read within (omega (arith, last, free))

@@ -57,12 +57,12 @@ zeros-longer n end kept now short within is =
 pub zeros-read : (n : ℕ) (kept : List ℕ) (at long from here : ℕ) → length kept ≤ n → at + long ≤ n → from ≡ min at (length kept) → here ≡ min long (length kept - from)
     → take here (drop from kept) ++ drop here (replicate long 0) ≡ take long (drop at (with_zeros n kept))
 zeros-read n kept at long from here short within start count = elim (cases_lt (length kept) at) [
-  | inl behind ↦ (
-      let z : from ≡ length kept = omega (arith, start, behind) in
+  | inl following ↦ (
+      let z : from ≡ length kept = omega (arith, start, following) in
       let none : here ≡ 0 = omega (arith, count, z) in
       let m = at - length kept in
-      let sum : at ≡ length kept + m = omega (arith, behind) in
-      let least : long ≤ (n - length kept) - m = omega (arith, behind, within) in
+      let sum : at ≡ length kept + m = omega (arith, following) in
+      let least : long ≤ (n - length kept) - m = omega (arith, following, within) in
       ap (λ (k : ℕ). take k (drop from kept) ++ drop k (replicate long 0)) none
       ∙ sym (take-replicate long ((n - length kept) - m) 0 least)
       ∙ ap (λ (xs : List ℕ). take long xs) (sym (drop-replicate m (n - length kept) 0) ∙ sym (drop-append-add kept (replicate (n - length kept) 0) m))

@@ -34,11 +34,11 @@ in_segment-ok n long (Ok fs) found h = (fs, refl, cc)
 in_segment-ok n long (Err left) found h = absurd (cc)
 
 -- a header stands at the front just where its test says so
-pub header-there : (n : ℕ) (behind : List ℕ) → starts_with nat_eq (segment_header n ++ behind) (segment_header n) ≡ true
-header-there n behind = (starts_is Decides-eqb (segment_header n ++ behind) (segment_header n) (starts_with nat_eq (segment_header n ++ behind) (segment_header n)) refl).1 behind refl
+pub header-there : (n : ℕ) (following : List ℕ) → starts_with nat_eq (segment_header n ++ following) (segment_header n) ≡ true
+header-there n following = (starts_is Decides-eqb (segment_header n ++ following) (segment_header n) (starts_with nat_eq (segment_header n ++ following) (segment_header n)) refl).1 following refl
 
-pub header-behind : (n : ℕ) (bytes : List ℕ) → starts_with nat_eq bytes (segment_header n) ≡ true → bytes ≡ segment_header n ++ drop 16 bytes
-header-behind n bytes h = (starts_is Decides-eqb bytes (segment_header n) (starts_with nat_eq bytes (segment_header n)) refl).0 h
+pub header-following : (n : ℕ) (bytes : List ℕ) → starts_with nat_eq bytes (segment_header n) ≡ true → bytes ≡ segment_header n ++ drop 16 bytes
+header-following n bytes h = (starts_is Decides-eqb bytes (segment_header n) (starts_with nat_eq bytes (segment_header n)) refl).0 h
 
 module _ (g : Format) where
   not_end : (is_end : List ℕ → Bool) → IsEnd is_end → (bs : List ℕ) (f : Frame) (rest : List ℕ) → read_frame g bs ≡ gave f rest → is_end bs ≡ false
@@ -79,7 +79,7 @@ module _ (g : Format) where
   none-goes_on most fs h = subst (λ (xs : List Frame). Continues most [] xs) (nothing-ok fs h) (omega arith, λ is_end marks more gs reads. reads)
 
   one-goes_on : (most : ℕ) (bs : List ℕ) (fs : List Frame) (o : Option (Frame × List ℕ)) → read_frame g bs ≡ o
-      → read_then (length bs) o (λ behind. read_frames g is_at_tail most behind) ≡ Ok fs
+      → read_then (length bs) o (λ following. read_frames g is_at_tail most following) ≡ Ok fs
       → ((rest : List ℕ) (gs : List Frame) → read_frames g is_at_tail most rest ≡ Ok gs → Continues most rest gs) → Continues (suc most) bs fs
   one-goes_on most bs fs None is h further = absurd (cc)
   one-goes_on most bs fs (Some p) is h further =
@@ -109,40 +109,40 @@ module _ (g : Format) where
 
   -- bytes of segment n from its header on, which are these frames with whatever frames and end after them
   pub record Holds (n : ℕ) (bytes : List ℕ) (fs : List Frame) : Type 0 where
-    pub behind : List ℕ
-    pub headed : bytes ≡ segment_header n ++ behind
+    pub following : List ℕ
+    pub headed : bytes ≡ segment_header n ++ following
     pub few : length fs ≤ length bytes
-    pub on : GoesOn behind fs
+    pub on : GoesOn following fs
 
-  headed-read : (is_end : List ℕ → Bool) (n : ℕ) (behind : List ℕ) → read_segment g is_end n (segment_header n ++ behind)
-      ≡ in_segment n (length (segment_header n ++ behind)) (read_frames g is_end (length (segment_header n ++ behind)) behind)
-  headed-read is_end n behind =
-      let bytes : List ℕ = segment_header n ++ behind in
-      ap (λ (b : Bool). if b then in_segment n (length bytes) (read_frames g is_end (length bytes) behind) else Err (BadSegment n)) (header-there n behind)
+  headed-read : (is_end : List ℕ → Bool) (n : ℕ) (following : List ℕ) → read_segment g is_end n (segment_header n ++ following)
+      ≡ in_segment n (length (segment_header n ++ following)) (read_frames g is_end (length (segment_header n ++ following)) following)
+  headed-read is_end n following =
+      let bytes : List ℕ = segment_header n ++ following in
+      ap (λ (b : Bool). if b then in_segment n (length bytes) (read_frames g is_end (length bytes) following) else Err (BadSegment n)) (header-there n following)
 
   -- a header alone
   pub header-holds : (n : ℕ) → Holds n (segment_header n) []
-  header-holds n = record { behind = []; headed = sym (append-nil (segment_header n)); few = omega arith; on = λ is_end marks more gs reads. reads }
+  header-holds n = record { following = []; headed = sym (append-nil (segment_header n)); few = omega arith; on = λ is_end marks more gs reads. reads }
 
   -- a frame more
   pub frame-holds : first_bad_field g.settings ≡ None → (n : ℕ) (bytes : List ℕ) (fs : List Frame) (f : Frame) → is_frame g f ≡ true → Holds n bytes fs → Holds n (bytes ++ bytes_of f) (fs ++ f ∷ [])
   frame-holds good n bytes fs f within h = record {
-    behind = h.behind ++ bytes_of f;
-    headed = ap (λ (bs : List ℕ). bs ++ bytes_of f) h.headed ∙ append_assoc (segment_header n) h.behind (bytes_of f);
+    following = h.following ++ bytes_of f;
+    headed = ap (λ (bs : List ℕ). bs ++ bytes_of f) h.headed ∙ append_assoc (segment_header n) h.following (bytes_of f);
     few = let frames = length-append fs (f ∷ []) in let long = length-append bytes (bytes_of f) in let before = h.few in omega arith;
-    on = frame-goes_on good h.behind fs f within h.on;
+    on = frame-goes_on good h.following fs f within h.on;
   }
 
   -- with an end after them
   pub holds-read : (is_end : List ℕ → Bool) → IsEnd is_end → (n : ℕ) (bytes rest : List ℕ) (fs : List Frame) → Holds n bytes fs → is_end rest ≡ true → read_segment g is_end n (bytes ++ rest) ≡ Ok (all_in n fs)
   holds-read is_end marks n bytes rest fs h end =
-      let all : Reads is_end (h.behind ++ rest) fs = rw (sym (append-nil fs)) (h.on is_end marks rest [] (reads-end is_end rest end)) in
-      let whole : List ℕ = segment_header n ++ (h.behind ++ rest) in
-      let same : bytes ++ rest ≡ segment_header n ++ (h.behind ++ rest) = ap (λ (bs : List ℕ). bs ++ rest) h.headed ∙ append_assoc (segment_header n) h.behind rest in
-      let room : length fs ≤ length (segment_header n ++ (h.behind ++ rest)) =
-      (let joined = length-append bytes rest in let few = h.few in let long : length (bytes ++ rest) ≡ length (segment_header n ++ (h.behind ++ rest)) = ap (λ (bs : List ℕ). length bs) same in omega (arith, joined, few, long)) in
+      let all : Reads is_end (h.following ++ rest) fs = rw (sym (append-nil fs)) (h.on is_end marks rest [] (reads-end is_end rest end)) in
+      let whole : List ℕ = segment_header n ++ (h.following ++ rest) in
+      let same : bytes ++ rest ≡ segment_header n ++ (h.following ++ rest) = ap (λ (bs : List ℕ). bs ++ rest) h.headed ∙ append_assoc (segment_header n) h.following rest in
+      let room : length fs ≤ length (segment_header n ++ (h.following ++ rest)) =
+      (let joined = length-append bytes rest in let few = h.few in let long : length (bytes ++ rest) ≡ length (segment_header n ++ (h.following ++ rest)) = ap (λ (bs : List ℕ). length bs) same in omega (arith, joined, few, long)) in
       ap (λ (bs : List ℕ). read_segment g is_end n bs) same
-      ∙ headed-read is_end n (h.behind ++ rest)
+      ∙ headed-read is_end n (h.following ++ rest)
       ∙ ap (λ (r : Result (List Frame) ℕ). in_segment n (length whole) r) (all (length whole) room)
 
   -- what was read up to the tail
@@ -155,5 +155,5 @@ module _ (g : Format) where
       of true starts h =
           let (fs, read, all) = in_segment-ok n (length bytes) (read_frames g is_at_tail (length bytes) (drop 16 bytes)) found h in
           let on = tail-goes_on (length bytes) (drop 16 bytes) fs read in
-          (fs, record { behind = drop 16 bytes; headed = header-behind n bytes starts; few = on.0; on = on.1 }, all)
+          (fs, record { following = drop 16 bytes; headed = header-following n bytes starts; few = on.0; on = on.1 }, all)
       of false starts h = absurd (cc)

@@ -25,33 +25,33 @@ same_settings s t a b c d e f =
 
 module _ (s : Settings) where
   -- what stands after each number of the block
-  abbrev behind_segments : List ℕ
-  behind_segments = replicate 40 0
+  abbrev after_segments : List ℕ
+  after_segments = replicate 40 0
 
-  abbrev behind_seg_size : List ℕ
-  behind_seg_size = (number 4).spell s.segments ++ behind_segments
+  abbrev after_seg_size : List ℕ
+  after_seg_size = (number 4).spell s.segments ++ after_segments
 
-  abbrev behind_max_value : List ℕ
-  behind_max_value = (number 4).spell s.seg_size ++ behind_seg_size
+  abbrev after_max_value : List ℕ
+  after_max_value = (number 4).spell s.seg_size ++ after_seg_size
 
-  abbrev behind_max_key : List ℕ
-  behind_max_key = (number 2).spell s.max_value ++ behind_max_value
+  abbrev after_max_key : List ℕ
+  after_max_key = (number 2).spell s.max_value ++ after_max_value
 
-  abbrev behind_chain : List ℕ
-  behind_chain = (number 2).spell s.max_key ++ behind_max_key
+  abbrev after_chain : List ℕ
+  after_chain = (number 2).spell s.max_key ++ after_max_key
 
-  abbrev behind_fan : List ℕ
-  behind_fan = (number 2).spell s.chain ++ behind_chain
+  abbrev after_fan : List ℕ
+  after_fan = (number 2).spell s.chain ++ after_chain
 
   block_in : AreChecked s → settings_in (settings_block s) ≡ s
   block_in c =
       same_settings (settings_in (settings_block s)) s
-      (ap number_or_0 (number-back 2 s.fan (let h = c.fan in omega arith) behind_fan))
-      (ap number_or_0 (number-back 2 s.chain (let h = c.chain in omega arith) behind_chain))
-      (ap number_or_0 (number-back 2 s.max_key (let h = c.max_key in omega arith) behind_max_key))
-      (ap number_or_0 (number-back 2 s.max_value (let h = c.max_value in omega arith) behind_max_value))
-      (ap number_or_0 (number-back 4 s.seg_size (let h = c.seg_size in omega (arith, h.1)) behind_seg_size))
-      (ap number_or_0 (number-back 4 s.segments (let h = c.segments in omega (arith, h.1)) behind_segments))
+      (ap number_or_0 (number-back 2 s.fan (let h = c.fan in omega arith) after_fan))
+      (ap number_or_0 (number-back 2 s.chain (let h = c.chain in omega arith) after_chain))
+      (ap number_or_0 (number-back 2 s.max_key (let h = c.max_key in omega arith) after_max_key))
+      (ap number_or_0 (number-back 2 s.max_value (let h = c.max_value in omega arith) after_max_value))
+      (ap number_or_0 (number-back 4 s.seg_size (let h = c.seg_size in omega (arith, h.1)) after_seg_size))
+      (ap number_or_0 (number-back 4 s.segments (let h = c.segments in omega (arith, h.1)) after_segments))
 
   pub settings-back : first_bad_field s ≡ None → read_settings (settings_block s) ≡ Some s
   settings-back good =

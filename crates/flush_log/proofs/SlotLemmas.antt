@@ -25,7 +25,7 @@ use Rattle.keys.proofs.LimitLemmas.{within}
 pub record IsSlot (s : Settings) (n : ℕ) (t : Slot) : Type 0 where
   pub sequence : (1 ≤ t.sequence) × (t.sequence ≤ 2 ^ 62)
   pub own : t.sequence % 2 ≡ n % 2
-  pub behind : t.head * s.seg_size + 16 < t.tail
+  pub following : t.head * s.seg_size + 16 < t.tail
   pub tail : t.tail ≤ 2 ^ 62
   pub ends : is_tail s t.tail ≡ true
   pub last : last_segment s t.tail < t.head + s.segments
@@ -39,12 +39,12 @@ slot-is s n t h =
     let (to_end, last) = and_parts _ (nat_lt (last_segment s t.tail) (t.head + s.segments)) to_last in
     let (to_tail, ends) = and_parts _ (is_tail s t.tail) to_end in
     let (to_head, tail) = and_parts _ (nat_le t.tail greatest) to_tail in
-    let (to_own, behind) = and_parts _ (nat_lt (t.head * s.seg_size + 16) t.tail) to_head in
+    let (to_own, following) = and_parts _ (nat_lt (t.head * s.seg_size + 16) t.tail) to_head in
     let (sequence, own) = and_parts (is_in_limits 1 greatest t.sequence) (t.sequence % 2 == n % 2) to_own in
     record {
       sequence = within 1 greatest t.sequence sequence;
       own = eqb-true (t.sequence % 2) (n % 2) own;
-      behind = ltb-true _ _ behind;
+      following = ltb-true _ _ following;
       tail = leb-true t.tail greatest tail;
       ends = ends;
       last = ltb-true _ _ last;
@@ -60,7 +60,7 @@ is-slot s n t f =
     and_from _ _ (and_from _ _ (and_from _ _ (and_from _ _ (and_from _ _ (and_from _ _ (and_from _ _
     (in_limits 1 greatest t.sequence f.sequence.0 f.sequence.1)
     (eq-eqb (t.sequence % 2) (n % 2) f.own))
-    (lt-ltb _ _ f.behind))
+    (lt-ltb _ _ f.following))
     (le-leb t.tail greatest f.tail))
     f.ends)
     (lt-ltb _ _ f.last))
@@ -71,7 +71,7 @@ is-slot s n t f =
 pub head_small : (s : Settings) (n : ℕ) (t : Slot) → 0 < s.seg_size → IsSlot s n t → t.head < t.tail
 head_small s n t some f =
     let least : t.head * 1 ≤ t.head * s.seg_size = mul-le-mul_left t.head (omega arith) in
-    let far = f.behind in
+    let far = f.following in
     omega arith
 
 -- ---- a slot is read back
@@ -98,23 +98,23 @@ version_small Two = omega arith
 
 module _ (s : Settings) (n : ℕ) (t : Slot) (some : 0 < s.seg_size) where
   -- what stands after each number of the slot
-  abbrev behind_version : List ℕ
-  behind_version = replicate 16 0
+  abbrev after_version : List ℕ
+  after_version = replicate 16 0
 
-  abbrev behind_height : List ℕ
-  behind_height = (number 4).spell (version_number t.version) ++ behind_version
+  abbrev after_height : List ℕ
+  after_height = (number 4).spell (version_number t.version) ++ after_version
 
-  abbrev behind_root : List ℕ
-  behind_root = (number 4).spell t.height ++ behind_height
+  abbrev after_root : List ℕ
+  after_root = (number 4).spell t.height ++ after_height
 
-  abbrev behind_tail : List ℕ
-  behind_tail = (number 8).spell t.root ++ behind_root
+  abbrev after_tail : List ℕ
+  after_tail = (number 8).spell t.root ++ after_root
 
-  abbrev behind_head : List ℕ
-  behind_head = (number 8).spell t.tail ++ behind_tail
+  abbrev after_head : List ℕ
+  after_head = (number 8).spell t.tail ++ after_tail
 
-  abbrev behind_sequence : List ℕ
-  behind_sequence = (number 8).spell t.head ++ behind_head
+  abbrev after_sequence : List ℕ
+  after_sequence = (number 8).spell t.head ++ after_head
 
   pub slot_stands : IsSlot s n t → slot_in (slot_bytes t) ≡ t
   slot_stands f =
@@ -123,12 +123,12 @@ module _ (s : Settings) (n : ℕ) (t : Slot) (some : 0 < s.seg_size) where
       let far = f.tail in
       let low = f.height in
       same_slot (slot_in (slot_bytes t)) t
-      (ap number_or_0 (number-back 8 t.sequence (omega (arith, few.1)) behind_sequence))
-      (ap number_or_0 (number-back 8 t.head (omega arith) behind_head))
-      (ap number_or_0 (number-back 8 t.tail (omega arith) behind_tail))
-      (ap number_or_0 (number-back 8 t.root f.root behind_root))
-      (ap number_or_0 (number-back 4 t.height (omega (arith, low.1)) behind_height))
-      (ap (λ x. version_in (number_or_0 x)) (number-back 4 (version_number t.version) (version_small t.version) behind_version) ∙ version-back t.version)
+      (ap number_or_0 (number-back 8 t.sequence (omega (arith, few.1)) after_sequence))
+      (ap number_or_0 (number-back 8 t.head (omega arith) after_head))
+      (ap number_or_0 (number-back 8 t.tail (omega arith) after_tail))
+      (ap number_or_0 (number-back 8 t.root f.root after_root))
+      (ap number_or_0 (number-back 4 t.height (omega (arith, low.1)) after_height))
+      (ap (λ x. version_in (number_or_0 x)) (number-back 4 (version_number t.version) (version_small t.version) after_version) ∙ version-back t.version)
 
   pub open-back : is_slot s n t ≡ true → read_open s n (slot_bytes t) ≡ Ok (Some t)
   open-back h =
@@ -347,4 +347,4 @@ one_refused s n disk h = ⊎_elim
 pub ends-are : (s : Settings) (t : Slot) → is_slot s t.sequence t ≡ true → AreEnds s (ends_in t)
 ends-are s t h =
     let is = slot-is s t.sequence t h in
-    record { number = is.sequence.1; after = is.behind; tail = is.tail; last = is.last }
+    record { number = is.sequence.1; after = is.following; tail = is.tail; last = is.last }

@@ -38,22 +38,22 @@ height_decides s n t numbers log small =
 abbrev pub IsOfSlot : ℕ → Bytes → Bytes → Type 0
 IsOfSlot n disk bytes = take 64 (drop (slot_place n) disk) ≡ bytes
 
-gate_told : (n : ℕ) (disk bytes : Bytes) → IsOfSlot n disk bytes → is_open n disk ≡ (get_or bytes 0 0 == 1)
-gate_told n disk bytes h = ap (λ (b : ℕ). b == 1) (sym (gate_is_first (slot_place n) disk) ∙ ap (λ (bs : Bytes). get_or bs 0 0) h)
+gate_read : (n : ℕ) (disk bytes : Bytes) → IsOfSlot n disk bytes → is_open n disk ≡ (get_or bytes 0 0 == 1)
+gate_read n disk bytes h = ap (λ (b : ℕ). b == 1) (sym (gate_is_first (slot_place n) disk) ∙ ap (λ (bs : Bytes). get_or bs 0 0) h)
 
 -- its gate is closed
 pub reads_none : (s : Settings) (n : ℕ) (disk bytes : Bytes) → IsOfSlot n disk bytes → get_or bytes 0 0 ≢ 1 → (let none : Said = Ok None in none ≡ read_slot s n disk)
-reads_none s n disk bytes h shut = sym (closed s n disk (gate_told n disk bytes h ∙ ne_eqb (get_or bytes 0 0) 1 shut))
+reads_none s n disk bytes h shut = sym (closed s n disk (gate_read n disk bytes h ∙ ne_eqb (get_or bytes 0 0) 1 shut))
 
 -- it is open, and spells this slot or doesn't
 pub reads_open : (s : Settings) (n : ℕ) (disk bytes : Bytes) (t : Slot) (same good : Bool) → IsOfSlot n disk bytes → get_or bytes 0 0 ≡ 1 → t ≡ slot_in bytes
     → same ≡ bytes_eq (slot_bytes t) bytes → good ≡ is_slot s n t → (let no : Said = Err NoSlot in (if same && good then said t else no) ≡ read_slot s n disk)
 reads_open s n disk bytes t same good h gate is e g =
     let no : Said = Err NoSlot in
-    let told : Slot → Bool → Said = λ u b. if b then said u else no in
-    let tested : Slot → Bytes → Said = λ u bs. told u (bytes_eq (slot_bytes u) bs && is_slot s n u) in
+    let reported : Slot → Bool → Said = λ u b. if b then said u else no in
+    let tested : Slot → Bytes → Said = λ u bs. reported u (bytes_eq (slot_bytes u) bs && is_slot s n u) in
     let tests : same && good ≡ bytes_eq (slot_bytes t) bytes && is_slot s n t = ap₂ (λ (a b : Bool). a && b) e g in
-    ap (told t) tests
+    ap (reported t) tests
     ∙ ap (λ (u : Slot). tested u bytes) is
     ∙ ap (λ (bs : Bytes). tested (slot_in bs) bs) (sym h)
-    ∙ sym (opened s n disk (gate_told n disk bytes h ∙ eq-eqb (get_or bytes 0 0) 1 gate))
+    ∙ sym (opened s n disk (gate_read n disk bytes h ∙ eq-eqb (get_or bytes 0 0) 1 gate))

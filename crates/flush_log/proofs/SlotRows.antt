@@ -105,8 +105,8 @@ may_end head tail = is_slot S 0 (record { sequence = 2; head = head; tail = tail
 at_header : may_end 0 16 ≡ false
 at_header = refl
 
-behind_header : may_end 0 17 ≡ true
-behind_header = refl
+past_header : may_end 0 17 ≡ true
+past_header = refl
 
 at_end : may_end 0 256 ≡ true
 at_end = refl
@@ -123,8 +123,8 @@ too_many_segments = refl
 head_moved : may_end 1 1041 ≡ true
 head_moved = refl
 
-head_behind_tail : may_end 1 256 ≡ false
-head_behind_tail = refl
+head_after_tail : may_end 1 256 ≡ false
+head_after_tail = refl
 
 greatest_tail : may_end 18014398509481980 4611686018427387904 ≡ true
 greatest_tail = refl

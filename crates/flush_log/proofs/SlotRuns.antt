@@ -6,7 +6,7 @@ use Rattle.flush_log.specs.Overlay.{overlay, IsBeside, AgreeAt}
 use Rattle.flush_log.specs.Disk.{View, Lawful, IsSettled, Torn, Leaves, LeavesOnly}
 use Rattle.flush_log.specs.Slot.{Slot, slot_place, slot_body, slot_bytes, is_open}
 use Rattle.flush_log.specs.Layout.{Span}
-use Rattle.flush_log.specs.Commit.{AreWithin, IsBehindGate}
+use Rattle.flush_log.specs.Commit.{AreWithin, LeavesGateClosed}
 use Rattle.flush_log.proofs.OverlayLemmas.{overlay-beside, overlay-at, overlay-is, agree_then, agree_less}
 use Rattle.flush_log.proofs.CommitLemmas.{slot_low}
 use Rattle.flush_log.proofs.ViewLemmas.{leaves_only, only_then}
@@ -38,7 +38,7 @@ module _ (t : Slot) (file : List ℕ) (long : 512 ≤ length file) where
   of_gate c d same = agree_less (IsBeside place 1) (IsBeside place 64) c d (λ i out. ⊎_elim (λ low. inl low) (λ high. inr (omega (arith, high))) out) same
 
   -- the gate is closed while the bytes after it are written
-  body_torn : is_open t.sequence file ≡ false → (c : List ℕ) → Torn (place + 1) 63 file c → IsBehindGate t.sequence file c
+  body_torn : is_open t.sequence file ≡ false → (c : List ℕ) → Torn (place + 1) 63 file c → LeavesGateClosed t.sequence file c
   body_torn shut c torn = (ap (λ (n : ℕ). n == 1) (torn.same place (inl (omega arith))) ∙ shut, of_body file c torn)
 
   -- the two writes make the slot
@@ -56,7 +56,7 @@ module _ (t : Slot) (file : List ℕ) (long : 512 ≤ length file) where
           ∙ overlay-at file (place + 1) (slot_body t) (place + suc i) i body_fits (omega arith) (omega arith)
 
   -- the bytes stand while the gate is opened
-  gate_torn : (c : List ℕ) → Torn place 1 staged c → IsBehindGate t.sequence file c ⊎ (c ≡ written)
+  gate_torn : (c : List ℕ) → Torn place 1 staged c → LeavesGateClosed t.sequence file c ⊎ (c ≡ written)
   gate_torn c torn = elim (cases_Bool (is_open t.sequence c)) [
     | inl stands ↦ inr (
         overlay-is staged c place (1 ∷ []) gate_fits torn (λ i few.
@@ -92,7 +92,7 @@ module _ (t : Slot) (gate : ℕ) (bytes : List ℕ) (at : gate ≡ slot_place t.
   -- on a settled disk
   module _ (old : View) (settled : IsSettled old) (long : 512 ≤ length old.seen) (shut : is_open t.sequence old.seen ≡ false) where
     abbrev Left : List ℕ → Type 0
-    Left c = IsBehindGate t.sequence old.seen c ⊎ (c ≡ overlay old.seen (slot_place t.sequence) (slot_bytes t))
+    Left c = LeavesGateClosed t.sequence old.seen c ⊎ (c ≡ overlay old.seen (slot_place t.sequence) (slot_bytes t))
 
     pub body_leaves : (mid : View) → Leaves old mid (Torn (gate + 1) (length (take 63 (drop 1 bytes)))) → LeavesOnly old mid Left
     body_leaves mid wrote =

@@ -6,7 +6,7 @@ use Rattle.keys.specs.Cells.{AreBytes}
 use Rattle.keys.specs.Limits.{first_bad_field}
 use Rattle.keys.specs.declared.fault.Fault.{Fault}
 use Rattle.keys.specs.declared.fault.Fault.TheVariants.{BadSegment, BadFrame}
-use Rattle.keys.proofs.CellLemmas.{bytes_behind}
+use Rattle.keys.proofs.CellLemmas.{bytes_after}
 use Rattle.frame_codec.specs.declared.format.Format.{Format}
 use Rattle.frame_codec.specs.Frame.{Frame, bytes_of, is_frame}
 use Rattle.frame_codec.specs.Reading.{read_frame}
@@ -16,7 +16,7 @@ use Rattle.flush_log.specs.Segments.{segment_header, segment_bytes, last_segment
 use Rattle.flush_log.specs.Standing.{AreFrames, IsBrokenAt, IsFirstFault}
 use Rattle.flush_log.proofs.LayoutLemmas.{split-tail}
 use Rattle.flush_log.proofs.ReadBackLemmas.{ok}
-use Rattle.flush_log.proofs.SegmentLemmas.{header-behind, header-holds, frame-holds, holds-read, Holds}
+use Rattle.flush_log.proofs.SegmentLemmas.{header-following, header-holds, frame-holds, holds-read, Holds}
 
 -- zeros up to the end
 padding-zeros : (bs : List ℕ) → is_padding bs ≡ true → bs ≡ replicate (length bs) 0
@@ -31,19 +31,19 @@ tail-empty (b ∷ bs) h = absurd (cc)
 module _ (g : Format) where
   -- frames and an end after them; or frames and neither a frame nor an end
   record AreSpelled (is_end : List ℕ → Bool) (bs : List ℕ) (fs : List Frame) : Type 0 where
-    behind : List ℕ
+    following : List ℕ
     within : AllByRecursion (λ f. is_frame g f ≡ true) fs
-    spelled : bs ≡ flat_map bytes_of fs ++ behind
-    end : is_end behind ≡ true
+    spelled : bs ≡ flat_map bytes_of fs ++ following
+    end : is_end following ≡ true
 
   record AreBroken (is_end : List ℕ → Bool) (bs : List ℕ) (left : ℕ) : Type 0 where
     before : List Frame
-    behind : List ℕ
+    following : List ℕ
     within : AllByRecursion (λ f. is_frame g f ≡ true) before
-    spelled : bs ≡ flat_map bytes_of before ++ behind
-    long : left ≡ length behind
-    no_end : is_end behind ≡ false
-    no_frame : read_frame g behind ≡ None
+    spelled : bs ≡ flat_map bytes_of before ++ following
+    long : left ≡ length following
+    no_end : is_end following ≡ false
+    no_frame : read_frame g following ≡ None
 
   abbrev Stand : (List ℕ → Bool) → List ℕ → Result (List Frame) ℕ → Type 0
   Stand is_end bs (Ok fs) = AreSpelled is_end bs fs
@@ -51,24 +51,24 @@ module _ (g : Format) where
 
   module _ (is_end : List ℕ → Bool) (none : is_end [] ≡ true) where
     stand-end : (bs : List ℕ) → is_end bs ≡ true → AreSpelled is_end bs []
-    stand-end bs h = record { behind = bs; within = tt; spelled = refl; end = h }
+    stand-end bs h = record { following = bs; within = tt; spelled = refl; end = h }
 
     stand-more : (bs : List ℕ) (f : Frame) (rest : List ℕ) (r : Result (List Frame) ℕ) → AreBytes bs → read_frame g bs ≡ Some (f, rest) → Stand is_end rest r → Stand is_end bs (with_first f r)
     stand-more bs f rest (Ok fs) bytes read later =
         let stands = frame-stands g bs f rest bytes read in
         record {
-          behind = later.behind;
+          following = later.following;
           within = (stands.within, later.within);
-          spelled = stands.bytes ∙ ap (λ (cs : List ℕ). bytes_of f ++ cs) later.spelled ∙ sym (append_assoc (bytes_of f) (flat_map bytes_of fs) later.behind);
+          spelled = stands.bytes ∙ ap (λ (cs : List ℕ). bytes_of f ++ cs) later.spelled ∙ sym (append_assoc (bytes_of f) (flat_map bytes_of fs) later.following);
           end = later.end;
         }
     stand-more bs f rest (Err left) bytes read later =
         let stands = frame-stands g bs f rest bytes read in
         record {
           before = f ∷ later.before;
-          behind = later.behind;
+          following = later.following;
           within = (stands.within, later.within);
-          spelled = stands.bytes ∙ ap (λ (cs : List ℕ). bytes_of f ++ cs) later.spelled ∙ sym (append_assoc (bytes_of f) (flat_map bytes_of later.before) later.behind);
+          spelled = stands.bytes ∙ ap (λ (cs : List ℕ). bytes_of f ++ cs) later.spelled ∙ sym (append_assoc (bytes_of f) (flat_map bytes_of later.before) later.following);
           long = later.long;
           no_end = later.no_end;
           no_frame = later.no_frame;
@@ -76,18 +76,18 @@ module _ (g : Format) where
 
     stand-read : (most : ℕ) (bs : List ℕ) (o : Option (Frame × List ℕ)) → read_frame g bs ≡ o → is_end bs ≡ false → AreBytes bs → length bs ≤ suc most
         → ((rest : List ℕ) → AreBytes rest → length rest ≤ most → Stand is_end rest (read_frames g is_end most rest))
-        → Stand is_end bs (read_then (length bs) o (λ behind. read_frames g is_end most behind))
+        → Stand is_end bs (read_then (length bs) o (λ following. read_frames g is_end most following))
     stand-read most bs None read end bytes long further =
-        record { before = []; behind = bs; within = tt; spelled = refl; long = refl; no_end = end; no_frame = read }
+        record { before = []; following = bs; within = tt; spelled = refl; long = refl; no_end = end; no_frame = read }
     stand-read most bs (Some p) read end bytes long further =
         let stands = frame-stands g bs p.0 p.1 bytes read in
         let joined = length-append (bytes_of p.0) p.1 in
         let same : length bs ≡ length (bytes_of p.0 ++ p.1) = ap (λ (cs : List ℕ). length cs) stands.bytes in
-        stand-more bs p.0 p.1 (read_frames g is_end most p.1) bytes read (further p.1 (bytes_behind (bytes_of p.0) p.1 (rw stands.bytes at bytes)) (omega arith))
+        stand-more bs p.0 p.1 (read_frames g is_end most p.1) bytes read (further p.1 (bytes_after (bytes_of p.0) p.1 (rw stands.bytes at bytes)) (omega arith))
 
     stand-step : (most : ℕ) (bs : List ℕ) (e : Bool) → is_end bs ≡ e → AreBytes bs → length bs ≤ suc most
         → ((rest : List ℕ) → AreBytes rest → length rest ≤ most → Stand is_end rest (read_frames g is_end most rest))
-        → Stand is_end bs (if e then Ok [] else read_then (length bs) (read_frame g bs) (λ behind. read_frames g is_end most behind))
+        → Stand is_end bs (if e then Ok [] else read_then (length bs) (read_frame g bs) (λ following. read_frames g is_end most following))
     stand-step most bs true h bytes long further = stand-end bs h
     stand-step most bs false h bytes long further = stand-read most bs (read_frame g bs) refl h bytes long further
 
@@ -114,15 +114,15 @@ module _ (g : Format) where
         → in_segment n (length bytes) r ≡ Err (BadFrame m offset) → (m ≡ n) × IsBrokenAt g is_end n offset bytes
     broken-of n bytes m offset (Ok fs) stand headed h = absurd (cc)
     broken-of n bytes m offset (Err left) stand headed h =
-        let whole : bytes ≡ segment_header n ++ (flat_map bytes_of stand.before ++ stand.behind) = headed ∙ ap (λ (cs : List ℕ). segment_header n ++ cs) stand.spelled in
-        let long : length bytes ≡ length (segment_header n ++ (flat_map bytes_of stand.before ++ stand.behind)) = ap (λ (cs : List ℕ). length cs) whole in
-        let joined = length-append (flat_map bytes_of stand.before) stand.behind in
+        let whole : bytes ≡ segment_header n ++ (flat_map bytes_of stand.before ++ stand.following) = headed ∙ ap (λ (cs : List ℕ). segment_header n ++ cs) stand.spelled in
+        let long : length bytes ≡ length (segment_header n ++ (flat_map bytes_of stand.before ++ stand.following)) = ap (λ (cs : List ℕ). length cs) whole in
+        let joined = length-append (flat_map bytes_of stand.before) stand.following in
         let rest = stand.long in
         let at : offset ≡ length bytes - left = cc in (
           cc,
           record {
             before = stand.before;
-            behind = stand.behind;
+            following = stand.following;
             within = stand.within;
             spelled = whole;
             place = omega (arith, at, long, joined, rest);
@@ -133,16 +133,16 @@ module _ (g : Format) where
 
     after_header : (n : ℕ) (bytes : List ℕ) → AreBytes bytes → starts_with nat_eq bytes (segment_header n) ≡ true → Stand is_end (drop 16 bytes) (read_frames g is_end (length bytes) (drop 16 bytes))
     after_header n bytes are starts =
-        let headed = header-behind n bytes starts in
+        let headed = header-following n bytes starts in
         let long : length bytes ≡ length (segment_header n ++ drop 16 bytes) = ap (λ (cs : List ℕ). length cs) headed in
-        frames-stand (length bytes) (drop 16 bytes) (bytes_behind (segment_header n) (drop 16 bytes) (rw headed at are)) (omega arith)
+        frames-stand (length bytes) (drop 16 bytes) (bytes_after (segment_header n) (drop 16 bytes) (rw headed at are)) (omega arith)
 
     segment-found : (n : ℕ) (bytes : List ℕ) (found : List Found) → AreBytes bytes → read_segment g is_end n bytes ≡ Ok found → IsFound n bytes found
     segment-found n bytes found are = of (starts_with nat_eq bytes (segment_header n)) refl
       where
         of : (b : Bool) → starts_with nat_eq bytes (segment_header n) ≡ b → (if b then in_segment n (length bytes) (read_frames g is_end (length bytes) (drop 16 bytes)) else Err (BadSegment n)) ≡ Ok found
             → IsFound n bytes found
-        of true starts h = found-of n bytes found (read_frames g is_end (length bytes) (drop 16 bytes)) (after_header n bytes are starts) (header-behind n bytes starts) h
+        of true starts h = found-of n bytes found (read_frames g is_end (length bytes) (drop 16 bytes)) (after_header n bytes are starts) (header-following n bytes starts) h
         of false starts h = absurd (cc)
 
     -- and what is no frame stands where the fault says
@@ -151,7 +151,7 @@ module _ (g : Format) where
       where
         of : (b : Bool) → starts_with nat_eq bytes (segment_header n) ≡ b → (if b then in_segment n (length bytes) (read_frames g is_end (length bytes) (drop 16 bytes)) else Err (BadSegment n)) ≡ Err (BadFrame m offset)
             → (m ≡ n) × IsBrokenAt g is_end n offset bytes
-        of true starts h = broken-of n bytes m offset (read_frames g is_end (length bytes) (drop 16 bytes)) (after_header n bytes are starts) (header-behind n bytes starts) h
+        of true starts h = broken-of n bytes m offset (read_frames g is_end (length bytes) (drop 16 bytes)) (after_header n bytes are starts) (header-following n bytes starts) h
         of false starts h = absurd (cc)
 
   no_header : (n long m : ℕ) (r : Result (List Frame) ℕ) → in_segment n long r ≡ Err (BadSegment m) → ⊥
@@ -172,9 +172,9 @@ module _ (g : Format) where
   earlier-stands n bytes found are h =
       let f = segment-found is_padding refl n bytes found are h in
       let stand = f.stand in
-      let pad = padding-zeros stand.behind stand.end in (
+      let pad = padding-zeros stand.following stand.end in (
         f.frames,
-        length stand.behind,
+        length stand.following,
         record { within = stand.within; spelled = f.headed ∙ ap (λ (cs : List ℕ). segment_header n ++ cs) (stand.spelled ∙ ap (λ (cs : List ℕ). flat_map bytes_of f.frames ++ cs) pad) },
         f.all,
       )
@@ -184,7 +184,7 @@ module _ (g : Format) where
   last-stands n bytes found are h =
       let f = segment-found is_at_tail refl n bytes found are h in
       let stand = f.stand in
-      let none = tail-empty stand.behind stand.end in (
+      let none = tail-empty stand.following stand.end in (
         f.frames,
         record { within = stand.within; spelled = f.headed ∙ ap (λ (cs : List ℕ). segment_header n ++ cs) (stand.spelled ∙ ap (λ (cs : List ℕ). flat_map bytes_of f.frames ++ cs) none) },
         f.all,

@@ -12,10 +12,10 @@ use Rattle.frame_codec.specs.declared.format.Format.{Format}
 use Rattle.frame_codec.specs.Frame.{Frame, bytes_of, is_frame}
 use Rattle.flush_log.specs.Overlay.{overlay}
 use Rattle.flush_log.specs.Segments.{segment_header, HasSegments, segment_bytes, last_segment, bytes_in_use}
-use Rattle.flush_log.specs.Layout.{PlacedFrame, Span, placed_from, placed, behind_header, tail_after, end_of, longer, filled, begun, opened, spans_from, spans, place_of_span, with_spans}
+use Rattle.flush_log.specs.Layout.{PlacedFrame, Span, placed_from, placed, past_header, tail_after, end_of, longer, filled, begun, opened, spans_from, spans, place_of_span, with_spans}
 use Rattle.flush_log.proofs.FitLemmas.{are_sized}
-use Rattle.flush_log.proofs.LayoutLemmas.{end_point, by_places, AllFit, split-tail, Start, starts, opened-segment, opened-end, behind_header-within, text-last, goes_on_span, next_span, filled-end}
-use Rattle.flush_log.proofs.LayoutLemmas.Start.{Inside, Behind}
+use Rattle.flush_log.proofs.LayoutLemmas.{end_point, by_places, AllFit, split-tail, Start, starts, opened-segment, opened-end, past_header-within, text-last, goes_on_span, next_span, filled-end}
+use Rattle.flush_log.proofs.LayoutLemmas.Start.{Inside, Following}
 use Rattle.flush_log.proofs.PlaceLemmas.{remainders_differ, segment-written, segment-beside, whole-written, place-within}
 use Rattle.flush_log.proofs.ReadBackLemmas.{all_fit}
 
@@ -150,11 +150,11 @@ text-stands g good file head tail (f ∷ fs) whole within h free =
     let all = all_fit g good (f ∷ fs) within in
     let (last, used) = text-last g.settings tail (f ∷ fs) (omega arith) (omega arith) all in
     let below = mod_below tail g.settings.seg_size (omega arith) in
-    let start = behind_header-within g.settings.seg_size at below (omega arith) in
-    ((all-stand g.settings n (behind_header at) (f ∷ fs)).1 head file (opened n at) (opened-segment n at) (opened-end n at) start.1 all whole (omega (arith, count))
+    let start = past_header-within g.settings.seg_size at below (omega arith) in
+    ((all-stand g.settings n (past_header at) (f ∷ fs)).1 head file (opened n at) (opened-segment n at) (opened-end n at) start.1 all whole (omega (arith, count))
     (from_head head (last_segment g.settings tail) (bytes_in_use g.settings tail) n at split.from (starts g.settings (last_segment g.settings tail) (bytes_in_use g.settings tail) tail split.is split.high (omega arith)))
     (omega (arith, last, free))).frames
   where
     from_head : (head q used n at : ℕ) → head ≤ q → Start g.settings q used n at → head ≤ n
     from_head head q used n at l (Inside room) = l
-    from_head head q used n at l (Behind full) = omega arith
+    from_head head q used n at l (Following full) = omega arith

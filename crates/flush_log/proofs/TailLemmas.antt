@@ -10,10 +10,10 @@ use Rattle.keys.specs.Limits.{first_bad_field}
 use Rattle.keys.specs.declared.settings.Settings.{Settings}
 use Rattle.frame_codec.specs.declared.format.Format.{Format}
 use Rattle.frame_codec.specs.Frame.{Frame, bytes_of, is_frame}
-use Rattle.flush_log.specs.Layout.{placed_from, placed, behind_header, tail_after, is_full_for_flush, is_full_for_clean}
+use Rattle.flush_log.specs.Layout.{placed_from, placed, past_header, tail_after, is_full_for_flush, is_full_for_clean}
 use Rattle.flush_log.specs.Segments.{position, last_segment}
 use Rattle.flush_log.proofs.FitLemmas.{are_sized}
-use Rattle.flush_log.proofs.LayoutLemmas.{end_point, by_places, AllFit, text-end, behind_header-within}
+use Rattle.flush_log.proofs.LayoutLemmas.{end_point, by_places, AllFit, text-end, past_header-within}
 use Rattle.flush_log.proofs.ReadBackLemmas.{all_fit}
 
 module _ (s : Settings) where
@@ -36,10 +36,10 @@ module _ (s : Settings) where
   end-below =
       by_places s (λ n offset fs ps. (end_point n offset ps).0 ≤ n + length fs) (λ n offset. omega arith) (λ n offset f fs ps fit later. omega arith) (λ n offset f fs ps later. omega arith)
 
-  start-above : (tail : ℕ) → tail ≤ position s (tail / s.seg_size) (behind_header (tail % s.seg_size))
+  start-above : (tail : ℕ) → tail ≤ position s (tail / s.seg_size) (past_header (tail % s.seg_size))
   start-above tail = let parts = div-add-mod' tail s.seg_size in at_least (tail / s.seg_size * s.seg_size) (tail % s.seg_size) tail parts
     where
-      at_least : (start at tail : ℕ) → start + at ≡ tail → tail ≤ start + behind_header at
+      at_least : (start at tail : ℕ) → start + at ≡ tail → tail ≤ start + past_header at
       at_least start zero tail is = omega arith
       at_least start (suc at) tail is = omega arith
 
@@ -62,8 +62,8 @@ module _ (g : Format) (good : first_bad_field g.settings ≡ None) where
       let least = (are_sized g.settings good).least_size in
       let all = all_fit g good (f ∷ fs) within in
       let below = mod_below tail g.settings.seg_size (omega arith) in
-      let start = behind_header-within g.settings.seg_size (tail % g.settings.seg_size) below (omega arith) in
-      let above = end-above g.settings (tail / g.settings.seg_size) (behind_header (tail % g.settings.seg_size)) (f ∷ fs) start.1 all in
+      let start = past_header-within g.settings.seg_size (tail % g.settings.seg_size) below (omega arith) in
+      let above = end-above g.settings (tail / g.settings.seg_size) (past_header (tail % g.settings.seg_size)) (f ∷ fs) start.1 all in
       let first = start-above g.settings tail in
       let (is, within_segment) = text-end g.settings tail (f ∷ fs) (omega arith) (omega arith) all in
       omega (arith, is, above, first)
@@ -74,10 +74,10 @@ module _ (g : Format) (good : first_bad_field g.settings ≡ None) where
   tail-bounded tail (f ∷ fs) within =
       let least = (are_sized g.settings good).least_size in
       let (is, within_segment) = text-end g.settings tail (f ∷ fs) (omega arith) (omega arith) (all_fit g good (f ∷ fs) within) in
-      let end : ℕ × ℕ = end_point (tail / g.settings.seg_size) (behind_header (tail % g.settings.seg_size)) (placed g.settings tail (f ∷ fs)) in
-      let below = end-below g.settings (tail / g.settings.seg_size) (behind_header (tail % g.settings.seg_size)) (f ∷ fs) in
+      let end : ℕ × ℕ = end_point (tail / g.settings.seg_size) (past_header (tail % g.settings.seg_size)) (placed g.settings tail (f ∷ fs)) in
+      let below = end-below g.settings (tail / g.settings.seg_size) (past_header (tail % g.settings.seg_size)) (f ∷ fs) in
       let start = tail-parts g.settings tail in
-      let most : (end_point (tail / g.settings.seg_size) (behind_header (tail % g.settings.seg_size)) (placed g.settings tail (f ∷ fs))).0 * g.settings.seg_size ≤ (tail / g.settings.seg_size + length (f ∷ fs)) * g.settings.seg_size = mul-le-mul_right g.settings.seg_size below in
+      let most : (end_point (tail / g.settings.seg_size) (past_header (tail % g.settings.seg_size)) (placed g.settings tail (f ∷ fs))).0 * g.settings.seg_size ≤ (tail / g.settings.seg_size + length (f ∷ fs)) * g.settings.seg_size = mul-le-mul_right g.settings.seg_size below in
       let parts : (tail / g.settings.seg_size + length (f ∷ fs)) * g.settings.seg_size ≡ tail / g.settings.seg_size * g.settings.seg_size + length (f ∷ fs) * g.settings.seg_size = omega arith in
       omega (arith, is, within_segment, most, parts, start)
 

@@ -83,8 +83,8 @@ pub record HasRoom (g : Format) (file : Bytes) (t : Slot) (text : List Frame) : 
 -- ---- what may be left of it
 
 -- what may be left while slot n is written with its gate closed: it is closed still, and all else is as it was
-abbrev pub IsBehindGate : ℕ → Bytes → Bytes → Type 0
-IsBehindGate n file c = (is_open n c ≡ false) × AgreeAt (IsBeside (slot_place n) slot_size) file c
+abbrev pub LeavesGateClosed : ℕ → Bytes → Bytes → Type 0
+LeavesGateClosed n file c = (is_open n c ≡ false) × AgreeAt (IsBeside (slot_place n) slot_size) file c
 
 -- a place is in none of these spans
 abbrev pub IsBesideSpans : Settings → List Span → ℕ → Type 0

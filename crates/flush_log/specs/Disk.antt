@@ -1,6 +1,8 @@
 -- What a disk is at one moment: what a read gives and what a crash leaves; and what calls do to that.
-use Rattle.std.specs.Prelude.{◌≡◌, ◌⊎◌, ◌↔◌, ℕ, ◌+◌, ◌-◌, ◌^◌, ◌<◌, ◌≤◌, min, Bool, IsTrue, length, Result, MatchResult}
+use Rattle.std.specs.Prelude.{◌≡◌, ◌≢◌, ◌⊎◌, ◌↔◌, ℕ, ◌+◌, ◌-◌, ◌^◌, ◌<◌, ◌≤◌, min, Bool, IsTrue, length, Result, MatchResult, IfErr}
 use Rattle.keys.specs.Bytes.{Bytes}
+use Rattle.keys.specs.declared.fault.Fault.{Fault}
+use Rattle.keys.specs.declared.fault.Fault.TheVariants.{Device}
 use Rattle.flush_log.specs.Overlay.{IsBeside, AgreeAt}
 
 -- a disk at one moment; all but the first two is promised of an honest disk alone
@@ -65,6 +67,10 @@ pub record Same (old new : View) : Type 0 where
   pub moment : new.moment ≡ old.moment
   pub left_since : (t : ℕ) (c : Bytes) → new.left_since t c ↔ old.left_since t c
 
+-- an honest disk was only read
+abbrev pub OnlyRead : View → View → Type 0
+OnlyRead old new = IsTrue old.is_honest → Same old new
+
 -- what a crash since old leaves comes by the step of what it might have left at old
 pub record Leaves (old new : View) (step : Bytes → Bytes → Type 0) : Type 0 where
   pub time : Elapses old new
@@ -76,6 +82,10 @@ pub record LeavesOnly (old new : View) (P : Bytes → Type 0) : Type 0 where
   pub each : (c : Bytes) → new.left_since old.moment c → P c
   -- the same for what began earlier
   pub before : (t : ℕ) (c : Bytes) → t ≤ old.moment → new.left_since t c → old.left_since t c ⊎ P c
+
+-- a fault other than Device leaves the count of failed calls as it was
+abbrev pub CountsNoOther : {X : Type 0} → Result X Fault → ℕ → ℕ → Type 0
+CountsNoOther result old new = IfErr result (λ fault. fault ≢ Device → new ≡ old)
 
 -- a call counts as failed just where it answered Err; the count stops at its greatest
 abbrev pub CountsFailure : {X E : Type 0} → Result X E → ℕ → ℕ → Type 0

@@ -9,7 +9,7 @@ use Rattle.keys.specs.declared.fault.Fault.{Fault}
 use Rattle.keys.specs.declared.fault.Fault.TheVariants.{Full, Spent}
 use Rattle.frame_codec.specs.Frame.{Frame, bytes_of}
 use Rattle.flush_log.specs.AfterFlush.{is_spent}
-use Rattle.flush_log.specs.Layout.{behind_header}
+use Rattle.flush_log.specs.Layout.{past_header}
 use Rattle.flush_log.specs.Segments.{position}
 use Rattle.flush_log.specs.Slot.{Slot, greatest}
 
@@ -43,23 +43,23 @@ pub record Reached : Type 0 where
 
 -- where a text begins that is written from this tail on
 abbrev pub from_tail : Settings → ℕ → Reached
-from_tail s tail = record { segment = tail / s.seg_size; offset = behind_header (tail % s.seg_size); tail = tail }
+from_tail s tail = record { segment = tail / s.seg_size; offset = past_header (tail % s.seg_size); tail = tail }
 
 -- after an offset of a segment
 abbrev pub reached : Settings → ℕ → ℕ → Reached
 reached s n offset = record { segment = n; offset = offset; tail = position s n offset }
 
 -- after one more frame of `size` bytes
-abbrev pub behind_frame : Settings → Reached → ℕ → Reached
-behind_frame s r size =
+abbrev pub after_frame : Settings → Reached → ℕ → Reached
+after_frame s r size =
     if nat_le (r.offset + size) s.seg_size
     then reached s r.segment (r.offset + size)
     else reached s (suc r.segment) (segment_header_size + size)
 
 -- after all of these
-abbrev pub behind_frames : Settings → Reached → List Bytes → Reached
-behind_frames s r [] = r
-behind_frames s r (bytes ∷ frames) = behind_frames s (behind_frame s r (length bytes)) frames
+abbrev pub after_frames : Settings → Reached → List Bytes → Reached
+after_frames s r [] = r
+after_frames s r (bytes ∷ frames) = after_frames s (after_frame s r (length bytes)) frames
 
 -- the end lies in its segment, and the position after the last frame from the segment's start up to it
 pub record IsReached (s : Settings) (r : Reached) : Type 0 where

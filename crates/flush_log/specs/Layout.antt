@@ -17,8 +17,8 @@ pub record PlacedFrame : Type 0 where
   pub frame : Frame
 
 -- the offset after a frame
-abbrev pub offset_behind : PlacedFrame → ℕ
-offset_behind p = p.offset + length (bytes_of p.frame)
+abbrev pub offset_after : PlacedFrame → ℕ
+offset_after p = p.offset + length (bytes_of p.frame)
 
 -- each frame of a text, from an offset of segment n on: where it fits in there, else after the header of the next segment
 abbrev pub placed_from : Settings → ℕ → ℕ → List Frame → List PlacedFrame
@@ -29,22 +29,22 @@ placed_from s n offset (f ∷ fs) =
     else (record { segment = suc n; offset = segment_header_size; frame = f } ∷ placed_from s (suc n) (segment_header_size + length (bytes_of f)) fs)
 
 -- where a frame may stand in a segment that is used up to this offset: not where its header will be
-abbrev pub behind_header : ℕ → ℕ
-behind_header zero = segment_header_size
-behind_header (suc offset) = suc offset
+abbrev pub past_header : ℕ → ℕ
+past_header zero = segment_header_size
+past_header (suc offset) = suc offset
 
 -- the frames of a text that is written from the tail on
 abbrev pub placed : Settings → ℕ → List Frame → List PlacedFrame
-placed s tail text = placed_from s (tail / s.seg_size) (behind_header (tail % s.seg_size)) text
+placed s tail text = placed_from s (tail / s.seg_size) (past_header (tail % s.seg_size)) text
 
 -- the position after the last of these frames
-abbrev pub tail_behind : Settings → ℕ → List PlacedFrame → ℕ
-tail_behind s tail [] = tail
-tail_behind s tail (p ∷ ps) = tail_behind s (position s p.segment (offset_behind p)) ps
+abbrev pub end_of_frames : Settings → ℕ → List PlacedFrame → ℕ
+end_of_frames s tail [] = tail
+end_of_frames s tail (p ∷ ps) = end_of_frames s (position s p.segment (offset_after p)) ps
 
 -- the tail after a text
 abbrev pub tail_after : Settings → ℕ → List Frame → ℕ
-tail_after s tail text = tail_behind s tail (placed s tail text)
+tail_after s tail text = end_of_frames s tail (placed s tail text)
 
 -- the text's frames, as a reading of the log finds them
 abbrev pub found_in_text : Settings → ℕ → List Frame → List Found

@@ -45,7 +45,7 @@ read_then left (Some read) next = with_first read.0 (next read.1)
 abbrev pub read_frames : Format → (Bytes → Bool) → ℕ → Bytes → Result (List Frame) ℕ
 read_frames g is_end zero bytes = if is_end bytes then Ok [] else Err (length bytes)
 read_frames g is_end (suc most) bytes =
-    if is_end bytes then Ok [] else read_then (length bytes) (read_frame g bytes) (λ behind. read_frames g is_end most behind)
+    if is_end bytes then Ok [] else read_then (length bytes) (read_frame g bytes) (λ following. read_frames g is_end most following)
 
 -- frames as they are found in segment n
 abbrev pub all_in : ℕ → List Frame → List Found

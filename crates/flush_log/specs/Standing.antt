@@ -18,12 +18,12 @@ pub record AreFrames (g : Format) (n : ℕ) (fs : List Frame) (zeros : ℕ) (byt
 -- the bytes are that header, some frames up to an offset, and then neither a frame nor the end
 pub record IsBrokenAt (g : Format) (is_end : Bytes → Bool) (n offset : ℕ) (bytes : Bytes) : Type 0 where
   pub before : List Frame
-  pub behind : Bytes
+  pub following : Bytes
   pub within : AllByRecursion (λ f. is_frame g f ≡ true) before
-  pub spelled : bytes ≡ segment_header n ++ (flat_map bytes_of before ++ behind)
+  pub spelled : bytes ≡ segment_header n ++ (flat_map bytes_of before ++ following)
   pub place : offset ≡ segment_header_size + length (flat_map bytes_of before)
-  pub no_end : is_end behind ≡ false
-  pub no_frame : read_frame g behind ≡ None
+  pub no_end : is_end following ≡ false
+  pub no_frame : read_frame g following ≡ None
 
 -- the segments from the head up to n hold this, and segment n has the fault; it is the last one, which is read up to the tail, or has
 -- another one after it

@@ -4,12 +4,12 @@ ghost use Rattle.std.specs.Prelude.{◌≡◌, ◌⊎◌, ◌+◌, ◌≤◌, Li
 ghost use Rattle.keys.specs.Limits.{first_bad_field};
 ghost use Rattle.frame_codec.specs.Frame.{Frame};
 ghost use Rattle.flush_log.specs.Overlay.{overlay, AgreeAt};
-ghost use Rattle.flush_log.specs.Disk.{IsSettled, Torn, Kept, Same, Leaves, LeavesOnly, CountsFailure};
+ghost use Rattle.flush_log.specs.Disk.{IsSettled, Torn, Kept, Leaves, LeavesOnly, CountsFailure, OnlyRead};
 ghost use Rattle.flush_log.specs.Images.{frames_in, AreOfText, FitSegments};
 ghost use Rattle.flush_log.specs.Segments.{segments_begin, disk_size};
 ghost use Rattle.flush_log.specs.Layout.{spans, tail_after, with_spans};
 ghost use Rattle.flush_log.specs.Slot.{greatest, slot_place, slot_bytes, is_open as is_open_on};
-ghost use Rattle.flush_log.specs.Commit.{seen_after, AreWithin, close_gate, IsClosing, committed, IsBehindGate, IsBesideSpans, IsUncommitted};
+ghost use Rattle.flush_log.specs.Commit.{seen_after, AreWithin, close_gate, IsClosing, committed, LeavesGateClosed, IsBesideSpans, IsUncommitted};
 
 use crate::disk::{Disk, DiskFault};
 use crate::image::Image;
@@ -34,7 +34,7 @@ pub fn is_gate_open<D: Disk>(disk: &mut D, sequence: u64) -> Result<bool, DiskFa
     ensures failed { CountsFailure result (D.failed disk.old) (D.failed disk.new) }
     ensures gate { IsTrue (D.view disk.old).is_honest →
         IfOk result (λ is_open. is_open ≡ is_open_on sequence (D.view disk.old).seen) }
-    ensures same { IsTrue (D.view disk.old).is_honest → Same (D.view disk.old) (D.view disk.new) }
+    ensures same { OnlyRead (D.view disk.old) (D.view disk.new) }
 {
     let mut gate = [0];
     disk.read_at(slot_place(sequence), &mut gate)?;
@@ -87,7 +87,7 @@ pub fn write_slot<D: Disk>(disk: &mut D, slot: &Slot) -> Result<(), DiskFault>
     ensures crash { IsSettled (D.view disk.old) →
         is_open_on slot.now.sequence (D.view disk.old).seen ≡ false →
         LeavesOnly (D.view disk.old) (D.view disk.new)
-        (λ c. IsBehindGate slot.now.sequence (D.view disk.old).seen c
+        (λ c. LeavesGateClosed slot.now.sequence (D.view disk.old).seen c
         ⊎ (c ≡ overlay (D.view disk.old).seen
         (slot_place slot.now.sequence) (slot_bytes slot.now))) }
 {

@@ -5,10 +5,20 @@ ghost use Rattle.flush_log.specs.Overlay.{overlay};
 ghost use Rattle.flush_log.specs.Disk.{View, Lawful, IsSettled, Torn, Kept, Same, Leaves, CountsFailure};
 
 use keys::Fault;
+use std::error::Error;
+use std::fmt;
 
 /// A call of a disk failed.
 #[derive(Clone, Copy, Debug, PartialEq, Eq)]
 pub struct DiskFault;
+
+impl fmt::Display for DiskFault {
+    fn fmt<W: fmt::Write>(&self, f: &mut fmt::Formatter<W>) -> fmt::Result {
+        f.write_str("a call of the disk failed")
+    }
+}
+
+impl Error for DiskFault {}
 
 impl From<DiskFault> for Fault {
     ghost from_gives = { λ _ fault. fault ≡ Device };
@@ -56,8 +66,8 @@ pub trait Disk {
     fn failures(&self) -> u64
         ensures { result ≡ failed self.now };
 
-    /// Reads bytes from a place on, as many as the buffer has. No byte of the disk changes, and nothing of what a crash may
-    /// leave. After an `Err` the buffer may hold anything.
+    /// Reads bytes from a place on, as many as the buffer has. No byte of the disk changes, and
+    /// nothing of what a crash may leave. After an `Err` the buffer may hold anything.
     fn read_at(&mut self, at: u64, buf: &mut [u8]) -> Result<(), DiskFault>
         requires { at + length buf.old ≤ (view self.old).size }
         ensures kept { Kept (view self.old) (view self.new) }
@@ -66,8 +76,8 @@ pub trait Disk {
             OnOk result (buf.new ≡ take (length buf.old) (drop at (view self.old).seen)) }
         ensures same { IsTrue (view self.old).is_honest → Same (view self.old) (view self.new) };
 
-    /// Writes bytes from a place on. Until a sync a crash may leave any bytes in that range, and so does an `Err`; bytes
-    /// outside it stay.
+    /// Writes bytes from a place on. Until a sync a crash may leave any bytes in that range, and so
+    /// does an `Err`; bytes outside it stay.
     fn write_at(&mut self, at: u64, bytes: &[u8]) -> Result<(), DiskFault>
         requires { at + length bytes.now ≤ (view self.old).size }
         ensures kept { Kept (view self.old) (view self.new) }
@@ -79,8 +89,8 @@ pub trait Disk {
         ensures crash { IsTrue (view self.old).is_honest →
             Leaves (view self.old) (view self.new) (Torn at (length bytes.now)) };
 
-    /// Makes all that was written durable: a crash then leaves what a read gives. What a read gives stays, and an `Err`
-    /// settles nothing.
+    /// Makes all that was written durable: a crash then leaves what a read gives. What a read gives
+    /// stays, and an `Err` settles nothing.
     fn sync(&mut self) -> Result<(), DiskFault>
         ensures kept { Kept (view self.old) (view self.new) }
         ensures failed { CountsFailure result (failed self.old) (failed self.new) }
@@ -91,6 +101,7 @@ pub trait Disk {
         ensures crash { IsTrue (view self.old).is_honest →
             Leaves (view self.old) (view self.new) (λ before c. c ≡ before) };
 
-    // What a read gives has the disk's length and may stay, and the present counts among the moments.
+    // What a read gives has the disk's length and may stay, and the present counts among the
+    // moments.
     ghost lawful: { (disk : Self) → IsTrue (view disk).is_honest → Lawful (view disk) };
 }

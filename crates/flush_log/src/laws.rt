@@ -54,7 +54,7 @@ pub fn each_frame_stands_at_its_place()
 
 /// Two files that agree at the places of the log have the same log, whatever else they hold: after the tail, in segments that are
 /// free, and before all segments.
-pub fn what_is_behind_the_tail_is_hidden()
+pub fn what_is_after_the_tail_is_hidden()
     ensures hidden { (g : Format) (file other : Bytes) (head tail : ℕ) →
         let s = g.settings in first_bad_field s ≡ None → HasSegments s file →
         head * s.seg_size < tail → AgreeAt (IsInLog s head tail) file other →
@@ -64,8 +64,8 @@ pub fn what_is_behind_the_tail_is_hidden()
 {}
 
 /// What is written for a text that finds room lies in no place of the log, and within the segments.
-pub fn a_text_lies_behind_the_tail()
-    ensures behind { (g : Format) (head tail : ℕ) (text : List Frame) →
+pub fn a_text_lies_after_the_tail()
+    ensures following { (g : Format) (head tail : ℕ) (text : List Frame) →
         let s = g.settings in first_bad_field s ≡ None → head * s.seg_size < tail →
         AllByRecursion (λ f. is_frame g f ≡ true) text →
         last_segment s (tail_after s tail text) < head + s.segments →

@@ -3,7 +3,7 @@ ghost use Rattle.std.specs.Prelude.{◌≡◌, ◌+◌, ◌≤◌, List, None, S
 ghost use Rattle.keys.specs.Limits.{first_bad_field};
 ghost use Rattle.keys.specs.Sizes.{segment_header_size};
 ghost use Rattle.frame_codec.specs.Frame.{Frame};
-ghost use Rattle.flush_log.specs.Images.{frames_in, AreOfText, FitSegments, from_tail, behind_frame, behind_frames, IsReached, unless_spent, admitted};
+ghost use Rattle.flush_log.specs.Images.{frames_in, AreOfText, FitSegments, from_tail, after_frame, after_frames, IsReached, unless_spent, admitted};
 ghost use Rattle.flush_log.specs.AfterFlush.{is_spent};
 ghost use Rattle.flush_log.specs.Layout.{tail_after, is_full_for_flush};
 ghost use Rattle.flush_log.specs.Slot.{Slot, greatest};
@@ -48,17 +48,17 @@ fn from_tail(settings: &Settings, tail: u64) -> Reached
 }
 
 // The end after one more frame of `size` bytes.
-fn behind_frame(settings: &Settings, end: Reached, size: u64) -> Reached
+fn after_frame(settings: &Settings, end: Reached, size: u64) -> Reached
     requires checked { first_bad_field settings.now ≡ None }
     requires fits { segment_header_size + size ≤ settings.now.seg_size }
     requires end { IsReached settings.now end }
     requires room { end.tail ≤ greatest }
-    ensures { result ≡ behind_frame settings.now end size }
+    ensures { result ≡ after_frame settings.now end size }
 {
     let seg_size = u64::from(settings.seg_size);
-    let behind = end.offset + size;
-    let (segment, offset) = if behind <= seg_size {
-        (end.segment, behind)
+    let following = end.offset + size;
+    let (segment, offset) = if following <= seg_size {
+        (end.segment, following)
     } else {
         (end.segment + 1, SEGMENT_HEADER_SIZE + size)
     };
@@ -70,16 +70,16 @@ fn behind_frame(settings: &Settings, end: Reached, size: u64) -> Reached
 }
 
 // The end after the frames of an image, or nothing where it is above the greatest position.
-fn behind_image(settings: &Settings, end: Reached, image: &Image) -> Option<Reached>
+fn after_image(settings: &Settings, end: Reached, image: &Image) -> Option<Reached>
     requires checked { first_bad_field settings.now ≡ None }
     requires fits { FitSegments settings.now image.now }
     requires end { IsReached settings.now end }
     requires room { end.tail ≤ greatest }
-    ensures { result ≡ unless_spent (behind_frames settings.now end image.now) }
+    ensures { result ≡ unless_spent (after_frames settings.now end image.now) }
 {
     let mut reached = end;
     for at in 0..image.len() {
-        reached = behind_frame(settings, reached, image.frame(at).len() as u64);
+        reached = after_frame(settings, reached, image.frame(at).len() as u64);
         if reached.tail > GREATEST {
             return None;
         }
@@ -98,7 +98,7 @@ fn text_end(settings: &Settings, tail: u64, images: &[Image]) -> Option<u64>
 {
     let mut reached = from_tail(settings, tail);
     for image in images {
-        reached = behind_image(settings, reached, image)?;
+        reached = after_image(settings, reached, image)?;
     }
     Some(reached.tail)
 }

@@ -119,7 +119,7 @@ pub fn slot_in(bytes: &[u8]) -> Slot
 }
 
 // Whether the tail lies after the head segment's header. `head` is unchecked, and `head * seg_size` could overflow, so it divides.
-fn is_behind(settings: &Settings, head: u64, tail: u64) -> bool
+fn is_past_header(settings: &Settings, head: u64, tail: u64) -> bool
     requires { first_bad_field settings.now ≡ None }
     ensures { result ≡ nat_lt (head * settings.now.seg_size + segment_header_size) tail }
 {
@@ -139,7 +139,7 @@ fn is_tail(settings: &Settings, tail: u64) -> bool
 // Whether the last segment in use is one of those from the head on.
 fn is_in_segments(settings: &Settings, head: u64, tail: u64) -> bool
     requires checked { first_bad_field settings.now ≡ None }
-    requires behind { head * settings.now.seg_size + segment_header_size < tail }
+    requires following { head * settings.now.seg_size + segment_header_size < tail }
     requires tail { tail ≤ greatest }
     ensures { result ≡ nat_lt (last_segment settings.now tail) (head + settings.now.segments) }
 {
@@ -153,7 +153,7 @@ fn is_log(settings: &Settings, head: u64, tail: u64) -> bool
         && nat_le tail greatest && is_tail settings.now tail
         && nat_lt (last_segment settings.now tail) (head + settings.now.segments)) }
 {
-    is_behind(settings, head, tail)
+    is_past_header(settings, head, tail)
         && tail <= GREATEST
         && is_tail(settings, tail)
         && is_in_segments(settings, head, tail)

@@ -26,10 +26,10 @@ turn-spelled {V = V} entry se zero before bs es rest bytes h =
     let (none, same) = same_reading [] es bs rest h in
     (ap (λ (ds : List (List ℕ × V)). length ds) (sym none), same ∙ ap (λ (ds : List (List ℕ × V)). spell_in_turn entry before ds ++ rest) none)
 turn-spelled {V = V} entry se (suc n) before bs es rest bytes h =
-    let next : List ℕ × V → List ℕ → Option (List (List ℕ × V) × List ℕ) = λ e behind. read_as (λ ds. e ∷ ds) (read_in_turn entry e.0 n behind) in
+    let next : List ℕ × V → List ℕ → Option (List (List ℕ × V) × List ℕ) = λ e following. read_as (λ ds. e ∷ ds) (read_in_turn entry e.0 n following) in
     let on = goes_on (entry before) (se before) bs next es rest bytes h in
-    let (ds, read, is) = read_as-gave (λ ds. on.first ∷ ds) (read_in_turn entry on.first.0 n on.behind) es rest on.went in
-    let (long, stands) = turn-spelled entry se n on.first.0 on.behind ds rest on.bytes read in (
+    let (ds, read, is) = read_as-gave (λ ds. on.first ∷ ds) (read_in_turn entry on.first.0 n on.following) es rest on.went in
+    let (long, stands) = turn-spelled entry se n on.first.0 on.following ds rest on.bytes read in (
       ap (λ (cs : List (List ℕ × V)). length cs) (sym is) ∙ ap suc long,
       on.spelled
           ∙ ap (λ (cs : List ℕ). (entry before).spell on.first ++ cs) stands
@@ -72,7 +72,7 @@ module _ {V : Type 0} (cell : Codec V) where
   pub base-spelled : (spelling : Spelling) (low : List ℕ) → ReadsSpellings cell → ReadsSpellings (based spelling cell low)
   base-spelled spelling low sc bs es rest bytes h =
       let on = goes_on (number 2) (number-spelled 2) bs (read_base spelling cell low) es rest bytes h in
-      let (long, stands) = entries-spelled spelling low sc on.first on.behind es rest on.bytes on.went in
+      let (long, stands) = entries-spelled spelling low sc on.first on.following es rest on.bytes on.went in
       on.spelled
       ∙ ap (λ (cs : List ℕ). (number 2).spell on.first ++ cs) stands
       ∙ ap (λ (n : ℕ). (number 2).spell n ++ (spell_base spelling cell low es ++ rest)) (sym long)

@@ -34,11 +34,11 @@ absent-back c rest = refl
 
 pub both_by-spelled : {X Y : Type 0} (c : Codec X) (d : X → Codec Y) → ReadsSpellings c → ((x : X) → ReadsSpellings (d x)) → ReadsSpellings (both_by c d)
 both_by-spelled {X = X} {Y = Y} c d sc sd bs p rest bytes h =
-    let next : X → List ℕ → Option ((X × Y) × List ℕ) = λ x behind. read_as (λ (y : Y). (x, y)) ((d x).read behind) in
+    let next : X → List ℕ → Option ((X × Y) × List ℕ) = λ x following. read_as (λ (y : Y). (x, y)) ((d x).read following) in
     let on = goes_on c sc bs next p rest bytes h in
-    let (y, read, is) = read_as-gave (λ (y : Y). (on.first, y)) ((d on.first).read on.behind) p rest on.went in
+    let (y, read, is) = read_as-gave (λ (y : Y). (on.first, y)) ((d on.first).read on.following) p rest on.went in
     on.spelled
-    ∙ ap (λ (cs : List ℕ). c.spell on.first ++ cs) (sd on.first on.behind y rest on.bytes read)
+    ∙ ap (λ (cs : List ℕ). c.spell on.first ++ cs) (sd on.first on.following y rest on.bytes read)
     ∙ sym (append_assoc (c.spell on.first) ((d on.first).spell y) rest)
     ∙ ap (λ (q : X × Y). (both_by c d).spell q ++ rest) is
 
@@ -51,10 +51,10 @@ each-spelled {X = X} c sc zero bs xs rest bytes h =
     let (none, same) = same_reading [] xs bs rest h in
     (ap (λ (ys : List X). length ys) (sym none), same ∙ ap (λ (ys : List X). flat_map c.spell ys ++ rest) none)
 each-spelled {X = X} c sc (suc n) bs xs rest bytes h =
-    let next : X → List ℕ → Option (List X × List ℕ) = λ x behind. read_as (λ ys. x ∷ ys) (read_each c n behind) in
+    let next : X → List ℕ → Option (List X × List ℕ) = λ x following. read_as (λ ys. x ∷ ys) (read_each c n following) in
     let on = goes_on c sc bs next xs rest bytes h in
-    let (ys, read, is) = read_as-gave (λ ys. on.first ∷ ys) (read_each c n on.behind) xs rest on.went in
-    let (long, stands) = each-spelled c sc n on.behind ys rest on.bytes read in (
+    let (ys, read, is) = read_as-gave (λ ys. on.first ∷ ys) (read_each c n on.following) xs rest on.went in
+    let (long, stands) = each-spelled c sc n on.following ys rest on.bytes read in (
       ap (λ (zs : List X). length zs) (sym is) ∙ ap suc long,
       on.spelled
           ∙ ap (λ (cs : List ℕ). c.spell on.first ++ cs) stands
@@ -65,7 +65,7 @@ each-spelled {X = X} c sc (suc n) bs xs rest bytes h =
 pub listed-spelled : {X : Type 0} (c : Codec X) → ReadsSpellings c → ReadsSpellings (listed c)
 listed-spelled c sc bs xs rest bytes h =
     let on = goes_on (number 2) (number-spelled 2) bs (read_each c) xs rest bytes h in
-    let (long, stands) = each-spelled c sc on.first on.behind xs rest on.bytes on.went in
+    let (long, stands) = each-spelled c sc on.first on.following xs rest on.bytes on.went in
     on.spelled
     ∙ ap (λ (cs : List ℕ). (number 2).spell on.first ++ cs) stands
     ∙ ap (λ (n : ℕ). (number 2).spell n ++ (flat_map c.spell xs ++ rest)) (sym long)

@@ -40,11 +40,11 @@ module _ {X : Type 0} (ok : List X → Bool) where
     abbrev all_of : Option (X × List ℕ) → Option (List X × List ℕ)
     all_of o = read_on o (λ x rest. read_as (λ xs. x ∷ xs) (more x rest))
 
-    joined-next : (x : X) (behind : List ℕ) → here ≡ gave x behind → joined_with ok built (all_of here) ≡ joined_with ok (built ++ x ∷ []) (more x behind)
-    joined-next x behind h = ap (λ (o : Option (X × List ℕ)). joined_with ok built (all_of o)) h ∙ joined-one built x (more x behind)
+    joined-next : (x : X) (following : List ℕ) → here ≡ gave x following → joined_with ok built (all_of here) ≡ joined_with ok (built ++ x ∷ []) (more x following)
+    joined-next x following h = ap (λ (o : Option (X × List ℕ)). joined_with ok built (all_of o)) h ∙ joined-one built x (more x following)
 
-    joined-refused : (x : X) (behind : List ℕ) → here ≡ gave x behind → ((xs : List X) → ok (built ++ x ∷ xs) ≡ false) → joined_with ok built (all_of here) ≡ None
-    joined-refused x behind h bad = ap (λ (o : Option (X × List ℕ)). joined_with ok built (all_of o)) h ∙ joined-bad built x (more x behind) bad
+    joined-refused : (x : X) (following : List ℕ) → here ≡ gave x following → ((xs : List X) → ok (built ++ x ∷ xs) ≡ false) → joined_with ok built (all_of here) ≡ None
+    joined-refused x following h bad = ap (λ (o : Option (X × List ℕ)). joined_with ok built (all_of o)) h ∙ joined-bad built x (more x following) bad
 
     joined-unread : here ≡ None → joined_with ok built (all_of here) ≡ None
     joined-unread h = ap (λ (o : Option (X × List ℕ)). joined_with ok built (all_of o)) h
@@ -93,7 +93,7 @@ module _ {X : Type 0} (spelling : Spelling) (cell : Codec X) where
   -- as many are read as were asked for
   more_long : (n : ℕ) → ((before : List ℕ) (bs : List ℕ) (es : List (List ℕ × X)) (rest : List ℕ) → read_base spelling cell before n bs ≡ gave es rest → length es ≡ n)
       → (o : Option ((List ℕ × X) × List ℕ)) (es : List (List ℕ × X)) (rest : List ℕ)
-      → read_on o (λ e behind. read_as (λ ds. e ∷ ds) (read_base spelling cell e.0 n behind)) ≡ gave es rest → length es ≡ suc n
+      → read_on o (λ e following. read_as (λ ds. e ∷ ds) (read_base spelling cell e.0 n following)) ≡ gave es rest → length es ≡ suc n
   more_long n fewer None es rest h = absurd (nothing_read _ h)
   more_long n fewer (Some p) es rest h =
       let (ds, read, is) = read_as-gave (λ ds. p.0 ∷ ds) (read_base spelling cell p.0.0 n p.1) es rest h in
@@ -104,11 +104,11 @@ module _ {X : Type 0} (spelling : Spelling) (cell : Codec X) where
   base-long (suc n) before bs es rest h = more_long n (base-long n) ((next_entry spelling cell before).read bs) es rest (sym (base-more before n bs) ∙ h)
 
 -- two things that were read, one after the other
-pub both-passed : {X Y : Type 0} (a : X → Bool) (b : Y → Bool) (c : Codec X) (d : Codec Y) (bs : List ℕ) (x : X) (behind : List ℕ) (y : Y) (rest : List ℕ)
-    → read_where a (c.read bs) ≡ Some (x, behind) → read_where b (d.read behind) ≡ Some (y, rest) → read_where (λ (p : X × Y). a p.0 && b p.1) ((both c d).read bs) ≡ Some ((x, y), rest)
-both-passed {X = X} {Y = Y} a b c d bs x behind y rest h k =
-    let (first, passed) = read_where-gave a (c.read bs) x behind h in
-    let (second, passed_too) = read_where-gave b (d.read behind) y rest k in
+pub both-passed : {X Y : Type 0} (a : X → Bool) (b : Y → Bool) (c : Codec X) (d : Codec Y) (bs : List ℕ) (x : X) (following : List ℕ) (y : Y) (rest : List ℕ)
+    → read_where a (c.read bs) ≡ Some (x, following) → read_where b (d.read following) ≡ Some (y, rest) → read_where (λ (p : X × Y). a p.0 && b p.1) ((both c d).read bs) ≡ Some ((x, y), rest)
+both-passed {X = X} {Y = Y} a b c d bs x following y rest h k =
+    let (first, passed) = read_where-gave a (c.read bs) x following h in
+    let (second, passed_too) = read_where-gave b (d.read following) y rest k in
     let test : X × Y → Bool = λ p. a p.0 && b p.1 in
     ap (λ (o : Option (X × List ℕ)). read_where test (read_on o (λ v more. read_as (λ (w : Y). (v, w)) (d.read more)))) first
     ∙ ap (λ (o : Option (Y × List ℕ)). read_where test (read_as (λ (w : Y). (x, w)) o)) second
@@ -204,17 +204,17 @@ module _ {X : Type 0} (s : Settings) (short : X → Bool) (spelling : Spelling) 
       next_read = (next_entry spelling cell before).read now
 
       -- and after an entry
-      abbrev read_behind : ℕ → List ℕ × X → List ℕ → Option (List (List ℕ × X) × List ℕ)
-      read_behind n e rest = read_base spelling cell e.0 n rest
+      abbrev read_after : ℕ → List ℕ × X → List ℕ → Option (List (List ℕ × X) × List ℕ)
+      read_after n e rest = read_base spelling cell e.0 n rest
 
-      next_is : (n : ℕ) → up.left ≡ suc n → read_entries ≡ joined_with (are_entries s short) built (all_of (are_entries s short) built next_read (read_behind n) next_read)
+      next_is : (n : ℕ) → up.left ≡ suc n → read_entries ≡ joined_with (are_entries s short) built (all_of (are_entries s short) built next_read (read_after n) next_read)
       next_is n is = up.whole ∙ ap whole_of is ∙ ap (joined_with (are_entries s short) built) (base-more spelling cell before n now)
 
-      pub read-next : (k : List ℕ) (v : X) (behind : List ℕ) → at < count → read_where is_entry next_read ≡ Some ((k, v), behind)
-          → IsReadUpTo (at + 1) (built ++ (k, v) ∷ []) behind
-      read-next k v behind more h =
+      pub read-next : (k : List ℕ) (v : X) (following : List ℕ) → at < count → read_where is_entry next_read ≡ Some ((k, v), following)
+          → IsReadUpTo (at + 1) (built ++ (k, v) ∷ []) following
+      read-next k v following more h =
           let (n, is) = one_left more in
-          let (read, passed) = read_where-gave is_entry next_read (k, v) behind h in
+          let (read, passed) = read_where-gave is_entry next_read (k, v) following h in
           let joined = length-append built ((k, v) ∷ []) in
           let long = up.long in
           let all = up.all in
@@ -223,8 +223,8 @@ module _ {X : Type 0} (s : Settings) (short : X → Bool) (spelling : Spelling) 
             all = omega arith;
             whole =
                 next_is n is
-                ∙ joined-next (are_entries s short) built next_read (read_behind n) (k, v) behind read
-                ∙ ap (λ (j : List ℕ). joined_with (are_entries s short) (built ++ (k, v) ∷ []) (read_base spelling cell j n behind)) (sym (last_key-push low built k v));
+                ∙ joined-next (are_entries s short) built next_read (read_after n) (k, v) following read
+                ∙ ap (λ (j : List ℕ). joined_with (are_entries s short) (built ++ (k, v) ∷ []) (read_base spelling cell j n following)) (sym (last_key-push low built k v));
             tested = all-push is_entry built (k, v) up.tested passed;
             long = omega arith;
           }
@@ -232,14 +232,14 @@ module _ {X : Type 0} (s : Settings) (short : X → Bool) (spelling : Spelling) 
       pub read-ends : at < count → read_where is_entry next_read ≡ None → read_entries ≡ None
       read-ends more h =
           let (n, is) = one_left more in
-          next_is n is ∙ joined-ends (are_entries s short) built next_read (read_behind n) is_entry (λ e es. bad_entry built e es) h
+          next_is n is ∙ joined-ends (are_entries s short) built next_read (read_after n) is_entry (λ e es. bad_entry built e es) h
 
-      pub read-falls : (k : List ℕ) (v : X) (behind : List ℕ) → at < count → read_where is_entry next_read ≡ Some ((k, v), behind)
+      pub read-falls : (k : List ℕ) (v : X) (following : List ℕ) → at < count → read_where is_entry next_read ≡ Some ((k, v), following)
           → goes_last k built ≡ false → read_entries ≡ None
-      read-falls k v behind more h falls =
+      read-falls k v following more h falls =
           let (n, is) = one_left more in
-          let (read, passed) = read_where-gave is_entry next_read (k, v) behind h in
-          next_is n is ∙ joined-refused (are_entries s short) built next_read (read_behind n) (k, v) behind read (λ es. bad_order built k v es falls)
+          let (read, passed) = read_where-gave is_entry next_read (k, v) following h in
+          next_is n is ∙ joined-refused (are_entries s short) built next_read (read_after n) (k, v) following read (λ es. bad_order built k v es falls)
 
       pub read-done : count ≤ at → count ≤ s.fan → IsRising built → read_entries ≡ Some (built, now)
       read-done done few rising =

@@ -4,9 +4,9 @@ use Rattle.std.proofs.Math.Seq.{drop-append_seam}
 use Rattle.std.proofs.lemmas.Bool.{eqb-true}
 use Rattle.keys.specs.Cells.{AreBytes, read_on, read_as, read_where}
 use Rattle.frame_codec.specs.declared.format.Format.{Format}
-use Rattle.keys.proofs.CellLemmas.{gave, nothing_read, read_as-gave, read_where-gave, bytes_behind}
+use Rattle.keys.proofs.CellLemmas.{gave, nothing_read, read_as-gave, read_where-gave, bytes_after}
 use Rattle.frame_codec.specs.Frame.{Content, Frame, content_bytes, header, bytes_of, is_pid, is_allowed, is_frame}
-use Rattle.frame_codec.specs.Reading.{read_content, read_behind, read_frame}
+use Rattle.frame_codec.specs.Reading.{read_content, read_after, read_frame}
 use Rattle.frame_codec.proofs.EachLemmas.{not_true, fails_last}
 use Rattle.frame_codec.proofs.ReadLemmas.{header-spelled, content-spelled, frame-stands}
 
@@ -15,8 +15,8 @@ pub bytes-fit : (bs : List ℕ) → ((i : ℕ) → Fits w8 (get_or bs i 0)) → 
 bytes-fit [] h = tt
 bytes-fit (b ∷ bs) h = let here : Fits w8 b = h 0 in (omega arith, bytes-fit bs (λ i. h (suc i)))
 
-no_header : (g : Format) (o : Option (((ℕ × ℕ) × ℕ) × List ℕ)) → o ≡ None → read_where (is_frame g) (read_on o read_behind) ≡ None
-no_header g o h = ap (λ (o : Option (((ℕ × ℕ) × ℕ) × List ℕ)). read_where (is_frame g) (read_on o read_behind)) h
+no_header : (g : Format) (o : Option (((ℕ × ℕ) × ℕ) × List ℕ)) → o ≡ None → read_where (is_frame g) (read_on o read_after) ≡ None
+no_header g o h = ap (λ (o : Option (((ℕ × ℕ) × ℕ) × List ℕ)). read_where (is_frame g) (read_on o read_after)) h
 
 pub header-none : (g : Format) (bs : List ℕ) → header.read bs ≡ None → read_frame g bs ≡ None
 header-none g bs h = no_header g (header.read bs) h
@@ -35,7 +35,7 @@ module _ (g : Format) (bs : List ℕ) (kind len pid : ℕ) (body : List ℕ) (by
   read_allowed = read_as made (read_where (is_allowed g) (read_content kind body))
 
   whole : read_frame g bs ≡ read_where (is_frame g) (read_as made (read_where fits (read_content kind body)))
-  whole = ap (λ (o : Option (((ℕ × ℕ) × ℕ) × List ℕ)). read_where (is_frame g) (read_on o read_behind)) head
+  whole = ap (λ (o : Option (((ℕ × ℕ) × ℕ) × List ℕ)). read_where (is_frame g) (read_on o read_after)) head
 
   refused : (o : Option (Content × List ℕ)) → read_as made (read_where (is_allowed g) o) ≡ None → read_where (is_frame g) (read_as made (read_where fits o)) ≡ None
   refused None h = refl
@@ -62,8 +62,8 @@ module _ (g : Format) (bs : List ℕ) (kind len pid : ℕ) (body : List ℕ) (by
       let (c, found, is) = read_as-gave made (read_where (is_allowed g) (read_content kind body)) f rest h in
       let (read, allowed) = read_where-gave (is_allowed g) (read_content kind body) c rest found in
       let spelled = header-spelled bs ((kind, len), pid) body bytes head in
-      let behind : AreBytes body = bytes_behind (header.spell ((kind, len), pid)) body (rw spelled at bytes) in
-      let stands = (content-spelled kind body behind c rest read).1 in
+      let following : AreBytes body = bytes_after (header.spell ((kind, len), pid)) body (rw spelled at bytes) in
+      let stands = (content-spelled kind body following c rest read).1 in
       record { content = c; is = is; read = read; allowed = allowed; long = ap length stands ∙ length-append (content_bytes c) rest }
 
   module _ (f : Frame) (rest : List ℕ) (found : IsContent f rest) where
@@ -95,8 +95,8 @@ frame-left g bs f rest bytes h =
     let stands = (frame-stands g bs f rest bytes h).bytes in
     let long : length bs ≡ length (bytes_of f) + length rest = ap length stands ∙ length-append (bytes_of f) rest in
     let size : length bs - length rest ≡ length (bytes_of f) = omega arith in
-    let behind : drop (length bs - length rest) bs ≡ rest = ap (λ (n : ℕ). drop n bs) size ∙ ap (drop (length (bytes_of f))) stands ∙ drop-append_seam (bytes_of f) rest in
-    record { found = h ∙ ap (gave f) (sym behind); size = size; within = omega arith }
+    let following : drop (length bs - length rest) bs ≡ rest = ap (λ (n : ℕ). drop n bs) size ∙ ap (drop (length (bytes_of f))) stands ∙ drop-append_seam (bytes_of f) rest in
+    record { found = h ∙ ap (gave f) (sym following); size = size; within = omega arith }
 
 -- the same from what the code knows when it answers
 pub frame-answered : (g : Format) (bs : List ℕ) (kind len pid : ℕ) (body : List ℕ) (bytes : AreBytes bs) (head : header.read bs ≡ Some (((kind, len), pid), body))

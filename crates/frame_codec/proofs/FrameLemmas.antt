@@ -14,7 +14,7 @@ use Rattle.frame_codec.specs.declared.format.Spelling.TheVariants.{Whole, Shared
 use Rattle.frame_codec.specs.Codecs.{both, listed, spell_flag, flagged}
 use Rattle.frame_codec.specs.Frame.{Content, Frame, based, full, delta, kind_of, content_bytes, header, bytes_of, is_pid, is_key, are_entries, is_full, is_run, is_content, is_readable, is_allowed, is_frame}
 use Rattle.frame_codec.specs.Frame.Content.{FullLeaf, DeltaLeaf, FullIndex, DeltaIndex, Free}
-use Rattle.frame_codec.specs.Reading.{read_content, read_behind, read_any, read_frame}
+use Rattle.frame_codec.specs.Reading.{read_content, read_after, read_any, read_frame}
 use Rattle.frame_codec.proofs.BaseLemmas.{base-back, base-shorter}
 use Rattle.frame_codec.proofs.CodecLemmas.{both-back, both_by-back, listed-back, flagged-back, absent-back}
 
@@ -187,7 +187,7 @@ module _ (g : Format) (limits : AreInLimits g.settings) where
       let n = 8 + length (content_bytes c) in
       let short = content-short g.settings limits c content in
       ap read_any (append_assoc (header.spell ((kind_of c, n), f.pid)) (content_bytes c) rest)
-      ∙ ap (λ o. read_on o read_behind) (header-back (kind_of c) n f.pid (small_kind c) (omega arith) (pid-is f.pid pid) (content_bytes c ++ rest))
+      ∙ ap (λ o. read_on o read_after) (header-back (kind_of c) n f.pid (small_kind c) (omega arith) (pid-is f.pid pid) (content_bytes c ++ rest))
       ∙ ap (λ o. read_as (λ d. record { pid = f.pid; content = d }) (read_where (λ d. n == 8 + length (content_bytes d)) o)) (content-back g.settings limits c content rest)
       ∙ rw (eq-eqb n n refl) refl
 

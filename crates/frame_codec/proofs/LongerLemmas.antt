@@ -10,7 +10,7 @@ use Rattle.keys.proofs.CellLemmas.{gave, same_reading, nothing_read}
 use Rattle.frame_codec.specs.Codecs.{both, both_by, read_each, listed, flagged, counted_short, shared_and_rest, common, rejoined, sharing, read_in_turn}
 use Rattle.frame_codec.specs.Frame.{read_base, based, full, delta, content_bytes, header, is_frame}
 use Rattle.frame_codec.specs.Frame.Content.{FullLeaf, DeltaLeaf, FullIndex, DeltaIndex, Free}
-use Rattle.frame_codec.specs.Reading.{read_content, read_behind, read_any, read_frame}
+use Rattle.frame_codec.specs.Reading.{read_content, read_after, read_any, read_frame}
 
 -- a reader that reads the same where more bytes follow
 abbrev pub IsLocal : {X : Type 0} → (List ℕ → Option (X × List ℕ)) → Type 0
@@ -125,25 +125,25 @@ content-local kind =
 header-local : IsLocal header.read
 header-local = both-local (both (number 1) (number 4)) pid_cell (both-local (number 1) (number 4) (number-local 1) (number-local 4)) (number-local 8)
 
-behind-local : (h : (ℕ × ℕ) × ℕ) → IsLocal (read_behind h)
-behind-local h =
+following-local : (h : (ℕ × ℕ) × ℕ) → IsLocal (read_after h)
+following-local h =
     as-local (λ c. record { pid = h.1; content = c }) (λ bs. read_where (λ c. h.0.1 == 8 + length (content_bytes c)) (read_content h.0.0 bs))
     (where-local (λ c. h.0.1 == 8 + length (content_bytes c)) (read_content h.0.0) (content-local h.0.0))
 
 pub frame-longer : (g : Format) → IsLocal (read_frame g)
-frame-longer g = where-local (is_frame g) read_any (on-local header.read read_behind header-local behind-local)
+frame-longer g = where-local (is_frame g) read_any (on-local header.read read_after header-local following-local)
 
 -- ---- no frame begins with a byte 0
 
 pub nothing_at_all : (g : Format) → read_frame g [] ≡ None
 nothing_at_all g = refl
 
-zero_and_length : (g : Format) (n : ℕ) (o : Option (ℕ × List ℕ)) → read_where (is_frame g) (read_on (read_as (λ pid. ((0, n), pid)) o) read_behind) ≡ None
+zero_and_length : (g : Format) (n : ℕ) (o : Option (ℕ × List ℕ)) → read_where (is_frame g) (read_on (read_as (λ pid. ((0, n), pid)) o) read_after) ≡ None
 zero_and_length g n None = refl
 zero_and_length g n (Some p) = refl
 
 zero_kind : (g : Format) (o : Option (ℕ × List ℕ)) →
-    read_where (is_frame g) (read_on (read_on (read_as (λ n. (0, n)) o) (λ h rest. read_as (λ pid. (h, pid)) (read_number 8 rest))) read_behind) ≡ None
+    read_where (is_frame g) (read_on (read_on (read_as (λ n. (0, n)) o) (λ h rest. read_as (λ pid. (h, pid)) (read_number 8 rest))) read_after) ≡ None
 zero_kind g None = refl
 zero_kind g (Some p) = zero_and_length g p.0 (read_number 8 p.1)
 

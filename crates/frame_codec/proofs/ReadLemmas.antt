@@ -8,7 +8,7 @@ use Rattle.keys.proofs.CellLemmas.{gave, same_reading, nothing_read, read_as-gav
 use Rattle.frame_codec.specs.Codecs.{both, flagged}
 use Rattle.frame_codec.specs.Frame.{Content, Frame, full, delta, kind_of, content_bytes, header, bytes_of, is_frame}
 use Rattle.frame_codec.specs.Frame.Content.{FullLeaf, DeltaLeaf, FullIndex, DeltaIndex, Free}
-use Rattle.frame_codec.specs.Reading.{BeginsWithFrame, read_content, read_behind, read_any, read_frame}
+use Rattle.frame_codec.specs.Reading.{BeginsWithFrame, read_content, read_after, read_any, read_frame}
 use Rattle.keys.specs.Limits.{first_bad_field}
 use Rattle.frame_codec.proofs.FrameLemmas.{in_limits, frame-back}
 use Rattle.frame_codec.proofs.BaseLemmas.{full-spelled}
@@ -60,15 +60,15 @@ module _ (kind : ℕ) (bs : List ℕ) (bytes : AreBytes bs) (c : Content) (rest 
 
 any-spelled : (bs : List ℕ) (f : Frame) (rest : List ℕ) → AreBytes bs → read_any bs ≡ gave f rest → bs ≡ bytes_of f ++ rest
 any-spelled bs f rest bytes h =
-    let on = goes_on header header-spelled bs read_behind f rest bytes h in
+    let on = goes_on header header-spelled bs read_after f rest bytes h in
     let kind : ℕ = on.first.0.0 in
     let len : ℕ = on.first.0.1 in
     let pid : ℕ = on.first.1 in
     let fits : Content → Bool = λ c. len == 8 + length (content_bytes c) in
     let made : Content → Frame = λ c. record { pid = pid; content = c } in
-    let (c, read, is) = read_as-gave made (read_where fits (read_content kind on.behind)) f rest on.went in
-    let (content, fit) = read_where-gave fits (read_content kind on.behind) c rest read in
-    let (same_kind, stands) = content-spelled kind on.behind on.bytes c rest content in
+    let (c, read, is) = read_as-gave made (read_where fits (read_content kind on.following)) f rest on.went in
+    let (content, fit) = read_where-gave fits (read_content kind on.following) c rest read in
+    let (same_kind, stands) = content-spelled kind on.following on.bytes c rest content in
     let long : len ≡ 8 + length (content_bytes c) = eqb-true len (8 + length (content_bytes c)) fit in
     on.spelled
     ∙ ap (λ (cs : List ℕ). header.spell ((kind, len), pid) ++ cs) stands

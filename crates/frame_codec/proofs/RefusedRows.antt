@@ -16,8 +16,8 @@ kind_9 = (refl, refl)
 length_one_more : IsRefused "02 0000000f 0000000000000000 0001 0001 61 00"
 length_one_more = (refl, refl)
 
-byte_behind_within_length : IsRefused "01 0000000d 0000000000000000 0000 0000 00"
-byte_behind_within_length = (refl, refl)
+byte_after_within_length : IsRefused "01 0000000d 0000000000000000 0000 0000 00"
+byte_after_within_length = (refl, refl)
 
 length_one_less : IsRefused "01 0000000b 0000000000000000 0000 0000"
 length_one_less = (refl, refl)

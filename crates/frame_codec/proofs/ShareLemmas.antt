@@ -66,16 +66,16 @@ pub parts-elsewhere : (n : ℕ) (j rest : List ℕ) → n ≤ length j → (comm
 parts-elsewhere n j rest h more e = let goes = common-cut n j rest h in more (omega arith)
 
 -- all that stands after n bytes
-pub all_behind : (n : ℕ) (j : List ℕ) → take (length j - n) (drop n j) ≡ drop n j
-all_behind n j = let left = length-drop n j in take_all (length j - n) (drop n j) (omega arith)
+pub all_after : (n : ℕ) (j : List ℕ) → take (length j - n) (drop n j) ≡ drop n j
+all_after n j = let left = length-drop n j in take_all (length j - n) (drop n j) (omega arith)
 
 -- how a key compares to one that begins with n bytes of it, by what is after these
 pub parted-by : (o : Option Ordering) (n : ℕ) (j left rest : List ℕ) → n ≤ length j → left ≡ drop n j
     → MatchOption o (common left rest ≡ 0 → ⊥) (λ r. (common left rest ≡ 0) × (r ≡ order left rest))
     → MatchOption o (common j (rejoined j (n, rest)) ≡ n → ⊥) (λ r. (common j (rejoined j (n, rest)) ≡ n) × (r ≡ order j (rejoined j (n, rest))))
-parted-by None n j left rest h e told = parts-elsewhere n j rest h (rw e at told)
-parted-by (Some r) n j left rest h e told =
-    let (apart, is) = (rw e at told) in
+parted-by None n j left rest h e reported = parts-elsewhere n j rest h (rw e at reported)
+parted-by (Some r) n j left rest h e reported =
+    let (apart, is) = (rw e at reported) in
     (parts-there n j rest h apart, is ∙ sym (order-cut n j rest h))
 
 -- ---- what is spelled of a key
@@ -89,7 +89,7 @@ short-back bs few rest =
 short-spelled : ReadsSpellings counted_short
 short-spelled bs xs rest bytes h =
     let on = goes_on (number 1) (number-spelled 1) bs read_bytes xs rest bytes h in
-    let (long, is) = read_bytes-gave on.first on.behind xs rest on.went in
+    let (long, is) = read_bytes-gave on.first on.following xs rest on.went in
     on.spelled
     ∙ ap (λ (ys : List ℕ). (number 1).spell on.first ++ ys) is
     ∙ ap (λ (n : ℕ). (number 1).spell n ++ (xs ++ rest)) (sym long)
@@ -128,9 +128,9 @@ sharing-spelled before bs k rest bytes h =
     ∙ ap (λ (n : ℕ). pair.spell (n, drop n k) ++ rest) (sym shares)
 
 -- what is read of a key, once its parts are read
-pub sharing-read : (before bs : List ℕ) (n : ℕ) (behind rest end : List ℕ) → (number 1).read bs ≡ gave n behind → counted_short.read behind ≡ gave rest end
+pub sharing-read : (before bs : List ℕ) (n : ℕ) (following rest end : List ℕ) → (number 1).read bs ≡ gave n following → counted_short.read following ≡ gave rest end
     → common before (rejoined before (n, rest)) ≡ n → (sharing before).read bs ≡ gave (rejoined before (n, rest)) end
-sharing-read before bs n behind rest end first second exact =
+sharing-read before bs n following rest end first second exact =
     let pair : ℕ → List ℕ → ℕ × List ℕ = λ m cs. (m, cs) in
     ap (λ (o : Option (ℕ × List ℕ)). read_as (rejoined before) (read_where (is_exact before) (read_on o (λ m more. read_as (pair m) (counted_short.read more))))) first
     ∙ ap (λ (o : Option (List ℕ × List ℕ)). read_as (rejoined before) (read_where (is_exact before) (read_as (pair n) o))) second
@@ -148,13 +148,13 @@ pub shared-within : (before : List ℕ) (n : ℕ) (rest : List ℕ) → common b
 shared-within before n rest e = let most = (common-le before (rejoined before (n, rest))).0 in omega arith
 
 -- a key that is too long is none
-pub sharing-refused : (s : Settings) (before bs : List ℕ) (n : ℕ) (behind rest end : List ℕ) → (number 1).read bs ≡ gave n behind → counted_short.read behind ≡ gave rest end
+pub sharing-refused : (s : Settings) (before bs : List ℕ) (n : ℕ) (following rest end : List ℕ) → (number 1).read bs ≡ gave n following → counted_short.read following ≡ gave rest end
     → common before (rejoined before (n, rest)) ≡ n → s.max_key < n + length rest → read_where (is_key s) ((sharing before).read bs) ≡ None
-sharing-refused s before bs n behind rest end first second exact long =
+sharing-refused s before bs n following rest end first second exact long =
     let k : List ℕ = rejoined before (n, rest) in
     let all = rejoined-long before n rest (shared-within before n rest exact) in
     let over : is_key s k ≡ false = not_true (is_key s k) (λ h. let few = leb-true (length k) s.max_key h in absurd (omega arith)) in
-    ap (read_where (is_key s)) (sharing-read before bs n behind rest end first second exact) ∙ rw over refl
+    ap (read_where (is_key s)) (sharing-read before bs n following rest end first second exact) ∙ rw over refl
 
 -- in how many bytes
 pub sharing-size : (before k : List ℕ) → length ((sharing before).spell k) ≡ 2 + length (drop (common before k) k)

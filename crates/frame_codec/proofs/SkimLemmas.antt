@@ -61,11 +61,11 @@ module _ {X : Type 0} (s : Settings) (short : X → Bool) (spelling : Spelling) 
     pub passed-ends : at < count → next_within key now ≡ None → read_entries s short spelling cell low count start ≡ None
     passed-ends more h = read-ends s short spelling cell low count start at up.built now up.upto more (here None h)
 
-    module _ (k : List ℕ) (v : X) (behind : List ℕ) (more : at < count) (read : next_within key now ≡ Some ((k, v), behind)) where
-      pub passed-next : (next : Option (List ℕ)) → next ≡ Some k → is_above last k ≡ true → IsPassedUpTo (at + 1) next k behind
+    module _ (k : List ℕ) (v : X) (following : List ℕ) (more : at < count) (read : next_within key now ≡ Some ((k, v), following)) where
+      pub passed-next : (next : Option (List ℕ)) → next ≡ Some k → is_above last k ≡ true → IsPassedUpTo (at + 1) next k following
       passed-next next same above = record {
         built = up.built ++ (k, v) ∷ [];
-        upto = read-next s short spelling cell low count start at up.built now up.upto k v behind more (here (Some ((k, v), behind)) read);
+        upto = read-next s short spelling cell low count start at up.built now up.upto k v following more (here (Some ((k, v), following)) read);
         rising = rising-push up.built k v up.rising (up.above k ∙ above);
         above = λ j. last-pushed up.built k v j ∙ ap (λ (l : Option (List ℕ)). is_above l j) (sym same);
         before = last_key-push low up.built k v;
@@ -73,7 +73,7 @@ module _ {X : Type 0} (s : Settings) (short : X → Bool) (spelling : Spelling) 
 
       pub passed-falls : is_above last k ≡ false → read_entries s short spelling cell low count start ≡ None
       passed-falls falls =
-          read-falls s short spelling cell low count start at up.built now up.upto k v behind more (here (Some ((k, v), behind)) read) (up.above k ∙ falls)
+          read-falls s short spelling cell low count start at up.built now up.upto k v following more (here (Some ((k, v), following)) read) (up.above k ∙ falls)
 
     pub passed-done : count ≤ at → count ≤ s.fan → (es : List (List ℕ × X)) × (read_entries s short spelling cell low count start ≡ Some (es, now))
     passed-done done few = (up.built, read-done s short spelling cell low count start at up.built now up.upto done few up.rising)
@@ -86,10 +86,10 @@ module _ {X : Type 0} (s : Settings) (short : X → Bool) (spelling : Spelling) 
         omega (arith, few)
 
     -- and each goes after those that were read before it
-    pub whole-rises : (at : ℕ) (built : List (List ℕ × X)) (now : List ℕ) → IsReadUpTo s short spelling cell low count start at built now → (k : List ℕ) (v : X) (behind : List ℕ)
-        → at < count → next_within (last_key low built) now ≡ Some ((k, v), behind) → goes_last k built ≡ true
-    whole-rises at built now up k v behind more h =
-        not_false (goes_last k built) (λ falls. nothing_read (es, end) (sym (read-falls s short spelling cell low count start at built now up k v behind more h falls) ∙ whole))
+    pub whole-rises : (at : ℕ) (built : List (List ℕ × X)) (now : List ℕ) → IsReadUpTo s short spelling cell low count start at built now → (k : List ℕ) (v : X) (following : List ℕ)
+        → at < count → next_within (last_key low built) now ≡ Some ((k, v), following) → goes_last k built ≡ true
+    whole-rises at built now up k v following more h =
+        not_false (goes_last k built) (λ falls. nothing_read (es, end) (sym (read-falls s short spelling cell low count start at built now up k v following more h falls) ∙ whole))
 
 -- ---- entries whose keys share beginnings
 
@@ -124,8 +124,8 @@ shared-taken s short cell low count start bytes = ap (read_where (are_entries s 
 
 -- ---- a base under its low key
 
-module _ {V : Type 0} (s : Settings) (short : V → Bool) (spelling : Spelling) (cell : Codec V) (bs low behind : List ℕ) (count : ℕ) (rest : List ℕ)
-    (key : read_where (is_key s) (counted.read bs) ≡ Some (low, behind)) (counts : read_number 2 behind ≡ Some (count, rest)) where
+module _ {V : Type 0} (s : Settings) (short : V → Bool) (spelling : Spelling) (cell : Codec V) (bs low following : List ℕ) (count : ℕ) (rest : List ℕ)
+    (key : read_where (is_key s) (counted.read bs) ≡ Some (low, following)) (counts : read_number 2 following ≡ Some (count, rest)) where
   -- what is read of a low key and a base
   abbrev pub read_full : Option ((List ℕ × List (List ℕ × V)) × List ℕ)
   read_full = read_where (λ p. is_full s short p.0 p.1) ((full spelling cell).read bs)
@@ -137,11 +137,11 @@ module _ {V : Type 0} (s : Settings) (short : V → Bool) (spelling : Spelling) 
   full-of_entries : read_full ≡ of_entries (read_base spelling cell low count rest)
   full-of_entries =
       ap (λ (o : Option (List ℕ × List ℕ)). read_where (λ p. is_full s short p.0 p.1) (read_on o (λ x more. read_as (λ es. (x, es)) (read_on (read_number 2 more) (read_base spelling cell x)))))
-      (read_where-gave (is_key s) (counted.read bs) low behind key).0
+      (read_where-gave (is_key s) (counted.read bs) low following key).0
       ∙ ap (λ (o : Option (ℕ × List ℕ)). of_entries (read_on o (read_base spelling cell low))) counts
 
   key_passes : is_key s low ≡ true
-  key_passes = (read_where-gave (is_key s) (counted.read bs) low behind key).1
+  key_passes = (read_where-gave (is_key s) (counted.read bs) low following key).1
 
   pub full-none : read_entries s short spelling cell low count rest ≡ None → read_full ≡ None
   full-none h = full-of_entries ∙ of (read_base spelling cell low count rest) h
@@ -190,8 +190,8 @@ module _ (g : Format) (bs : List ℕ) (number len pid : ℕ) (body : List ℕ) (
     pub skim-found : IsContent g bs number len pid body bytes head (with_content pid c) rest
     skim-found = content-found g bs number len pid body bytes head (with_content pid c) rest allowed
 
-    pub skim-told : (size : ℕ) → (len ≡ 8 + (length body - length rest)) × (size ≡ length bs - length rest) → is_pid pid ≡ true → IsReadOf g bs (with_content pid c) size
-    skim-told size exact word = rw exact.1 (frame-answered g bs number len pid body bytes head (with_content pid c) rest allowed exact.0 word).0
+    pub skim-reported : (size : ℕ) → (len ≡ 8 + (length body - length rest)) × (size ≡ length bs - length rest) → is_pid pid ≡ true → IsReadOf g bs (with_content pid c) size
+    skim-reported size exact word = rw exact.1 (frame-answered g bs number len pid body bytes head (with_content pid c) rest allowed exact.0 word).0
 
 -- the bytes of a frame that was read stand at the front
 pub frame-taken : (g : Format) (bs : List ℕ) (f : Frame) (n : ℕ) → AreBytes bs → IsReadOf g bs f n → take n bs ≡ bytes_of f

@@ -9,7 +9,7 @@ use Rattle.std.specs.Map.{keys_of}
 use Rattle.keys.specs.Order.{IsRising}
 use Rattle.keys.specs.declared.settings.Settings.{Settings}
 use Rattle.delta_chain.specs.Layers.{AllRise, IsInOrder}
-use Rattle.index_page.specs.Page.{Page, bare, as_changes, said_under, named}
+use Rattle.index_page.specs.Page.{Page, bare, as_changes, changes_over, named}
 use Rattle.index_page.specs.Range.{is_within, AreFrom}
 use Rattle.index_page.specs.Rules.{do_rise, is_short_value, IsShortValue, of_cell, OfCell, IsShortChange, IsRunSized, Fits}
 use Rattle.index_page.proofs.ListLemmas.{all_apart, all_weaker}
@@ -92,11 +92,11 @@ module _ {V : Type 0} (s : Settings) (test : V → Bool) (Is : V → Type 0) (d 
   -- ---- the base and the runs of a page
 
   runs_pass : (runs : List (List (List ℕ × Option V))) (base : List (List ℕ × V)) → AllRise runs base → AllByRecursion (IsRunSized s) runs
-      → AllByRecursion (IsShortChange s Is) (said_under runs base)
+      → AllByRecursion (IsShortChange s Is) (changes_over runs base)
       → AllByRecursion (λ run. is_run s test run ≡ true) runs × IsRising base × AllByRecursion (IsShortChange s Is) (as_changes base)
   runs_pass [] base rising sized short = (tt, rising, short)
   runs_pass (run ∷ runs) base rising sized short =
-      let (of_run, of_rest) = all_apart (IsShortChange s Is) run (said_under runs base) short in
+      let (of_run, of_rest) = all_apart (IsShortChange s Is) run (changes_over runs base) short in
       let (rest, base_rises, base_short) = runs_pass runs base rising.1 sized.1 of_rest in
       (((decides-run run).1 (sized.0, rising.0, of_run), rest), base_rises, base_short)
 

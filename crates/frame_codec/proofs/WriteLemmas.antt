@@ -89,10 +89,10 @@ module _ {X : Type 0} where
       → list_all test (drop at es) ≡ list_all test es → list_all test es ≡ true
   tested-done test es at l h = sym h ∙ ap (list_all test) (drop_all at es l)
 
-base-behind : {X : Type 0} (spelling : Spelling) (cell : Codec X) (before k : List ℕ) (v : X) (es : List (List ℕ × X))
+base-following : {X : Type 0} (spelling : Spelling) (cell : Codec X) (before k : List ℕ) (v : X) (es : List (List ℕ × X))
     → spell_base spelling cell before ((k, v) ∷ es) ≡ ((keyed spelling before).spell k ++ cell.spell v) ++ spell_base spelling cell k es
-base-behind Whole cell before k v es = refl
-base-behind Shared cell before k v es = refl
+base-following Whole cell before k v es = refl
+base-following Shared cell before k v es = refl
 
 base-at_end : {X : Type 0} (spelling : Spelling) (cell : Codec X) (before : List ℕ) → spell_base spelling cell before [] ≡ []
 base-at_end Whole cell before = refl
@@ -103,14 +103,14 @@ module _ {X : Type 0} (spelling : Spelling) (cell : Codec X) (low : List ℕ) (e
   abbrev pub spelled_from : List ℕ → ℕ → List ℕ
   spelled_from before at = spell_base spelling cell before (drop at es)
 
-  spelled-behind : (before : List ℕ) (at : ℕ) (k : List ℕ) (v : X) → slice_get (keys_of es) at ≡ Some k → slice_get (values_of es) at ≡ Some v
+  spelled-following : (before : List ℕ) (at : ℕ) (k : List ℕ) (v : X) → slice_get (keys_of es) at ≡ Some k → slice_get (values_of es) at ≡ Some v
       → spelled_from before at ≡ ((keyed spelling before).spell k ++ cell.spell v) ++ spelled_from k (at + 1)
-  spelled-behind before at k v i j = rw add-one (ap (spell_base spelling cell before) (drop_pair es at k v i j) ∙ base-behind spelling cell before k v (drop (suc at) es))
+  spelled-following before at k v i j = rw add-one (ap (spell_base spelling cell before) (drop_pair es at k v i j) ∙ base-following spelling cell before k v (drop (suc at) es))
 
-  pub length-behind : (before : List ℕ) (at : ℕ) (k : List ℕ) (v : X) → slice_get (keys_of es) at ≡ Some k → slice_get (values_of es) at ≡ Some v
+  pub length-following : (before : List ℕ) (at : ℕ) (k : List ℕ) (v : X) → slice_get (keys_of es) at ≡ Some k → slice_get (values_of es) at ≡ Some v
       → length (spelled_from before at) ≡ length ((keyed spelling before).spell k) + length (cell.spell v) + length (spelled_from k (at + 1))
-  length-behind before at k v i j =
-      let all : length (spelled_from before at) ≡ length (((keyed spelling before).spell k ++ cell.spell v) ++ spelled_from k (at + 1)) = ap length (spelled-behind before at k v i j) in
+  length-following before at k v i j =
+      let all : length (spelled_from before at) ≡ length (((keyed spelling before).spell k ++ cell.spell v) ++ spelled_from k (at + 1)) = ap length (spelled-following before at k v i j) in
       let outer = length-append ((keyed spelling before).spell k ++ cell.spell v) (spelled_from k (at + 1)) in
       let inner = length-append ((keyed spelling before).spell k) (cell.spell v) in
       omega arith
@@ -131,13 +131,13 @@ module _ {X : Type 0} (spelling : Spelling) (cell : Codec X) (low : List ℕ) (e
           → slice_get (keys_of es) at ≡ Some k → slice_get (values_of es) at ≡ Some v → HasRoomFor now (length ((keyed spelling before).spell k) + length (cell.spell v))
       upto-room k v room i j =
           let left = part-room (spelled_from low 0) (spelled_from before at) old now room up in
-          let behind = length-behind before at k v i j in
+          let following = length-following before at k v i j in
           omega arith
 
       pub upto-next : (mid new : Vec ℕ Z) (k : List ℕ) (v : X) → slice_get (keys_of es) at ≡ Some k → slice_get (values_of es) at ≡ Some v
           → IsAppended now mid ((keyed spelling before).spell k) → IsAppended mid new (cell.spell v) → IsUpTo k (at + 1) old new
       upto-next mid new k v i j key value =
-          part-next (spelled_from low 0) (spelled_from before at) ((keyed spelling before).spell k ++ cell.spell v) (spelled_from k (at + 1)) old now new (spelled-behind before at k v i j) up
+          part-next (spelled_from low 0) (spelled_from before at) ((keyed spelling before).spell k ++ cell.spell v) (spelled_from k (at + 1)) old now new (spelled-following before at k v i j) up
           (appended-on now mid new ((keyed spelling before).spell k) (cell.spell v) key value)
 
       pub upto-done : length es ≤ at → IsAppended old now (spell_base spelling cell low es)
@@ -172,8 +172,8 @@ sharing-appended before k old one two new shared count rest few e r c first seco
 -- what stands after the pid was appended to what stands before it
 pub framed-whole : {Z : Type 0} (old mid new : Vec ℕ Z) (kind pid n : ℕ) (bytes : List ℕ) → n ≡ length bytes
     → IsAppended old mid (header.spell ((kind, pid_size + n), pid)) → IsAppended mid new bytes → new.items ≡ old.items ++ framed kind pid bytes
-framed-whole old mid new kind pid n bytes e head behind =
-    (appended-on old mid new (header.spell ((kind, pid_size + n), pid)) bytes head behind).items
+framed-whole old mid new kind pid n bytes e head following =
+    (appended-on old mid new (header.spell ((kind, pid_size + n), pid)) bytes head following).items
     ∙ ap (λ (m : ℕ). old.items ++ (header.spell ((kind, pid_size + m), pid) ++ bytes)) e
 
 module _ {Z : Type 0} {V : Type 0} (cell : Codec V) (kind pid n m : ℕ) (old mid b new : Vec ℕ Z) where
@@ -186,15 +186,15 @@ module _ {Z : Type 0} {V : Type 0} (cell : Codec V) (kind pid n m : ℕ) (old mi
   full-framed spelling a low base e f head key count entries =
       let all : IsAppended a new ((based spelling cell low).spell base) =
       appended-on a b new ((number 2).spell (length base)) (spell_base spelling cell low base) (counts a base f count) entries in
-      let behind : IsAppended mid new ((full spelling cell).spell (low, base)) = appended-on mid a new (counted.spell low) ((based spelling cell low).spell base) key all in
+      let following : IsAppended mid new ((full spelling cell).spell (low, base)) = appended-on mid a new (counted.spell low) ((based spelling cell low).spell base) key all in
       let joined = length-append (counted.spell low) ((based spelling cell low).spell base) in
       let long = length-counted low in
-      framed-whole old mid new kind pid n ((full spelling cell).spell (low, base)) (omega arith) head behind
+      framed-whole old mid new kind pid n ((full spelling cell).spell (low, base)) (omega arith) head following
 
   pub delta-framed : (run : List (List ℕ × Option V)) → n ≡ 2 + length (flat_map (both counted (flagged cell)).spell run) → m ≡ length run
       → IsAppended old mid (header.spell ((kind, pid_size + n), pid)) → IsAppended mid b ((number 2).spell m)
       → IsAppended b new (flat_map (both counted (flagged cell)).spell run) → new.items ≡ old.items ++ framed kind pid ((delta cell).spell run)
   delta-framed run e f head count changes =
-      let behind : IsAppended mid new ((delta cell).spell run) =
+      let following : IsAppended mid new ((delta cell).spell run) =
       appended-on mid b new ((number 2).spell (length run)) (flat_map (both counted (flagged cell)).spell run) (counts mid run f count) changes in
-      framed-whole old mid new kind pid n ((delta cell).spell run) (omega arith) head behind
+      framed-whole old mid new kind pid n ((delta cell).spell run) (omega arith) head following

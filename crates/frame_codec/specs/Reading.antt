@@ -25,14 +25,14 @@ read_content kind bs =
     (if kind == 7 then read_as (λ p. FullIndex Shared p.0 p.1) ((full Shared pid_cell).read bs) else None))))))
 
 -- the frame whose header this is, where its content has just the length that the header gives
-abbrev pub read_behind : (ℕ × ℕ) × ℕ → Bytes → Option (Frame × Bytes)
-read_behind h bs =
+abbrev pub read_after : (ℕ × ℕ) × ℕ → Bytes → Option (Frame × Bytes)
+read_after h bs =
     read_as (λ c. record { pid = h.1; content = c })
     (read_where (λ c. h.0.1 == pid_size + length (content_bytes c)) (read_content h.0.0 bs))
 
 -- the frame that the bytes begin with, whatever the format
 abbrev pub read_any : Bytes → Option (Frame × Bytes)
-read_any bs = read_on (header.read bs) read_behind
+read_any bs = read_on (header.read bs) read_after
 
 -- the frame of this format that the bytes begin with, and the bytes after it
 abbrev pub read_frame : Format → Bytes → Option (Frame × Bytes)

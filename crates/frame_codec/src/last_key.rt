@@ -118,13 +118,13 @@ impl LastKey {
             (λ p. (read ≡ Some (self.new, p.1.now)) × (p.0 ≡ is_lt (order self.old self.new))) }
     {
         let (shared, bytes) = read_byte(bytes)?;
-        let (rest, behind) = read_short(bytes)?;
+        let (rest, following) = read_short(bytes)?;
         let shared = shared as usize;
         let stands = parted(self.as_bytes(), shared, rest)?;
         if shared + rest.len() > settings.max_key as usize {
             return None;
         }
         self.go_on(shared, rest);
-        Some((stands.is_lt(), behind))
+        Some((stands.is_lt(), following))
     }
 }

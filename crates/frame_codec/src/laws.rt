@@ -24,10 +24,11 @@ pub fn a_cell_is_read_back()
     ensures pid { (p : ℕ) → p < 2 ^ 64 → IsReadBack pid_cell p }
     ensures values { ReadsSpellings value_cell }
     ensures pids { ReadsSpellings pid_cell }
-    ensures one_value { (v w : Bytes) (behind other : Bytes) → length v < 65536 → length w < 65536 →
-        value_cell.spell v ++ behind ≡ value_cell.spell w ++ other → (v ≡ w) × (behind ≡ other) }
-    ensures one_pid { (p q : ℕ) (behind other : Bytes) → p < 2 ^ 64 → q < 2 ^ 64 →
-        pid_cell.spell p ++ behind ≡ pid_cell.spell q ++ other → (p ≡ q) × (behind ≡ other) }
+    ensures one_value { (v w following other : Bytes) → length v < 65536 → length w < 65536 →
+        value_cell.spell v ++ following ≡ value_cell.spell w ++ other →
+        (v ≡ w) × (following ≡ other) }
+    ensures one_pid { (p q : ℕ) (following other : Bytes) → p < 2 ^ 64 → q < 2 ^ 64 →
+        pid_cell.spell p ++ following ≡ pid_cell.spell q ++ other → (p ≡ q) × (following ≡ other) }
 {}
 
 /// A frame is read back from its bytes, whatever follows them.
@@ -37,7 +38,7 @@ pub fn a_frame_is_read_back()
 {}
 
 /// A frame that is read of bytes is read of them too where more bytes follow.
-pub fn what_is_read_needs_no_byte_behind_it()
+pub fn what_is_read_needs_no_byte_after_it()
     ensures { (g : Format) (bytes : Bytes) (f : Frame) (rest more : Bytes) →
         read_frame g bytes ≡ Some (f, rest) →
         read_frame g (bytes ++ more) ≡ Some (f, rest ++ more) }
@@ -45,9 +46,9 @@ pub fn what_is_read_needs_no_byte_behind_it()
 
 /// Two frames whose bytes begin alike are the same frame: no spelling begins another.
 pub fn a_frame_has_one_spelling()
-    ensures { (g : Format) (e f : Frame) (behind other : Bytes) →
+    ensures { (g : Format) (e f : Frame) (following other : Bytes) →
         first_bad_field g.settings ≡ None → is_frame g e ≡ true → is_frame g f ≡ true →
-        bytes_of e ++ behind ≡ bytes_of f ++ other → (e ≡ f) × (behind ≡ other) }
+        bytes_of e ++ following ≡ bytes_of f ++ other → (e ≡ f) × (following ≡ other) }
 {}
 
 /// The reader finds a frame just where bytes begin with one, and it finds that frame.

@@ -108,7 +108,7 @@ pub(crate) fn read_key<'a>(bytes: &'a [u8], settings: &Settings) -> Option<(&'a 
 
 /// How many bytes the frame takes whose content stands before the rest, if the length in its header is right.
 pub(crate) fn frame_size(bytes: &[u8], len: u32, content: &[u8], rest: &[u8]) -> Option<usize>
-    requires behind { length rest.now ≤ length content.now }
+    requires following { length rest.now ≤ length content.now }
     requires within { length content.now ≤ length bytes.now }
     ensures { MatchOption result (len ≢ pid_size + (length content.now - length rest.now))
         (λ size. (len ≡ pid_size + (length content.now - length rest.now))

@@ -83,11 +83,11 @@ fn read_whole<'a, V: FrameCell>(
     let mut builder = BaseBuilder::with_capacity(alloc, count, key_bytes)?;
     let mut rest = bytes;
     for _at in 0..count {
-        let Some((key, cell, behind)) = read_entry(alloc, rest, settings)? else {
+        let Some((key, cell, following)) = read_entry(alloc, rest, settings)? else {
             return Ok(None);
         };
         builder.push_next(key, cell)?;
-        rest = behind;
+        rest = following;
     }
     let base = builder.finish();
     let _in_order = base.len();
@@ -135,11 +135,11 @@ fn read_shared<'a, V: FrameCell>(
     let mut last = LastKey::of_low(low);
     let mut rest = bytes;
     for _at in 0..count {
-        let Some((cell, behind)) = read_next_entry(alloc, &mut last, rest, settings)? else {
+        let Some((cell, following)) = read_next_entry(alloc, &mut last, rest, settings)? else {
             return Ok(None);
         };
         builder.push_next(last.as_bytes(), cell)?;
-        rest = behind;
+        rest = following;
     }
     let base = builder.finish();
     let _in_order = base.len();
@@ -183,11 +183,11 @@ fn read_run<'a, V: FrameCell>(
     let mut run = Run::with_capacity(alloc, count)?;
     let mut rest = bytes;
     for _at in 0..count {
-        let Some((key, change, behind)) = read_change(alloc, rest, settings)? else {
+        let Some((key, change, following)) = read_change(alloc, rest, settings)? else {
             return Ok(None);
         };
         match run.push(Key::from_bytes(alloc, key)?, change) {
-            Ok(()) => rest = behind,
+            Ok(()) => rest = following,
             Err(PushError::OutOfOrder) => return Ok(None),
             Err(PushError::NoMemory) => return Err(AllocError),
         }

@@ -90,13 +90,13 @@ pub(crate) fn skim_entries<'a, C: Spelled>(
     let mut last: Option<&[u8]> = None;
     let mut rest = bytes;
     for _at in 0..count {
-        let (key, behind) = skip_entry::<C>(rest, settings)?;
+        let (key, following) = skip_entry::<C>(rest, settings)?;
         if !is_above(last, key) {
             return None;
         }
         sum = sum.saturating_add(key.len());
         last = Some(key);
-        rest = behind;
+        rest = following;
     }
     Some((sum, rest))
 }
@@ -138,12 +138,12 @@ pub(crate) fn skim_shared<'a, C: Spelled>(
     let mut last = LastKey::of_low(low);
     let mut rest = bytes;
     for at in 0..count {
-        let (rises, behind) = skip_shared::<C>(&mut last, rest, settings)?;
+        let (rises, following) = skip_shared::<C>(&mut last, rest, settings)?;
         if at > 0 && !rises {
             return None;
         }
         sum = sum.saturating_add(last.len());
-        rest = behind;
+        rest = following;
     }
     Some((sum, rest))
 }

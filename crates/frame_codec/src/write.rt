@@ -155,10 +155,10 @@ fn begin_frame(kind: u8, pid: Pid, len: usize, out: &mut Vec<u8>) -> Result<(), 
     ensures err { OnErr result (out.new.items ≡ out.old.items) }
     ensures word { OnOk result (is_pid pid ≡ true) }
 {
-    let behind = 8 + len;
-    out.reserve(5 + behind)?;
+    let following = 8 + len;
+    out.reserve(5 + following)?;
     append_byte(out, kind);
-    append_u32(out, behind as u32);
+    append_u32(out, following as u32);
     append_pid(out, pid);
     Ok(())
 }

@@ -56,8 +56,8 @@ within low end k h b = rw (h, b) refl
 pub not_within_below : (low : List ℕ) (end : Option (List ℕ)) (k : List ℕ) → is_below k low ≡ true → is_within low end k ≡ false
 not_within_below low end k h = rw h refl
 
-pub not_within_behind : (low : List ℕ) (end : Option (List ℕ)) (k : List ℕ) → is_before end k ≡ false → is_within low end k ≡ false
-not_within_behind low end k h = and_false (not (is_below k low)) (is_before end k) h
+pub not_within_after : (low : List ℕ) (end : Option (List ℕ)) (k : List ℕ) → is_before end k ≡ false → is_within low end k ≡ false
+not_within_after low end k h = and_false (not (is_below k low)) (is_before end k) h
 
 -- ---- how many of the places have the key in their range
 
@@ -78,18 +78,18 @@ none_below k (e ∷ es) end a =
     count-children k e es end
     ∙ counted (is_within e.0 (next_key es end) k) false (count_by (is_place_for k) (children es end)) 0 (not_within_below e.0 (next_key es end) k (less_is_below k e.0 a.0)) (none_below k es end a.1)
 
-next_behind : (k : List ℕ) (e : List ℕ × ℕ) (es : List (List ℕ × ℕ)) (end : Option (List ℕ)) → is_before end k ≡ false → AreBefore end (keys_of (e ∷ es)) → (is_before (next_key es end) k ≡ false) × AreBefore end (keys_of es)
-next_behind k e es None h a = absurd (cc)
-next_behind k e [] (Some hi) h a = (h, tt)
-next_behind k e (f ∷ es) (Some hi) h a = (not_below_lower f.0 k (less_through f.0 k hi (a.1).0 h), a.1)
+next_after : (k : List ℕ) (e : List ℕ × ℕ) (es : List (List ℕ × ℕ)) (end : Option (List ℕ)) → is_before end k ≡ false → AreBefore end (keys_of (e ∷ es)) → (is_before (next_key es end) k ≡ false) × AreBefore end (keys_of es)
+next_after k e es None h a = absurd (cc)
+next_after k e [] (Some hi) h a = (h, tt)
+next_after k e (f ∷ es) (Some hi) h a = (not_below_lower f.0 k (less_through f.0 k hi (a.1).0 h), a.1)
 
 -- none, where the key isn't before the end, and all low keys are
-pub none_behind : (k : List ℕ) (es : List (List ℕ × ℕ)) (end : Option (List ℕ)) → is_before end k ≡ false → AreBefore end (keys_of es) → count_by (is_place_for k) (children es end) ≡ 0
-none_behind k [] end h a = refl
-none_behind k (e ∷ es) end h a =
-    let r = next_behind k e es end h a in
+pub none_after : (k : List ℕ) (es : List (List ℕ × ℕ)) (end : Option (List ℕ)) → is_before end k ≡ false → AreBefore end (keys_of es) → count_by (is_place_for k) (children es end) ≡ 0
+none_after k [] end h a = refl
+none_after k (e ∷ es) end h a =
+    let r = next_after k e es end h a in
     count-children k e es end
-    ∙ counted (is_within e.0 (next_key es end) k) false (count_by (is_place_for k) (children es end)) 0 (not_within_behind e.0 (next_key es end) k r.0) (none_behind k es end h r.1)
+    ∙ counted (is_within e.0 (next_key es end) k) false (count_by (is_place_for k) (children es end)) 0 (not_within_after e.0 (next_key es end) k r.0) (none_after k es end h r.1)
 
 -- the first range has the key, or a later one has
 next_by : (c : Bool) (k : List ℕ) (e f : List ℕ × ℕ) (es : List (List ℕ × ℕ)) (end : Option (List ℕ)) → is_below k f.0 ≡ c → IsRising (f ∷ es) → is_below k e.0 ≡ false
@@ -101,7 +101,7 @@ next_by true k e f es end c r h ih =
     ∙ counted (is_within e.0 (Some f.0) k) true (count_by (is_place_for k) (children (f ∷ es) end)) 0 (within e.0 (Some f.0) k h c) (none_below k (f ∷ es) end (l, below_all k f.0 (keys_of es) l r.0))
 next_by false k e f es end c r h ih =
     count-children k e (f ∷ es) end
-    ∙ counted (is_within e.0 (Some f.0) k) false (count_by (is_place_for k) (children (f ∷ es) end)) 1 (not_within_behind e.0 (Some f.0) k c) (ih c)
+    ∙ counted (is_within e.0 (Some f.0) k) false (count_by (is_place_for k) (children (f ∷ es) end)) 1 (not_within_after e.0 (Some f.0) k c) (ih c)
 
 -- just one, where the key isn't below the first low key, and is before the end
 one_by : (k : List ℕ) (e : List ℕ × ℕ) (es : List (List ℕ × ℕ)) (end : Option (List ℕ)) → IsRising (e ∷ es) → is_below k e.0 ≡ false → is_before end k ≡ true → count_by (is_place_for k) (children (e ∷ es) end) ≡ 1
@@ -120,11 +120,11 @@ one_child (e ∷ es) end k r l h = let p = within_parts e.0 end k h in one_by k 
 none_by : (b : Bool) (e : List ℕ × ℕ) (es : List (List ℕ × ℕ)) (end : Option (List ℕ)) (k : List ℕ) → is_below k e.0 ≡ b → IsRising (e ∷ es) → AreBefore end (keys_of (e ∷ es)) → is_within e.0 end k ≡ false → count_by (is_place_for k) (children (e ∷ es) end) ≡ 0
 unfolding IsStrictlySortedBy
 none_by true e es end k c r a h = let l = below_is_less k e.0 c in none_below k (e ∷ es) end (l, below_all k e.0 (keys_of es) l r.0)
-none_by false e es end k c r a h = none_behind k (e ∷ es) end (behind (is_before end k) refl) a
+none_by false e es end k c r a h = none_after k (e ∷ es) end (following (is_before end k) refl) a
   where
-    behind : (b : Bool) → is_before end k ≡ b → is_before end k ≡ false
-    behind true b = absurd (let w = within e.0 end k c b in cc)
-    behind false b = b
+    following : (b : Bool) → is_before end k ≡ b → is_before end k ≡ false
+    following true b = absurd (let w = within e.0 end k c b in cc)
+    following false b = b
 
 -- and any other key in none
 pub no_child : (es : List (List ℕ × ℕ)) (end : Option (List ℕ)) (k : List ℕ) → IsRising es → AreBefore end (keys_of es) → is_within (first_key es) end k ≡ false → count_by (is_place_for k) (children es end) ≡ 0

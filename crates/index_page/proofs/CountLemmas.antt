@@ -41,15 +41,15 @@ module _ (k : Bytes) where
 
   -- ---- what stands there
 
-  behind : (e : Bytes × ℕ) (es : Names) (n : ℕ) → AreParted (keys_of (e ∷ es)) (suc n) → AreParted (keys_of es) n
-  behind e es n h = record {
+  following : (e : Bytes × ℕ) (es : Names) (n : ℕ) → AreParted (keys_of (e ∷ es)) (suc n) → AreParted (keys_of es) n
+  following e es n h = record {
     within = let w = h.within in omega (arith, w);
     before = λ m i l p. h.before (suc m) i (omega (arith, l)) p;
     from = λ m i l p. h.from (suc m) i (omega (arith, l)) p;
   }
 
-  all_behind : (e : Bytes × ℕ) (es : Names) → AreParted (keys_of (e ∷ es)) zero → AreParted (keys_of es) zero
-  all_behind e es h = record {
+  all_after : (e : Bytes × ℕ) (es : Names) → AreParted (keys_of (e ∷ es)) zero → AreParted (keys_of es) zero
+  all_after e es h = record {
     within = omega arith;
     before = λ m i l p. absurd (omega (arith, l));
     from = λ m i l p. h.from (suc m) i (omega arith) p;
@@ -64,21 +64,21 @@ module _ (k : Bytes) where
   above-next : (es : Names) (n : ℕ) → AreParted (keys_of es) n → above k es ≡ slice_get es n
   above-next [] n h = refl
   above-next (e ∷ es) zero h = rw (first_is_above e es h) refl
-  above-next (e ∷ es) (suc n) h = rw (first_is_up_to e es n h) (above-next es n (behind e es n h))
+  above-next (e ∷ es) (suc n) h = rw (first_is_up_to e es n h) (above-next es n (following e es n h))
 
   floor-none : (es : Names) → AreParted (keys_of es) zero → floor k es ≡ None
   floor-none [] h = refl
-  floor-none (e ∷ es) h = rw (floor-none es (all_behind e es h), first_is_above e es h) refl
+  floor-none (e ∷ es) h = rw (floor-none es (all_after e es h), first_is_above e es h) refl
 
   floor-last : (es : Names) (n at : ℕ) → AreParted (keys_of es) n → at + 1 ≡ n → floor k es ≡ slice_get es at
   floor-last es zero at h l = absurd (omega (arith, l))
   floor-last [] (suc n) at h l = absurd (let w = h.within in omega (arith, w))
   floor-last (e ∷ es) (suc n) zero h l =
       let none : n ≡ zero = omega (arith, l) in
-      let rest : AreParted (keys_of es) zero = rw none at (behind e es n h) in
+      let rest : AreParted (keys_of es) zero = rw none at (following e es n h) in
       rw (floor-none es rest, first_is_up_to e es n h) refl
   floor-last (e ∷ es) (suc n) (suc at) h l =
-      let rest = behind e es n h in
+      let rest = following e es n h in
       let w = rest.within in
       let last : floor k es ≡ slice_get es at = floor-last es n at rest (omega (arith, l)) in
       let there : slice_get es at ≡ Some (slice_index_or es at e) = slice_get-get_or es at e (omega (arith, w, l, length-map es (λ (f : Bytes × ℕ). f.0))) in

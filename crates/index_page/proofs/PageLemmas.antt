@@ -8,7 +8,7 @@ use Rattle.keys.specs.Order.{order}
 use Rattle.keys.specs.OrderedMap.{with_pair, without}
 use Rattle.keys.proofs.MapLemmas.{same_key}
 use Rattle.delta_chain.specs.Layers.{with_change, with_run, entries_under}
-use Rattle.index_page.specs.Page.{Page, entries, as_changes, said_under, said, named}
+use Rattle.index_page.specs.Page.{Page, entries, as_changes, changes_over, said, named}
 use Rattle.index_page.proofs.ListLemmas.{all_apart, all_keyed, all_keys}
 
 module _ {V : Type 0} (P : List ℕ × V → Type 0) where
@@ -52,10 +52,10 @@ module _ {V : Type 0} (P : List ℕ × Option V → Type 0) where
   all-with_run m [] a b = a
   all-with_run m (c ∷ cs) a b = all-with_run (with_change m c.0 c.1) cs (all-with_change m c.0 c.1 b.0 a) b.1
 
-  all_entries_under : (runs : List (List (List ℕ × Option V))) (base : List (List ℕ × V)) → AllByRecursion P (said_under runs base) → AllPairs (entries_under runs base)
+  all_entries_under : (runs : List (List (List ℕ × Option V))) (base : List (List ℕ × V)) → AllByRecursion P (changes_over runs base) → AllPairs (entries_under runs base)
   all_entries_under [] base a = all_from_changes base a
   all_entries_under (run ∷ runs) base a =
-      let b = all_apart P run (said_under runs base) a in
+      let b = all_apart P run (changes_over runs base) a in
       all-with_run (entries_under runs base) run (all_entries_under runs base b.1) b.0
 
   -- what holds of all that a page says holds of its entries

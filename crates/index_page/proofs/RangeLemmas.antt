@@ -164,7 +164,7 @@ module _ {X : Type 0} where
   value_at-in_front k (x ∷ xs) ys a = ap (λ (t : Option X). cond (is_eq (order k x.0)) (Some x.1) t) (value_at-in_front k xs ys a)
 
   -- at a key from low on, where the first list lies below low: what the second has
-  pub value_at-behind : (low k : List ℕ) (xs ys : List (List ℕ × X)) → is_below k low ≡ false → AreBelow low (keys_of xs) → value_at k (xs ++ ys) ≡ value_at k ys
-  value_at-behind low k [] ys h a = refl
-  value_at-behind low k (x ∷ xs) ys h a =
-      rw (flipped_less x.0 k (less_through x.0 k low a.0 h)) (value_at-behind low k xs ys h a.1)
+  pub value_at-following : (low k : List ℕ) (xs ys : List (List ℕ × X)) → is_below k low ≡ false → AreBelow low (keys_of xs) → value_at k (xs ++ ys) ≡ value_at k ys
+  value_at-following low k [] ys h a = refl
+  value_at-following low k (x ∷ xs) ys h a =
+      rw (flipped_less x.0 k (less_through x.0 k low a.0 h)) (value_at-following low k xs ys h a.1)

@@ -16,7 +16,7 @@ use Rattle.index_page.specs.Page.{first_key}
 use Rattle.index_page.specs.Range.{is_below, is_before, is_within}
 use Rattle.index_page.specs.Children.{Place, children, is_place_for, child_with_end, is_between, meets, children_within, entries_between, left_from}
 use Rattle.index_page.proofs.RangeLemmas.{below_is_less, less_is_below, low_through, not_below_lower, not_below_itself}
-use Rattle.index_page.proofs.ChildLemmas.{next_key, place_of, children-cons, within, within_parts, not_within_below, not_within_behind, no_floor, some_floor}
+use Rattle.index_page.proofs.ChildLemmas.{next_key, place_of, children-cons, within, within_parts, not_within_below, not_within_after, no_floor, some_floor}
 
 -- ---- what holds of all keys holds of the one that is found
 
@@ -62,7 +62,7 @@ module _ (k : List ℕ) where
       let all : PlacesFor (e ∷ f ∷ es) end ≡ place_of e (Some f.0) ∷ [] = places_by true e (f ∷ es) end (within e.0 (Some f.0) k h b) ∙ ap (λ (x : List Place). place_of e (Some f.0) ∷ x) none in
       rw (all, b) refl
   place_next false e f es end b r h ih =
-      let all : PlacesFor (e ∷ f ∷ es) end ≡ PlacesFor (f ∷ es) end = places_by false e (f ∷ es) end (not_within_behind e.0 (Some f.0) k b) in
+      let all : PlacesFor (e ∷ f ∷ es) end ≡ PlacesFor (f ∷ es) end = places_by false e (f ∷ es) end (not_within_after e.0 (Some f.0) k b) in
       rw (all, b) (ih b)
 
   place_from : (e : List ℕ × ℕ) (es : List (List ℕ × ℕ)) (end : Option (List ℕ)) → IsRising (e ∷ es) → is_below k e.0 ≡ false → is_before end k ≡ true → IsThePlace (e ∷ es) end
@@ -87,43 +87,43 @@ module _ (k : List ℕ) where
   floor_rest None b e g n h = absurd (n refl)
   floor_rest (Some f) b e g n h = h
 
-  told_next : (b : Bool) (e f g : List ℕ × ℕ) (es : List (List ℕ × ℕ)) → is_below k f.0 ≡ b → IsRising (f ∷ es) → is_below k e.0 ≡ false → floor k (e ∷ f ∷ es) ≡ Some g
+  reported_next : (b : Bool) (e f g : List ℕ × ℕ) (es : List (List ℕ × ℕ)) → is_below k f.0 ≡ b → IsRising (f ∷ es) → is_below k e.0 ≡ false → floor k (e ∷ f ∷ es) ≡ Some g
       → (is_below k f.0 ≡ false → floor k (f ∷ es) ≡ Some g → (g.1, key_of (above k (f ∷ es))) ≡ With (f ∷ es)) → (g.1, key_of (above k (e ∷ f ∷ es))) ≡ With (e ∷ f ∷ es)
   unfolding IsStrictlySortedBy
-  told_next true e f g es b r h p ih =
+  reported_next true e f g es b r h p ih =
       let l = below_is_less k f.0 b in
       let same : e ≡ g = floor_here e g (f ∷ es) (no_floor k (f ∷ es) (l, below_all k f.0 (keys_of es) l r.0)) h p in
       rw (← same, h, b) refl
-  told_next false e f g es b r h p ih =
+  reported_next false e f g es b r h p ih =
       let rest : floor k (f ∷ es) ≡ Some g = floor_rest (floor k (f ∷ es)) (is_below k e.0) e g (some_floor k f es b) p in
       let s = ih b rest in
       rw (h, b) (rw b at s)
 
-  told_from : (e g : List ℕ × ℕ) (es : List (List ℕ × ℕ)) → IsRising (e ∷ es) → is_below k e.0 ≡ false → floor k (e ∷ es) ≡ Some g → (g.1, key_of (above k (e ∷ es))) ≡ With (e ∷ es)
+  reported_from : (e g : List ℕ × ℕ) (es : List (List ℕ × ℕ)) → IsRising (e ∷ es) → is_below k e.0 ≡ false → floor k (e ∷ es) ≡ Some g → (g.1, key_of (above k (e ∷ es))) ≡ With (e ∷ es)
   unfolding IsStrictlySortedBy
-  told_from e g [] r h p = let same : e ≡ g = floor_here e g [] refl h p in rw (← same, h) refl
-  told_from e g (f ∷ es) r h p = told_next (is_below k f.0) e f g es refl r.1 h p (λ c q. told_from f g es r.1 c q)
+  reported_from e g [] r h p = let same : e ≡ g = floor_here e g [] refl h p in rw (← same, h) refl
+  reported_from e g (f ∷ es) r h p = reported_next (is_below k f.0) e f g es refl r.1 h p (λ c q. reported_from f g es r.1 c q)
 
-  pub child_is_told : (es : List (List ℕ × ℕ)) (g : List ℕ × ℕ) (o : Option (List ℕ)) → IsRising es → (0 < length es) × (is_below k (first_key es) ≡ false) → Some g ≡ floor k es → o ≡ key_of (above k es) → (g.1, o) ≡ With es
-  child_is_told [] g o r h p q = let none = h.0 in absurd (omega arith)
-  child_is_told (e ∷ es) g o r h p q = rw q (told_from e g es r h.1 (sym p))
+  pub child_is_known : (es : List (List ℕ × ℕ)) (g : List ℕ × ℕ) (o : Option (List ℕ)) → IsRising es → (0 < length es) × (is_below k (first_key es) ≡ false) → Some g ≡ floor k es → o ≡ key_of (above k es) → (g.1, o) ≡ With es
+  child_is_known [] g o r h p q = let none = h.0 in absurd (omega arith)
+  child_is_known (e ∷ es) g o r h p q = rw q (reported_from e g es r h.1 (sym p))
 
   -- and these two are the pid and the end of the one place for the key
   pub place_at : (es : List (List ℕ × ℕ)) (g : List ℕ × ℕ) (o : Option (List ℕ)) → IsRising es → (0 < length es) × (is_below k (first_key es) ≡ false) → Some g ≡ floor k es → o ≡ key_of (above k es)
       → (end : Option (List ℕ)) → is_before end k ≡ true → map {B = ℕ × Option (List ℕ)} (λ (at : Place). (at.pid, at.end)) (filter (is_place_for k) (children es end)) ≡ (g.1, option_or o end) ∷ []
   place_at es g o r h p q end b =
       place_of_child es r h end b
-      ∙ ap {B = List (ℕ × Option (List ℕ))} (λ (x : ℕ × Option (List ℕ)). (x.0, option_or x.1 end) ∷ []) (sym (child_is_told es g o r h p q))
+      ∙ ap {B = List (ℕ × Option (List ℕ))} (λ (x : ℕ × Option (List ℕ)). (x.0, option_or x.1 end) ∷ []) (sym (child_is_known es g o r h p q))
 
   -- so the entry at a place gives it, where n entries have keys that aren't above the key
-  pub child_is_told-at : (es : List (List ℕ × ℕ)) (n at : ℕ) (g : List ℕ × ℕ) (o : Option (List ℕ)) → IsRising es → (0 < length es) × (is_below k (first_key es) ≡ false)
+  pub child_is_known-at : (es : List (List ℕ × ℕ)) (n at : ℕ) (g : List ℕ × ℕ) (o : Option (List ℕ)) → IsRising es → (0 < length es) × (is_below k (first_key es) ≡ false)
       → IsCountUpTo k es n → at + 1 ≡ n → slice_get es at ≡ Some g → o ≡ key_of (slice_get es n) → (g.1, o) ≡ With es
-  child_is_told-at es n at g o r h c l p q = child_is_told es g o r h (sym (c.last at l ∙ p)) (q ∙ ap (λ (e : Option (List ℕ × ℕ)). key_of e) (sym c.next))
+  child_is_known-at es n at g o r h c l p q = child_is_known es g o r h (sym (c.last at l ∙ p)) (q ∙ ap (λ (e : Option (List ℕ × ℕ)). key_of e) (sym c.next))
 
-  pub place_at-told : (es : List (List ℕ × ℕ)) (n at : ℕ) (g : List ℕ × ℕ) (o : Option (List ℕ)) → IsRising es → (0 < length es) × (is_below k (first_key es) ≡ false)
+  pub place_at-reported : (es : List (List ℕ × ℕ)) (n at : ℕ) (g : List ℕ × ℕ) (o : Option (List ℕ)) → IsRising es → (0 < length es) × (is_below k (first_key es) ≡ false)
       → IsCountUpTo k es n → at + 1 ≡ n → slice_get es at ≡ Some g → o ≡ key_of (slice_get es n)
       → (end : Option (List ℕ)) → is_before end k ≡ true → map {B = ℕ × Option (List ℕ)} (λ (at : Place). (at.pid, at.end)) (filter (is_place_for k) (children es end)) ≡ (g.1, option_or o end) ∷ []
-  place_at-told es n at g o r h c l p q = place_at es g o r h (sym (c.last at l ∙ p)) (q ∙ ap (λ (e : Option (List ℕ × ℕ)). key_of e) (sym c.next))
+  place_at-reported es n at g o r h c l p q = place_at es g o r h (sym (c.last at l ∙ p)) (q ∙ ap (λ (e : Option (List ℕ × ℕ)). key_of e) (sym c.next))
 
   -- so its pid is that of the one place
   pids_of : (xs : List Place) → map (λ (x : ℕ × Option (List ℕ)). x.0) (map {B = ℕ × Option (List ℕ)} (λ (at : Place). (at.pid, at.end)) xs) ≡ map (λ (at : Place). at.pid) xs
@@ -135,7 +135,7 @@ module _ (k : List ℕ) where
   child_of_floor es g r h p end b =
       sym (pids_of (PlacesFor es end))
       ∙ ap (λ (x : List (ℕ × Option (List ℕ))). map (λ (y : ℕ × Option (List ℕ)). y.0) x) (place_of_child es r h end b)
-      ∙ ap (λ (x : ℕ × Option (List ℕ)). x.0 ∷ []) (sym (child_is_told es g (key_of (above k es)) r h p refl))
+      ∙ ap (λ (x : ℕ × Option (List ℕ)). x.0 ∷ []) (sym (child_is_known es g (key_of (above k es)) r h p refl))
 
 -- ---- the entries after a key
 
@@ -158,14 +158,14 @@ module _ (hi : Option (List ℕ)) where
 none_before : (hi : Option (List ℕ)) (k : List ℕ) (es : List (List ℕ × ℕ)) → is_before hi k ≡ false → IsBelowAll k (keys_of es) → Before hi es ≡ []
 none_before None k es h a = absurd (cc)
 none_before (Some end) k [] h a = refl
-none_before (Some end) k (e ∷ es) h a = rw (behind_end k e.0 end h a.0) (none_before (Some end) k es h a.1)
+none_before (Some end) k (e ∷ es) h a = rw (after_end k e.0 end h a.0) (none_before (Some end) k es h a.1)
   where
     by : (b : Bool) (i j end : List ℕ) → is_below j end ≡ b → is_below i end ≡ false → order i j ≡ Less → b ≡ false
     by true i j end c n l = absurd (let t = less_is_below i end (total.trans i j end l (below_is_less j end c)) in cc)
     by false i j end c n l = refl
 
-    behind_end : (i j end : List ℕ) → is_below i end ≡ false → order i j ≡ Less → is_below j end ≡ false
-    behind_end i j end n l = by (is_below j end) i j end refl n l
+    after_end : (i j end : List ℕ) → is_below i end ≡ false → order i j ≡ Less → is_below j end ≡ false
+    after_end i j end n l = by (is_below j end) i j end refl n l
 
 -- ---- the entries from a place on
 
@@ -231,14 +231,14 @@ module _ (lo : List ℕ) (hi : Option (List ℕ)) where
       map_cond false = refl
 
   -- a child after lo meets the bounds where it begins before the end
-  meets_behind : (e : List ℕ × ℕ) (end : Option (List ℕ)) → is_below lo e.0 ≡ true → meets lo hi (place_of e end) ≡ is_before hi e.0
-  meets_behind e end h = rw (not_within_below e.0 end lo h, h) refl
+  meets_after : (e : List ℕ × ℕ) (end : Option (List ℕ)) → is_below lo e.0 ≡ true → meets lo hi (place_of e end) ≡ is_before hi e.0
+  meets_after e end h = rw (not_within_below e.0 end lo h, h) refl
 
   -- where all are after lo: those before the end
   within-all : (es : List (List ℕ × ℕ)) → IsBelowAll lo (keys_of es) → children_within lo hi es ≡ Before hi es
   within-all [] a = refl
   within-all (e ∷ es) a =
-      within_by (is_before hi e.0) e es (meets_behind e (next_key es None) (less_is_below lo e.0 a.0))
+      within_by (is_before hi e.0) e es (meets_after e (next_key es None) (less_is_below lo e.0 a.0))
       ∙ ap (λ (x : List (List ℕ × ℕ)). cond (is_before hi e.0) (e ∷ x) x) (within-all es a.1)
 
   -- a child that lo lies in meets them
@@ -254,14 +254,14 @@ module _ (lo : List ℕ) (hi : Option (List ℕ)) where
   unfolding IsStrictlySortedBy
   start_next true e f g es b r h p ih =
       let l = below_is_less lo f.0 b in
-      let behind : IsBelowAll lo (keys_of (f ∷ es)) = (l, below_all lo f.0 (keys_of es) l r.1.0) in
-      let same : e ≡ g = floor_here lo e g (f ∷ es) (no_floor lo (f ∷ es) behind) h p in
+      let following : IsBelowAll lo (keys_of (f ∷ es)) = (l, below_all lo f.0 (keys_of es) l r.1.0) in
+      let same : e ≡ g = floor_here lo e g (f ∷ es) (no_floor lo (f ∷ es) following) h p in
       within_by true e (f ∷ es) (meets_at e (Some f.0) (within e.0 (Some f.0) lo h b))
-      ∙ ap (λ (x : List (List ℕ × ℕ)). e ∷ x) (within-all (f ∷ es) behind ∙ sym (between-skips hi e.0 e (f ∷ es) (not_below_itself e.0) ∙ between-all hi e.0 (f ∷ es) r.0))
+      ∙ ap (λ (x : List (List ℕ × ℕ)). e ∷ x) (within-all (f ∷ es) following ∙ sym (between-skips hi e.0 e (f ∷ es) (not_below_itself e.0) ∙ between-all hi e.0 (f ∷ es) r.0))
       ∙ ap (λ (x : List ℕ × ℕ). left_from (Some x) hi (e ∷ f ∷ es)) same
   start_next false e f g es b r h p ih =
       let rest : floor lo (f ∷ es) ≡ Some g = floor_rest lo (floor lo (f ∷ es)) (is_below lo e.0) e g (some_floor lo f es b) p in
-      within_by false e (f ∷ es) (meets_not e (Some f.0) h (not_within_behind e.0 (Some f.0) lo b))
+      within_by false e (f ∷ es) (meets_not e (Some f.0) h (not_within_after e.0 (Some f.0) lo b))
       ∙ ih b rest
       ∙ ap (λ (x : List (List ℕ × ℕ)). g ∷ x) (sym (between-skips hi g.0 e (f ∷ es) (not_below_lower e.0 g.0 (all_floor (λ j. order e.0 j ≡ Less) lo (f ∷ es) g r.0 rest))))
 

@@ -55,13 +55,13 @@ abbrev pub as_changes : {V : Type 0} → Pairs V → Changes V
 as_changes es = map (λ e. (e.0, Some e.1)) es
 
 -- the changes of the runs, newest first, and under them the base's pairs
-abbrev pub said_under : {V : Type 0} → List (Changes V) → Pairs V → Changes V
-said_under [] base = as_changes base
-said_under (run ∷ runs) base = run ++ said_under runs base
+abbrev pub changes_over : {V : Type 0} → List (Changes V) → Pairs V → Changes V
+changes_over [] base = as_changes base
+changes_over (run ∷ runs) base = run ++ changes_over runs base
 
 -- all changes and pairs of the page
 abbrev pub said : {V : Type 0} → Page V → Changes V
-said p = said_under p.layers.runs p.layers.base
+said p = changes_over p.layers.runs p.layers.base
 
 -- the keys that it names
 abbrev pub named : {V : Type 0} → Page V → List Bytes

@@ -42,17 +42,17 @@ read_where-gave test (Some p) x rest h =
 
 -- ---- a reader that goes on after a codec's
 
-pub bytes_behind : (us vs : List ℕ) → AreBytes (us ++ vs) → AreBytes vs
-bytes_behind [] vs h = h
-bytes_behind (u ∷ us) vs h = bytes_behind us vs h.1
+pub bytes_after : (us vs : List ℕ) → AreBytes (us ++ vs) → AreBytes vs
+bytes_after [] vs h = h
+bytes_after (u ∷ us) vs h = bytes_after us vs h.1
 
 -- the value that was read first, whose spelling the bytes begin with, and what came of the bytes after it
 pub record Went {X Y : Type 0} (c : Codec X) (bs : List ℕ) (next : X → List ℕ → Option (Y × List ℕ)) (y : Y) (rest : List ℕ) : Type 0 where
   pub first : X
-  pub behind : List ℕ
-  pub spelled : bs ≡ c.spell first ++ behind
-  pub bytes : AreBytes behind
-  pub went : next first behind ≡ Some (y, rest)
+  pub following : List ℕ
+  pub spelled : bs ≡ c.spell first ++ following
+  pub bytes : AreBytes following
+  pub went : next first following ≡ Some (y, rest)
 
 pub goes_on : {X Y : Type 0} (c : Codec X) → ReadsSpellings c → (bs : List ℕ) (next : X → List ℕ → Option (Y × List ℕ)) (y : Y) (rest : List ℕ) → AreBytes bs
     → read_on (c.read bs) next ≡ Some (y, rest) → Went c bs next y rest
@@ -62,7 +62,7 @@ goes_on {X = X} {Y = Y} c exact bs next y rest bytes = of (c.read bs) refl
     of None is h = absurd (nothing_read _ h)
     of (Some p) is h =
         let spelled : bs ≡ c.spell p.0 ++ p.1 = exact bs p.0 p.1 bytes is in
-        record { first = p.0; behind = p.1; spelled = spelled; bytes = bytes_behind (c.spell p.0) p.1 (rw spelled at bytes); went = h }
+        record { first = p.0; following = p.1; spelled = spelled; bytes = bytes_after (c.spell p.0) p.1 (rw spelled at bytes); went = h }
 
 -- ---- numbers
 
@@ -166,7 +166,7 @@ read_bytes-gave n bs xs rest = of (nat_le n (length bs)) refl
 pub counted-spelled : ReadsSpellings counted
 counted-spelled bs xs rest bytes h =
     let on = goes_on (number 2) (number-spelled 2) bs read_bytes xs rest bytes h in
-    let (long, is) = read_bytes-gave on.first on.behind xs rest on.went in
+    let (long, is) = read_bytes-gave on.first on.following xs rest on.went in
     on.spelled
     ∙ ap (λ (ys : List ℕ). (number 2).spell on.first ++ ys) is
     ∙ ap (λ (n : ℕ). (number 2).spell n ++ (xs ++ rest)) (sym long)

@@ -25,9 +25,9 @@ pub before_through : (hi : Option (List ℕ)) (k end : List ℕ) → is_before h
 before_through None k end h l = refl
 before_through (Some hi) k end h l = below_through k end hi l h
 
-not_behind_by : (b : Bool) (j k end : List ℕ) → is_below k end ≡ b → is_below j end ≡ false → order j k ≡ Less → b ≡ false
-not_behind_by true j k end e h l = absurd (let t : is_below j end ≡ true = below_through j k end (rw l refl) e in cc)
-not_behind_by false j k end e h l = refl
+not_after_by : (b : Bool) (j k end : List ℕ) → is_below k end ≡ b → is_below j end ≡ false → order j k ≡ Less → b ≡ false
+not_after_by true j k end e h l = absurd (let t : is_below j end ≡ true = below_through j k end (rw l refl) e in cc)
+not_after_by false j k end e h l = refl
 
 -- ---- rows
 
@@ -36,7 +36,7 @@ module _ {V : Type 0} (lo : List ℕ) (hi : Option (List ℕ)) (end : List ℕ) 
   none_from : (j : List ℕ) (es : List (List ℕ × V)) → is_below j end ≡ false → IsBelowAll j (keys_of es) → in_range lo (Some end) es ≡ []
   none_from j [] h a = refl
   none_from j (e ∷ es) h a =
-      ap (λ (b : Bool). cond b (e ∷ in_range lo (Some end) es) (in_range lo (Some end) es)) (and_false (not (is_below e.0 lo)) (is_below e.0 end) (not_behind_by (is_below e.0 end) j e.0 end refl h a.0))
+      ap (λ (b : Bool). cond b (e ∷ in_range lo (Some end) es) (in_range lo (Some end) es)) (and_false (not (is_below e.0 lo)) (is_below e.0 end) (not_after_by (is_below e.0 end) j e.0 end refl h a.0))
       ∙ none_from j es h a.1
 
   pub record Begins (es : List (List ℕ × V)) : Type 0 where

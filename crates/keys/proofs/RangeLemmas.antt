@@ -107,8 +107,8 @@ module _ {V : Type 0} where
       held_by (is_within lo hi k) (value_at k m) v (sym (value_at-in_range_by (is_within lo hi k) m lo hi k refl) ∙ value_at_taken limit (in_range lo hi m) k v h)
 
   -- a pair is among the first n, or there are n and all are below it
-  abbrev IsTakenOrBehind : ℕ → List (List ℕ × V) → List ℕ → V → Type 0
-  IsTakenOrBehind n es k v = (value_at k (take n es) ≡ Some v) ⊎ ((length (take n es) ≡ n) × AllByRecursion (λ j. is_below j k ≡ true) (keys_of (take n es)))
+  abbrev IsTakenOrAfter : ℕ → List (List ℕ × V) → List ℕ → V → Type 0
+  IsTakenOrAfter n es k v = (value_at k (take n es) ≡ Some v) ⊎ ((length (take n es) ≡ n) × AllByRecursion (λ j. is_below j k ≡ true) (keys_of (take n es)))
 
   below_by : (b : Bool) (k j : List ℕ) (v : V) (e : List ℕ × V) (o : Option V) → is_eq (order k e.0) ≡ b → order j e.0 ≡ Less → (o ≡ Some v → order j k ≡ Less) → cond b (Some e.1) o ≡ Some v → order j k ≡ Less
   below_by true k j v e o b l ih h = rw (passes_same k e.0 b) l
@@ -120,23 +120,23 @@ module _ {V : Type 0} where
   all_below k (e ∷ es) v j a h = below_by (is_eq (order k e.0)) k j v e (value_at k es) refl a.0 (λ p. all_below k es v j a.1 p) h
 
   taken_by : (b : Bool) (n : ℕ) (e : List ℕ × V) (es : List (List ℕ × V)) (k : List ℕ) (v : V) → is_eq (order k e.0) ≡ b → IsBelowAll e.0 (keys_of es) → cond b (Some e.1) (value_at k es) ≡ Some v
-      → (value_at k es ≡ Some v → IsTakenOrBehind n es k v) → IsTakenOrBehind (suc n) (e ∷ es) k v
+      → (value_at k es ≡ Some v → IsTakenOrAfter n es k v) → IsTakenOrAfter (suc n) (e ∷ es) k v
   taken_by true n e es k v b a h ih = inl (rw b h)
   taken_by false n e es k v b a h ih = elim (ih h) [
     | inl t ↦ inl (rw b t)
     | inr t ↦ (let l : is_below e.0 k ≡ true = rw (all_below k es v e.0 a h) refl in inr (ap (λ (x : ℕ). suc x) t.0, (l, t.1)))
   ]
 
-  taken_or_behind : (n : ℕ) (es : List (List ℕ × V)) (k : List ℕ) (v : V) → IsRising es → value_at k es ≡ Some v → IsTakenOrBehind n es k v
+  taken_or_after : (n : ℕ) (es : List (List ℕ × V)) (k : List ℕ) (v : V) → IsRising es → value_at k es ≡ Some v → IsTakenOrAfter n es k v
   unfolding IsStrictlySortedBy
-  taken_or_behind zero es k v r h = inr (refl, tt)
-  taken_or_behind (suc n) [] k v r h = absurd (cc)
-  taken_or_behind (suc n) (e ∷ es) k v r h = taken_by (is_eq (order k e.0)) n e es k v refl r.0 h (λ p. taken_or_behind n es k v r.1 p)
+  taken_or_after zero es k v r h = inr (refl, tt)
+  taken_or_after (suc n) [] k v r h = absurd (cc)
+  taken_or_after (suc n) (e ∷ es) k v r h = taken_by (is_eq (order k e.0)) n e es k v refl r.0 h (λ p. taken_or_after n es k v r.1 p)
 
-  pub row_or_behind : (m : List (List ℕ × V)) (lo : List ℕ) (hi : Option (List ℕ)) (limit : ℕ) (k : List ℕ) (v : V) → IsRising m → value_at k m ≡ Some v → is_within lo hi k ≡ true
+  pub row_or_after : (m : List (List ℕ × V)) (lo : List ℕ) (hi : Option (List ℕ)) (limit : ℕ) (k : List ℕ) (v : V) → IsRising m → value_at k m ≡ Some v → is_within lo hi k ≡ true
       → (value_at k (rows lo hi limit m) ≡ Some v) ⊎ ((length (rows lo hi limit m) ≡ limit) × AllByRecursion (λ j. is_below j k ≡ true) (keys_of (rows lo hi limit m)))
-  row_or_behind m lo hi limit k v r h w =
-      taken_or_behind limit (in_range lo hi m) k v (rising-filtered (λ e. is_within lo hi e.0) m r) (value_at-in_range_by true m lo hi k w ∙ h)
+  row_or_after m lo hi limit k v r h w =
+      taken_or_after limit (in_range lo hi m) k v (rising-filtered (λ e. is_within lo hi e.0) m r) (value_at-in_range_by true m lo hi k w ∙ h)
 
   -- ---- how many
 

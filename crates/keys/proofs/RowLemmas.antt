@@ -124,9 +124,9 @@ counts_fit n m a b all h k e l =
 
 -- ---- one row more
 
-nothing_behind : (xs : Bytes) → xs ++ [] ≡ xs
-nothing_behind [] = refl
-nothing_behind (x ∷ xs) = ap (λ (ys : Bytes). x ∷ ys) (nothing_behind xs)
+nothing_after : (xs : Bytes) → xs ++ [] ≡ xs
+nothing_after [] = refl
+nothing_after (x ∷ xs) = ap (λ (ys : Bytes). x ∷ ys) (nothing_after xs)
 
 row_is_read : (key value : Bytes) → length key < 2 ^ 64 → length value < 2 ^ 64 → IsRead (row_bytes key value) key value []
 row_is_read key value k v =
@@ -136,7 +136,7 @@ row_is_read key value k v =
       of_key = from_le_bytes-to_le_bytes_8 (length key) k;
       of_value = from_le_bytes-to_le_bytes_8 (length value) v;
     } in
-    rw (nothing_behind value) at (parts_are_read (to_le_bytes w64 (length key)) (to_le_bytes w64 (length value)) key value [] parts)
+    rw (nothing_after value) at (parts_are_read (to_le_bytes w64 (length key)) (to_le_bytes w64 (length value)) key value [] parts)
 
 pub AreRows-push : (n : ℕ) (bytes key value : Bytes) → AreRows n bytes → length key < 2 ^ 64 → length value < 2 ^ 64 → AreRows (n + 1) (bytes ++ row_bytes key value)
 AreRows-push n bytes key value h k v =

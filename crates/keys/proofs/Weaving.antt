@@ -73,14 +73,14 @@ module _ {A : Type 0} where
       first_within = StandWithin-more (length held) (length (p ∷ rest)) rs (let one = ap length alone in let both = length-append held (p ∷ []) in omega (arith, one, both)) h
 
     module _ (more : now ≡ rest ++ p ∷ []) where
-      behind : option_to_list first ++ now ≡ held ++ p ∷ []
-      behind = ap (λ (qs : List (Piece A)). option_to_list first ++ qs) more ∙ sym (append_assoc (option_to_list first) rest (p ∷ []))
+      following : option_to_list first ++ now ≡ held ++ p ∷ []
+      following = ap (λ (qs : List (Piece A)). option_to_list first ++ qs) more ∙ sym (append_assoc (option_to_list first) rest (p ∷ []))
 
       pub rest_pushed : woven (option_to_list first ++ now) rs ≡ woven (option_to_list first ++ rest) rs ++ p ∷ []
-      rest_pushed = ap (λ (qs : List (Piece A)). woven qs rs) behind ∙ woven-push held rs p h
+      rest_pushed = ap (λ (qs : List (Piece A)). woven qs rs) following ∙ woven-push held rs p h
 
       pub rest_within : StandWithin (length (option_to_list first ++ now)) rs
-      rest_within = StandWithin-more (length held) (length (option_to_list first ++ now)) rs (let one = ap length behind in let both = length-append held (p ∷ []) in omega (arith, one, both)) h
+      rest_within = StandWithin-more (length held) (length (option_to_list first ++ now)) rs (let one = ap length following in let both = length-append held (p ∷ []) in omega (arith, one, both)) h
 
   module _ (ps : List (Piece A)) (rs now : List Rowless) (r : Rowless) (p : Piece A) (more : now ≡ rs ++ r ∷ []) (count : r.before ≡ length (woven ps rs)) where
     pub rowless_pushed : r.place ≡ p.place → p.reply ≡ Rows [] → woven ps now ≡ woven ps rs ++ p ∷ []

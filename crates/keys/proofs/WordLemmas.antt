@@ -1,6 +1,6 @@
 -- Words that are compared as numbers, the greatest byte first, compare as their bytes do.
 use Rattle.std.proofs.Common.{◌≡◌, ℕ, zero, suc, ◌+◌, ◌*◌, ◌<◌, ◌≤◌, List, [], ◌∷◌, length, take, drop, refl, sym, ap, ◌∙◌, arith, slice_index_or, subst}
-use Rattle.keys.specs.Words.{word_behind, IsWordOf}
+use Rattle.keys.specs.Words.{word_after, IsWordOf}
 use Rattle.keys.proofs.MapLemmas.{flipped_less}
 use Rattle.std.specs.Int.{w64}
 use Rattle.std.proofs.lemmas.List.{length-take-le}
@@ -42,16 +42,16 @@ stand_as_numbers a (u ∷ us) (v ∷ vs) e g h = by (stand_as_numbers (a * 256 +
   where
     by : nat_cmp (big_endian (a * 256 + u) us) (big_endian (a * 256 + u) vs) ≡ order us vs
         → (o : Ordering) → nat_cmp u v ≡ o → MatchOrdering o (u < v) (u ≡ v) (v < u) → nat_cmp (big_endian (a * 256 + u) us) (big_endian (a * 256 + v) vs) ≡ ordering_then (nat_cmp u v) (order us vs)
-    by behind Less p l =
+    by following Less p l =
         let under : u < v = l in
         below _ _ (rises (a * 256 + u) (a * 256 + v) us vs (omega arith) g.1 (omega arith)) ∙ sym (ap (λ o. ordering_then o (order us vs)) p)
-    by behind Greater p l =
+    by following Greater p l =
         let over : v < u = l in
         above _ _ (rises (a * 256 + v) (a * 256 + u) vs us (omega arith) h.1 (omega arith)) ∙ sym (ap (λ o. ordering_then o (order us vs)) p)
-    by behind Equal p l =
+    by following Equal p l =
         let same : u ≡ v = l in
         ap (λ w. nat_cmp (big_endian (a * 256 + u) us) (big_endian (a * 256 + w) vs)) (sym same)
-        ∙ behind
+        ∙ following
         ∙ sym (ap (λ o. ordering_then o (order us vs)) p)
 
 -- ---- a word, and what is after it
@@ -107,7 +107,7 @@ words_decide xs ys f g p q =
 pub record Cut (xs us ws : List ℕ) : Type 0 where
   pub fit : Fit xs
   pub word : us ≡ take 8 xs
-  pub behind : ws ≡ drop 8 xs
+  pub following : ws ≡ drop 8 xs
   pub long : length ws + 8 ≡ length xs
 
 cut_words_decide : (xs us ws ys vs zs : List ℕ) (n m : ℕ) → Cut xs us ws → Cut ys vs zs → n ≡ from_be_bytes w64 us → m ≡ from_be_bytes w64 vs →
@@ -117,8 +117,8 @@ cut_words_decide xs us ws ys vs zs n m c d p q =
     let other : m ≡ from_be_bytes w64 (take 8 ys) = q ∙ ap (from_be_bytes w64) d.word in
     ap (λ k. ordering_then (nat_cmp k m) (order ws zs)) one
     ∙ ap (λ k. ordering_then (nat_cmp (from_be_bytes w64 (take 8 xs)) k) (order ws zs)) other
-    ∙ ap (λ l. ordering_then (nat_cmp (from_be_bytes w64 (take 8 xs)) (from_be_bytes w64 (take 8 ys))) (order l zs)) c.behind
-    ∙ ap (λ l. ordering_then (nat_cmp (from_be_bytes w64 (take 8 xs)) (from_be_bytes w64 (take 8 ys))) (order (drop 8 xs) l)) d.behind
+    ∙ ap (λ l. ordering_then (nat_cmp (from_be_bytes w64 (take 8 xs)) (from_be_bytes w64 (take 8 ys))) (order l zs)) c.following
+    ∙ ap (λ l. ordering_then (nat_cmp (from_be_bytes w64 (take 8 xs)) (from_be_bytes w64 (take 8 ys))) (order (drop 8 xs) l)) d.following
     ∙ words_decide xs ys c.fit d.fit (omega (arith, c.long)) (omega (arith, d.long))
 
 decided : (o p : Ordering) → (o ≡ Equal → ⊥) → ordering_then o p ≡ o
@@ -137,44 +137,44 @@ words_apart xs us ws ys vs zs n m c d p q f = sym (decided (nat_cmp n m) (order 
 -- ---- first words
 
 -- after a smaller number the number stays smaller, whatever follows it
-behind_less : (k n m : ℕ) (us vs : List ℕ) → AreBytes us → n < m → word_behind k n us < word_behind k m vs
-behind_less zero n m us vs h l = l
-behind_less (suc k) n m [] [] h l = behind_less k (n * 256) (m * 256) [] [] h (omega arith)
-behind_less (suc k) n m [] (v ∷ vs) h l = behind_less k (n * 256) (m * 256 + v) [] vs h (omega arith)
-behind_less (suc k) n m (u ∷ us) [] h l = behind_less k (n * 256 + u) (m * 256) us [] h.1 (omega (arith, h.0))
-behind_less (suc k) n m (u ∷ us) (v ∷ vs) h l = behind_less k (n * 256 + u) (m * 256 + v) us vs h.1 (omega (arith, h.0))
+after_less : (k n m : ℕ) (us vs : List ℕ) → AreBytes us → n < m → word_after k n us < word_after k m vs
+after_less zero n m us vs h l = l
+after_less (suc k) n m [] [] h l = after_less k (n * 256) (m * 256) [] [] h (omega arith)
+after_less (suc k) n m [] (v ∷ vs) h l = after_less k (n * 256) (m * 256 + v) [] vs h (omega arith)
+after_less (suc k) n m (u ∷ us) [] h l = after_less k (n * 256 + u) (m * 256) us [] h.1 (omega (arith, h.0))
+after_less (suc k) n m (u ∷ us) (v ∷ vs) h l = after_less k (n * 256 + u) (m * 256 + v) us vs h.1 (omega (arith, h.0))
 
 -- nothing after it makes it least
-behind_least : (k n m : ℕ) (vs : List ℕ) → n ≤ m → word_behind k n [] ≤ word_behind k m vs
-behind_least zero n m vs l = l
-behind_least (suc k) n m [] l = behind_least k (n * 256) (m * 256) [] (omega arith)
-behind_least (suc k) n m (v ∷ vs) l = behind_least k (n * 256) (m * 256 + v) vs (omega arith)
+after_least : (k n m : ℕ) (vs : List ℕ) → n ≤ m → word_after k n [] ≤ word_after k m vs
+after_least zero n m vs l = l
+after_least (suc k) n m [] l = after_least k (n * 256) (m * 256) [] (omega arith)
+after_least (suc k) n m (v ∷ vs) l = after_least k (n * 256) (m * 256 + v) vs (omega arith)
 
 -- words say no more than the bytes do
-pub words_tell_less : (k n : ℕ) (us vs : List ℕ) → AreBytes us → AreBytes vs → word_behind k n us < word_behind k n vs → order us vs ≡ Less
+pub words_tell_less : (k n : ℕ) (us vs : List ℕ) → AreBytes us → AreBytes vs → word_after k n us < word_after k n vs → order us vs ≡ Less
 words_tell_less zero n us vs g h l = absurd (omega arith)
 words_tell_less (suc k) n [] [] g h l = absurd (omega arith)
 words_tell_less (suc k) n [] (v ∷ vs) g h l = refl
-words_tell_less (suc k) n (u ∷ us) [] g h l = absurd (omega (arith, behind_least k (n * 256) (n * 256 + u) us (omega arith)))
+words_tell_less (suc k) n (u ∷ us) [] g h l = absurd (omega (arith, after_least k (n * 256) (n * 256 + u) us (omega arith)))
 words_tell_less (suc k) n (u ∷ us) (v ∷ vs) g h l = by (words_tell_less k (n * 256 + u) us vs g.1 h.1) (nat_cmp u v) refl (ranks u v)
   where
-    by : (word_behind k (n * 256 + u) us < word_behind k (n * 256 + u) vs → order us vs ≡ Less)
+    by : (word_after k (n * 256 + u) us < word_after k (n * 256 + u) vs → order us vs ≡ Less)
         → (o : Ordering) → nat_cmp u v ≡ o → MatchOrdering o (u < v) (u ≡ v) (v < u) → ordering_then (nat_cmp u v) (order us vs) ≡ Less
     by again Less p e = ap (λ o. ordering_then o (order us vs)) p
     by again Equal p e =
         let same : u ≡ v = e in
-        let less : word_behind k (n * 256 + u) us < word_behind k (n * 256 + u) vs = subst (λ w. word_behind k (n * 256 + u) us < word_behind k (n * 256 + w) vs) (sym same) l in
+        let less : word_after k (n * 256 + u) us < word_after k (n * 256 + u) vs = subst (λ w. word_after k (n * 256 + u) us < word_after k (n * 256 + w) vs) (sym same) l in
         ap (λ o. ordering_then o (order us vs)) p ∙ again less
     by again Greater p e =
         let over : v < u = e in
-        absurd (omega (arith, behind_less k (n * 256 + v) (n * 256 + u) vs us h.1 (omega arith)))
+        absurd (omega (arith, after_less k (n * 256 + v) (n * 256 + u) vs us h.1 (omega arith)))
 
 pub are_bytes : (xs : List ℕ) → Fit xs → AreBytes xs
 are_bytes [] h = tt
 are_bytes (x ∷ xs) h = (h 0, are_bytes xs (λ i. h (suc i)))
 
-pub told_by_words : (n m : ℕ) (us vs : List ℕ) → IsWordOf n us → IsWordOf m vs → (nat_cmp n m ≡ Equal → ⊥) → nat_cmp n m ≡ order us vs
-told_by_words n m us vs g h f = by (nat_cmp n m) refl (ranks n m)
+pub order_by_words : (n m : ℕ) (us vs : List ℕ) → IsWordOf n us → IsWordOf m vs → (nat_cmp n m ≡ Equal → ⊥) → nat_cmp n m ≡ order us vs
+order_by_words n m us vs g h f = by (nat_cmp n m) refl (ranks n m)
   where
     by : (o : Ordering) → nat_cmp n m ≡ o → MatchOrdering o (n < m) (n ≡ m) (m < n) → nat_cmp n m ≡ order us vs
     by Less p l =

@@ -26,7 +26,7 @@ with_ends (c ∷ cs) ends = with_end (first_end ends) c ∷ with_ends cs (drop 1
 -- pairs as the scan may have rows
 pub record IsEnough (keys : List Bytes) (m : Pairs Bytes) (lo : Bytes) (hi : Option Bytes) (limit : ℕ) (end : Bytes) : Type 0 where
   pub known : (at : ℕ) × (slice_get keys at ≡ Some end)
-  pub behind : is_below lo end ≡ true
+  pub following : is_below lo end ≡ true
   pub before : is_before hi end ≡ true
   pub rows : limit ≤ length (in_range lo (Some end) m)
 

@@ -4,14 +4,14 @@ use Rattle.keys.specs.Bytes.{Bytes}
 use Rattle.keys.specs.Cells.{AreBytes}
 
 -- the next k bytes after a number, the greatest first; zeros stand for those that aren't there
-abbrev pub word_behind : ℕ → ℕ → Bytes → ℕ
-word_behind zero n bs = n
-word_behind (suc k) n [] = word_behind k (n * 256) []
-word_behind (suc k) n (b ∷ bs) = word_behind k (n * 256 + b) bs
+abbrev pub word_after : ℕ → ℕ → Bytes → ℕ
+word_after zero n bs = n
+word_after (suc k) n [] = word_after k (n * 256) []
+word_after (suc k) n (b ∷ bs) = word_after k (n * 256 + b) bs
 
 -- the first eight
 abbrev pub first_word : Bytes → ℕ
-first_word bs = word_behind 8 0 bs
+first_word bs = word_after 8 0 bs
 
 -- the number is the first word of these bytes
 abbrev pub IsWordOf : ℕ → Bytes → Type 0

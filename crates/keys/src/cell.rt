@@ -11,7 +11,8 @@ pub trait Cell<A: Allocator + Copy> {
     fn copy(&self, alloc: A) -> Result<Self, AllocError>
         ensures { IfOk result (λ cell. cell ≡ self.now) };
 
-    /// A cell that takes no memory, to stand where another was taken out. Its content doesn't matter.
+    /// A cell that takes no memory, to stand where another was taken out. Its content doesn't
+    /// matter.
     fn blank(alloc: A) -> Self;
 }
 

@@ -144,14 +144,14 @@ same_log (Upto n) (Home p) e = cc
 abbrev IsSaid : List ℕ → Slot → Type 0
 IsSaid pids s = is_among s.pid pids ≡ false → logged_then s.page ≡ s.logged
 
-said_by : (b : Bool) (s : Slot) (pids : List ℕ) → is_among s.pid pids ≡ b → IsSaid pids s → cond b (slot_then s) s ≡ slot_then s
-said_by true s pids e h = refl
-said_by false s pids e h = ap (λ (l : of_code.Logged). (let x : Slot = record { pid = s.pid; page = s.page; logged = l } in x)) (sym (h e))
+joined_changes : (b : Bool) (s : Slot) (pids : List ℕ) → is_among s.pid pids ≡ b → IsSaid pids s → cond b (slot_then s) s ≡ slot_then s
+joined_changes true s pids e h = refl
+joined_changes false s pids e h = ap (λ (l : of_code.Logged). (let x : Slot = record { pid = s.pid; page = s.page; logged = l } in x)) (sym (h e))
 
 marked-said : (ss : List Slot) (pids : List ℕ) → AllByRecursion (IsSaid pids) ss → marked ss pids ≡ map slot_then ss
 marked-said [] pids a = refl
 marked-said (s ∷ ss) pids a =
-    ap (λ (x : Slot). x ∷ marked ss pids) (said_by (is_among s.pid pids) s pids refl a.0)
+    ap (λ (x : Slot). x ∷ marked ss pids) (joined_changes (is_among s.pid pids) s pids refl a.0)
     ∙ ap (λ (x : List Slot). slot_then s ∷ x) (marked-said ss pids a.1)
 
 at_each : {X : Type 0} (Q : X → Type 0) (xs : List X) → ((i : ℕ) (x : X) → i < length xs → x ≡ get_or xs i x → Q x) → AllByRecursion Q xs

@@ -46,21 +46,21 @@ first_number n (m ∷ ms) a = first_by (nat_lt n m) n m ms refl a.0
 one_first : (n : ℕ) (ns : List ℕ) → AllByRecursion (λ m. n < m) ns → with_one (is_among n ns) n ns ≡ n ∷ ns
 one_first n ns a = ap (λ (b : Bool). with_one b n ns) (none_above n ns a) ∙ first_number n ns a
 
-one_behind : (k n : ℕ) (ns : List ℕ) → k < n → with_one (is_among n (k ∷ ns)) n (k ∷ ns) ≡ k ∷ with_one (is_among n ns) n ns
-one_behind k n ns l = behind_by (nat_eq n k) (nat_lt n k) (is_among n ns) refl refl
+one_after : (k n : ℕ) (ns : List ℕ) → k < n → with_one (is_among n (k ∷ ns)) n (k ∷ ns) ≡ k ∷ with_one (is_among n ns) n ns
+one_after k n ns l = after_by (nat_eq n k) (nat_lt n k) (is_among n ns) refl refl
   where
-    behind_by : (b c d : Bool) → nat_eq n k ≡ b → nat_lt n k ≡ c → cond (b || d) (k ∷ ns) (cond c (n ∷ k ∷ ns) (k ∷ with_number n ns)) ≡ k ∷ with_one d n ns
-    behind_by true c d e f = absurd (let x = eqb-true n k e in omega arith)
-    behind_by false true d e f = absurd (let x = ltb-true n k f in omega arith)
-    behind_by false false true e f = refl
-    behind_by false false false e f = refl
+    after_by : (b c d : Bool) → nat_eq n k ≡ b → nat_lt n k ≡ c → cond (b || d) (k ∷ ns) (cond c (n ∷ k ∷ ns) (k ∷ with_number n ns)) ≡ k ∷ with_one d n ns
+    after_by true c d e f = absurd (let x = eqb-true n k e in omega arith)
+    after_by false true d e f = absurd (let x = ltb-true n k f in omega arith)
+    after_by false false true e f = refl
+    after_by false false false e f = refl
 
 one_there : (n : ℕ) (ns : List ℕ) → with_one (is_among n (n ∷ ns)) n (n ∷ ns) ≡ n ∷ ns
 one_there n ns = rw (eq-eqb n n refl) refl
 
-numbers_behind : (k : ℕ) (ms ns : List ℕ) → AllByRecursion (λ m. k < m) ms → with_numbers ms (k ∷ ns) ≡ k ∷ with_numbers ms ns
-numbers_behind k [] ns a = refl
-numbers_behind k (m ∷ ms) ns a = ap (λ (x : List ℕ). with_one (is_among m x) m x) (numbers_behind k ms ns a.1) ∙ one_behind k m (with_numbers ms ns) a.0
+numbers_after : (k : ℕ) (ms ns : List ℕ) → AllByRecursion (λ m. k < m) ms → with_numbers ms (k ∷ ns) ≡ k ∷ with_numbers ms ns
+numbers_after k [] ns a = refl
+numbers_after k (m ∷ ms) ns a = ap (λ (x : List ℕ). with_one (is_among m x) m x) (numbers_after k ms ns a.1) ∙ one_after k m (with_numbers ms ns) a.0
 
 all_by : (P : ℕ → Type 0) (b : Bool) (n : ℕ) (ns : List ℕ) → P n → AllByRecursion P ns → AllByRecursion P (with_one b n ns)
 all_by P true n ns p a = a
@@ -90,11 +90,11 @@ module _ {P : Type 0} where
   known_by k None No es ls a b = refl
   known_by k None Old es ls a b = one_first k (with_numbers (olds ls) (keys_of es)) (all-with_numbers (λ n. k < n) (olds ls) (keys_of es) b a)
   known_by k None (Upto n) es ls a b = refl
-  known_by k (Some p) No es ls a b = numbers_behind k (olds ls) (keys_of es) b
+  known_by k (Some p) No es ls a b = numbers_after k (olds ls) (keys_of es) b
   known_by k (Some p) Old es ls a b =
-      let e = numbers_behind k (olds ls) (keys_of es) b in
+      let e = numbers_after k (olds ls) (keys_of es) b in
       ap (λ (x : List ℕ). with_one (is_among k x) k x) e ∙ one_there k (with_numbers (olds ls) (keys_of es))
-  known_by k (Some p) (Upto n) es ls a b = numbers_behind k (olds ls) (keys_of es) b
+  known_by k (Some p) (Upto n) es ls a b = numbers_after k (olds ls) (keys_of es) b
 
   pick_by : (b : Bool) (s : TableSlot P) (ss : List (TableSlot P)) → slot_pids (cond b (s ∷ ss) ss) ≡ cond b (s.pid ∷ slot_pids ss) (slot_pids ss)
   pick_by true s ss = refl

@@ -145,9 +145,9 @@ step_back u at n h d = back_by (cases_lt at u) (nat_le u n) refl
     below_first true e l = absurd (omega (arith, leb-true))
     below_first false e l = refl
 
-    behind_first : (m : ℕ) (c : Bool) → nat_le u m ≡ c → u ≤ m → cond c (suc m) m ≡ suc m
-    behind_first m true e l = refl
-    behind_first m false e l = absurd (let x = leb-false u m e in omega arith)
+    after_first : (m : ℕ) (c : Bool) → nat_le u m ≡ c → u ≤ m → cond c (suc m) m ≡ suc m
+    after_first m true e l = refl
+    after_first m false e l = absurd (let x = leb-false u m e in omega arith)
 
     small : (b : Bool) → nat_le u n ≡ b → at < cond b (suc n) n → at < u → at < n
     small true e l k = let x = leb-true u n e in omega arith
@@ -160,7 +160,7 @@ step_back u at n h d = back_by (cases_lt at u) (nat_le u n) refl
     at_later : (k : ℕ) → k ≡ at → u < k → (b : Bool) → nat_le u n ≡ b → at < cond b (suc n) n → (m : ℕ) × (m < n) × (cond (nat_le u m) (suc m) m ≡ at)
     at_later zero e l b f x = absurd (omega arith)
     at_later (suc m) e l b f x =
-        (m, less m b f (rw e x) (omega arith), behind_first m (nat_le u m) refl (omega arith) ∙ e)
+        (m, less m b f (rw e x) (omega arith), after_first m (nat_le u m) refl (omega arith) ∙ e)
 
     back_by : (at < u) ⊎ (u ≤ at) → (b : Bool) → nat_le u n ≡ b → (m : ℕ) × (m < n) × (cond (nat_le u m) (suc m) m ≡ at)
     back_by (inl l) b e = (at, small b e (h b e) l, below_first (nat_le u at) refl l)
@@ -195,16 +195,16 @@ placed_by : (b : Bool) (n u : ℕ) (us : List ℕ) (m : ℕ) → nat_lt n u ≡ 
 placed_by true n u us m e l = refl
 placed_by false n u us m e l = absurd (let x = ltb-false n u e in omega arith)
 
-behind_by : (b : Bool) (n u : ℕ) (us : List ℕ) (m : ℕ) → nat_lt n u ≡ b → u ≤ n → unused (cond b (n ∷ u ∷ us) (u ∷ with_number n us)) m ≡ unused (u ∷ with_number n us) m
-behind_by true n u us m e l = absurd (let x = ltb-true n u e in omega arith)
-behind_by false n u us m e l = refl
+after_by : (b : Bool) (n u : ℕ) (us : List ℕ) (m : ℕ) → nat_lt n u ≡ b → u ≤ n → unused (cond b (n ∷ u ∷ us) (u ∷ with_number n us)) m ≡ unused (u ∷ with_number n us) m
+after_by true n u us m e l = absurd (let x = ltb-true n u e in omega arith)
+after_by false n u us m e l = refl
 
 drawn_by : (b : Bool) (u : ℕ) (us : List ℕ) (n m : ℕ) → nat_le u n ≡ b → AreRisingPids (u ∷ us) → n ≤ m → ((k : ℕ) → k ≤ suc m → unused (with_number (unused us k) us) (suc m) ≡ unused us (suc (suc m)))
     → unused (with_number (unused us (cond b (suc n) n)) (u ∷ us)) m ≡ unused (u ∷ us) (suc m)
 drawn_by true u us n m e r l ih =
     let below : u ≤ n = leb-true u n e in
     let more = at_least us (suc n) in
-    behind_by (nat_lt (unused us (suc n)) u) (unused us (suc n)) u us m refl (omega arith)
+    after_by (nat_lt (unused us (suc n)) u) (unused us (suc n)) u us m refl (omega arith)
     ∙ unused-counted (with_number (unused us (suc n)) us) u m (omega arith)
     ∙ ih (suc n) (omega arith)
     ∙ sym (unused-counted us u (suc m) (omega arith))

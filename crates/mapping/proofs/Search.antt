@@ -98,10 +98,10 @@ above_next m n [] h a = tt
 above_next m n (k ∷ ns) h a = (let x = a.0 in omega arith, above_next m n ns h a.1)
 
 -- no pid stands after its own number
-behind : (n m k : ℕ) (ns : List ℕ) → k ≤ m + n → AreRisingPids ns → AllByRecursion (λ i. m ≤ i) ns → AllByRecursion (λ i. k ≤ i) (drop n ns)
-behind zero m k ns h r a = at_least k m ns (omega arith) a
-behind (suc n) m k [] h r a = tt
-behind (suc n) m k (i ∷ ns) h r a = behind n (suc m) k ns (omega arith) r.1 (above_next m i ns a.0 r.0)
+following : (n m k : ℕ) (ns : List ℕ) → k ≤ m + n → AreRisingPids ns → AllByRecursion (λ i. m ≤ i) ns → AllByRecursion (λ i. k ≤ i) (drop n ns)
+following zero m k ns h r a = at_least k m ns (omega arith) a
+following (suc n) m k [] h r a = tt
+following (suc n) m k (i ∷ ns) h r a = following n (suc m) k ns (omega arith) r.1 (above_next m i ns a.0 r.0)
 
 all_from_zero : (ns : List ℕ) → AllByRecursion (λ i. 0 ≤ i) ns
 all_from_zero [] = tt
@@ -116,7 +116,7 @@ above_from k ns r l d =
     let e : drop k ns ≡ get_or ns k 0 ∷ drop (k + 1) ns = drop_more ns k 0 l in
     let rising : AreRisingPids (get_or ns k 0 ∷ drop (k + 1) ns) = subst (λ (is : List ℕ). AreRisingPids is) e (rising_drop k ns r) in
     let from : AllByRecursion (λ i. k ≤ i) (get_or ns k 0 ∷ drop (k + 1) ns) =
-    subst (λ (is : List ℕ). AllByRecursion (λ i. k ≤ i) is) e (behind k 0 k ns (omega arith) r (all_from_zero ns)) in
+    subst (λ (is : List ℕ). AllByRecursion (λ i. k ≤ i) is) e (following k 0 k ns (omega arith) r (all_from_zero ns)) in
     subst (λ (is : List ℕ). AllByRecursion (λ i. k < i) is) (sym e) (all_above k (get_or ns k 0) (drop (k + 1) ns) rising from.0 d)
 
 slice_get_front : (n : ℕ) (ns : List ℕ) (i k : ℕ) → slice_get (take n ns) i ≡ Some k → slice_get ns i ≡ Some k

@@ -77,11 +77,11 @@ first_is_least d e ds es s l h =
     let some : Some d.1 ≡ None = sym (at_first d ds) ∙ h ∙ none in
     absurd (cc)
 
-behind_by : (b : Bool) (d e : ℕ × PageOfKind) (ds es : List (ℕ × PageOfKind)) (n : ℕ) → is_eq (nat_cmp n d.0) ≡ b → d.0 ≡ e.0 → AreRisingPids (keys_of (d ∷ ds)) → AreRisingPids (keys_of (e ∷ es)) → page_at (d ∷ ds) n ≡ page_at (e ∷ es) n → page_at ds n ≡ page_at es n
-behind_by true d e ds es n f k r s h =
+after_by : (b : Bool) (d e : ℕ × PageOfKind) (ds es : List (ℕ × PageOfKind)) (n : ℕ) → is_eq (nat_cmp n d.0) ≡ b → d.0 ≡ e.0 → AreRisingPids (keys_of (d ∷ ds)) → AreRisingPids (keys_of (e ∷ es)) → page_at (d ∷ ds) n ≡ page_at (e ∷ es) n → page_at ds n ≡ page_at es n
+after_by true d e ds es n f k r s h =
     let first : n ≡ d.0 = same_pid n d.0 (equal_by (nat_cmp n d.0) f) in
     none_below n ds (rw first r.0) ∙ sym (none_below n es (rw (first ∙ k) s.0))
-behind_by false d e ds es n f k r s h =
+after_by false d e ds es n f k r s h =
     let g : is_eq (nat_cmp n e.0) ≡ false = subst (λ (m : ℕ). is_eq (nat_cmp n m) ≡ false) k f in
     sym (past_first d ds n f) ∙ h ∙ past_first e es n g
 
@@ -98,7 +98,7 @@ same_table (d ∷ ds) (e ∷ es) r s h =
     let k : d.0 ≡ e.0 = same_first (cases_lt d.0 e.0) (cases_lt e.0 d.0) in
     let f : Some d.1 ≡ Some e.1 = sym (at_first d ds) ∙ h d.0 ∙ ap (λ (n : ℕ). page_at (e ∷ es) n) k ∙ at_first e es in
     let v : d.1 ≡ e.1 = cc in
-    let rest : ds ≡ es = same_table ds es r.1 s.1 (λ n. behind_by (is_eq (nat_cmp n d.0)) d e ds es n refl k r s (h n)) in
+    let rest : ds ≡ es = same_table ds es r.1 s.1 (λ n. after_by (is_eq (nat_cmp n d.0)) d e ds es n refl k r s (h n)) in
     ap (λ (x : ℕ × PageOfKind). x ∷ ds) (same_pair d e k v) ∙ ap (λ (x : List (ℕ × PageOfKind)). e ∷ x) rest
   where
     same_first : (d.0 < e.0) ⊎ (e.0 ≤ d.0) → (e.0 < d.0) ⊎ (d.0 ≤ e.0) → d.0 ≡ e.0

@@ -15,7 +15,7 @@ use Rattle.index_page.specs.Children.{Place, children, is_place_for}
 use Rattle.index_page.specs.Range.{is_below, is_before, is_within, AreBelow, AreFrom, AreBefore, IsBefore}
 use Rattle.index_page.specs.Rules.{IsHeaded}
 use Rattle.index_page.proofs.ListLemmas.{all_keys-append}
-use Rattle.index_page.proofs.RangeLemmas.{less_is_below, from_lower, below_higher, not_below_itself, from_below_all, below_all_from, rising-append, first_key-append, value_at-behind, value_at-in_front}
+use Rattle.index_page.proofs.RangeLemmas.{less_is_below, from_lower, below_higher, not_below_itself, from_below_all, below_all_from, rising-append, first_key-append, value_at-following, value_at-in_front}
 use Rattle.index_page.proofs.ChildLemmas.{next_key, place_of, children-cons, children-append, within, within_parts, one_child, no_child}
 use Rattle.index_page.proofs.PageLemmas.{all_keys_entries}
 use Rattle.mapping.specs.Levels.{Placed, entries, joined, name, names}
@@ -166,7 +166,7 @@ module _ {V : Type 0} where
       let apart = tiled_apart xs (p ∷ ys) end t in
       sym (
       ap (λ (es : List (List ℕ × V)). value_at k es) (joined-append xs (p ∷ ys))
-      ∙ value_at-behind p.page.low k (joined xs) (joined (p ∷ ys)) w.0 (before-joined xs (Some p.page.low) apart.0)
+      ∙ value_at-following p.page.low k (joined xs) (joined (p ∷ ys)) w.0 (before-joined xs (Some p.page.low) apart.0)
       ∙ value_at-in_front k (entries p) (joined ys) (below_later_pages k ys end apart.1.1 w.1)
       )
 

@@ -87,6 +87,10 @@ pub record HoldsLevels (ps : List (ℕ × PageOfKind)) (l : Levels) : Type 0 whe
   pub above : AllByRecursion (HasIndexPages ps) l.above
   pub no_other : AllByRecursion (λ pid. is_among pid (all_pids l.level l.above) ≡ true) (keys_of ps)
 
+-- a tree's table holds the levels that are found from its root
+abbrev pub HoldsItsLevels : Tree → Type 0
+HoldsItsLevels t = HoldsLevels t.pages (levels_of t)
+
 -- what is true of the numbers of any store: the table's pids rise, and there is a level
 pub record IsTree (t : Tree) : Type 0 where
   pub rising : AreRisingPids (keys_of t.pages)

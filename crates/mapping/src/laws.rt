@@ -45,7 +45,7 @@ pub fn levels_are_found_in_their_table()
 {}
 
 /// A proper tree is determined by its pages: there is one root, and one height, with which they are a proper tree.
-pub fn a_proper_tree_is_told_by_its_pages()
+pub fn a_proper_tree_is_determined_by_its_pages()
     ensures { (s : Settings) (t u : Tree) → IsProper s t → IsProper s u → t.pages ≡ u.pages →
         (t.root ≡ u.root) × (t.height ≡ u.height) }
 {}

@@ -86,39 +86,39 @@ module _ {V : Type 0} where
 
 -- after each kind of command on a key, by whether the key was there
 module _ (A : Type 0) where
-  abbrev told : ℕ → Reply A → ℕ
-  told n r = entries_after n r
+  abbrev reported : ℕ → Reply A → ℕ
+  reported n r = entries_after n r
 
-  after_get : (n l : ℕ) (o : Option (List ℕ)) → n ≤ l → told n (found o) ≤ l
+  after_get : (n l : ℕ) (o : Option (List ℕ)) → n ≤ l → reported n (found o) ≤ l
   after_get n l None h = h
   after_get n l (Some v) h = h
 
-  after_put : (b : Bool) (n l more : ℕ) → n ≤ l → l ≤ more → (b ≡ false → l + 1 ≤ more) → told n (if b then Replaced else New) ≤ more
+  after_put : (b : Bool) (n l more : ℕ) → n ≤ l → l ≤ more → (b ≡ false → l + 1 ≤ more) → reported n (if b then Replaced else New) ≤ more
   after_put true n l more h a s = omega arith
   after_put false n l more h a s = let one = s refl in omega (arith, one)
 
   after_add : (b : Bool) (n : ℕ) (m more : List (List ℕ × List ℕ)) → n ≤ length m → (b ≡ false → length m + 1 ≤ length more)
-      → told n (if b then Exists else Added) ≤ length (if b then m else more)
+      → reported n (if b then Exists else Added) ≤ length (if b then m else more)
   after_add true n m more h s = h
   after_add false n m more h s = let one = s refl in omega (arith, one)
 
-  after_del : (b : Bool) (n l left : ℕ) → n ≤ l → l ≤ left + 1 → (b ≡ false → l ≤ left) → told n (if b then Deleted else Missing) ≤ left
+  after_del : (b : Bool) (n l left : ℕ) → n ≤ l → l ≤ left + 1 → (b ≡ false → l ≤ left) → reported n (if b then Deleted else Missing) ≤ left
   after_del true n l left h a s = omega arith
   after_del false n l left h a s = let same = s refl in omega (arith, same)
 
-  most_get : (n l : ℕ) (o : Option (List ℕ)) → l ≤ n → l ≤ told n (found o)
+  most_get : (n l : ℕ) (o : Option (List ℕ)) → l ≤ n → l ≤ reported n (found o)
   most_get n l None h = h
   most_get n l (Some v) h = h
 
-  most_put : (b : Bool) (n l more : ℕ) → l ≤ n → more ≤ l + 1 → (b ≡ true → more ≤ l) → more ≤ told n (if b then Replaced else New)
+  most_put : (b : Bool) (n l more : ℕ) → l ≤ n → more ≤ l + 1 → (b ≡ true → more ≤ l) → more ≤ reported n (if b then Replaced else New)
   most_put true n l more h a s = let same = s refl in omega (arith, same)
   most_put false n l more h a s = omega arith
 
-  most_add : (b : Bool) (n : ℕ) (m more : List (List ℕ × List ℕ)) → length m ≤ n → length more ≤ length m + 1 → length (if b then m else more) ≤ told n (if b then Exists else Added)
+  most_add : (b : Bool) (n : ℕ) (m more : List (List ℕ × List ℕ)) → length m ≤ n → length more ≤ length m + 1 → length (if b then m else more) ≤ reported n (if b then Exists else Added)
   most_add true n m more h a = h
   most_add false n m more h a = omega arith
 
-  most_del : (b : Bool) (n l left : ℕ) → l ≤ n → left ≤ l → (b ≡ true → left + 1 ≤ l) → left ≤ told n (if b then Deleted else Missing)
+  most_del : (b : Bool) (n l left : ℕ) → l ≤ n → left ≤ l → (b ≡ true → left + 1 ≤ l) → left ≤ reported n (if b then Deleted else Missing)
   most_del true n l left h a s = let less = s refl in omega (arith, less)
   most_del false n l left h a s = omega arith
 
@@ -132,21 +132,21 @@ fewest_after n m (Scan lo hi limit) h = h
 fewest_after n m (Wipe lo hi) h = let parts = both_parts m lo hi in omega (arith, h, parts)
 
 -- where there were no more before a command, there are no more after it than its reply shows
-most_told : {A : Type 0} → (n : ℕ) (m : List (List ℕ × List ℕ)) (c : Command A) → IsRising m → length m ≤ n → length (map_after m c) ≤ entries_after n (reply_to m c)
-most_told {A} n m (Get k) r h = most_get A n (length m) (value_at k m) h
-most_told {A} n m (Put k v) r h = most_put A (is_some (value_at k m)) n (length m) (length (with_pair m k v)) h (one_more_at_most m k v) (no_more m k v r)
-most_told {A} n m (Add k v) r h = most_add A (is_some (value_at k m)) n m (with_pair m k v) h (one_more_at_most m k v)
-most_told {A} n m (Del k) r h = most_del A (is_some (value_at k m)) n (length m) (length (without m k)) h (none_come m k) (one_less m k)
-most_told n m (Scan lo hi limit) r h = h
-most_told n m (Wipe lo hi) r h = let parts = both_parts m lo hi in omega (arith, h, parts)
+most_counted : {A : Type 0} → (n : ℕ) (m : List (List ℕ × List ℕ)) (c : Command A) → IsRising m → length m ≤ n → length (map_after m c) ≤ entries_after n (reply_to m c)
+most_counted {A} n m (Get k) r h = most_get A n (length m) (value_at k m) h
+most_counted {A} n m (Put k v) r h = most_put A (is_some (value_at k m)) n (length m) (length (with_pair m k v)) h (one_more_at_most m k v) (no_more m k v r)
+most_counted {A} n m (Add k v) r h = most_add A (is_some (value_at k m)) n m (with_pair m k v) h (one_more_at_most m k v)
+most_counted {A} n m (Del k) r h = most_del A (is_some (value_at k m)) n (length m) (length (without m k)) h (none_come m k) (one_less m k)
+most_counted n m (Scan lo hi limit) r h = h
+most_counted n m (Wipe lo hi) r h = let parts = both_parts m lo hi in omega (arith, h, parts)
 
-most_by : (b : Bool) (top n l after told : ℕ) → (n == top) ≡ b → n ≤ top → min l top ≤ n → (l ≤ n → after ≤ told) → min after top ≤ (if b then top else min told top)
-most_by true top n l after told e w h s = omega arith
-most_by false top n l after told e w h s = let other = eqb-false n top e in let more = s (omega (arith, other, w, h)) in omega (arith, more)
+most_by : (b : Bool) (top n l after reported : ℕ) → (n == top) ≡ b → n ≤ top → min l top ≤ n → (l ≤ n → after ≤ reported) → min after top ≤ (if b then top else min reported top)
+most_by true top n l after reported e w h s = omega arith
+most_by false top n l after reported e w h s = let other = eqb-false n top e in let more = s (omega (arith, other, w, h)) in omega (arith, more)
 
 -- the same up to a greatest number, which says nothing
 pub most_after_command : {A : Type 0} → (top n : ℕ) (m : List (List ℕ × List ℕ)) (c : Command A) → IsRising m → n ≤ top → min (length m) top ≤ n → min (length (map_after m c)) top ≤ most_after top n (reply_to m c)
-most_after_command top n m c r w h = most_by (n == top) top n (length m) (length (map_after m c)) (entries_after n (reply_to m c)) refl w h (most_told n m c r)
+most_after_command top n m c r w h = most_by (n == top) top n (length m) (length (map_after m c)) (entries_after n (reply_to m c)) refl w h (most_counted n m c r)
 
 -- a page that has no more than none is empty
 pub none_held : {V : Type 0} → (top n : ℕ) (m : List (List ℕ × V)) → min (length m) (suc top) ≤ n → n ≡ 0 → m ≡ []

@@ -62,7 +62,7 @@ IsNear keys c (Some end) = ⊤
 module _ {A : Type 0} (keys : List (List ℕ)) where
   near_one : (m : Pairs) (c : Command A) (end : Option (List ℕ)) → MayEndAt keys m c end → IsNear keys c end
   near_one m c None h = tt
-  near_one m (Scan lo hi limit) (Some end) h = (h.known, h.behind, h.before)
+  near_one m (Scan lo hi limit) (Some end) h = (h.known, h.following, h.before)
   near_one m _ (Some end) h = tt
 
   drop-one : (ends : List (Option (List ℕ))) (place : ℕ) → A → first_end (drop place (drop 1 ends)) ≡ first_end (drop (suc place) ends)

@@ -12,7 +12,7 @@ use Rattle.keys.specs.Order.{order, IsRising}
 use Rattle.keys.specs.OrderedMap.{value_at}
 use Rattle.keys.specs.Range.{is_below, is_before, is_within, in_range, rows}
 use Rattle.keys.proofs.MapLemmas.{total, passes_same, same_map, value_at_rest}
-use Rattle.delta_chain.specs.Layers.{said_or, with_run}
+use Rattle.delta_chain.specs.Layers.{change_or, with_run}
 use Rattle.delta_chain.specs.Merging.{asserted, pair_if}
 use Rattle.delta_chain.proofs.LayerLemmas.{value_at-with_run, rising-with_run}
 use Rattle.delta_chain.proofs.Overlays.{said_over, rising-asserted}
@@ -49,25 +49,25 @@ module _ {V : Type 0} where
   pub value_at-kept : (keeps : List ℕ → Bool) (es : List (List ℕ × V)) (k : List ℕ) → value_at k (filter (λ e. keeps e.0) es) ≡ cond (keeps k) (value_at k es) None
   value_at-kept keeps es k = lookup-filter-keys (λ j. is_eq (order k j)) keeps (keeps k) (λ j p. ap keeps (sym (passes_same k j p))) es
 
-  value_at-as_changes : (ps : List (List ℕ × V)) (q : List ℕ) → said_or (value_at q (as_changes ps)) None ≡ value_at q ps
+  value_at-as_changes : (ps : List (List ℕ × V)) (q : List ℕ) → change_or (value_at q (as_changes ps)) None ≡ value_at q ps
   value_at-as_changes [] q = refl
   value_at-as_changes (p ∷ ps) q = by (is_eq (order q p.0)) (value_at-as_changes ps q)
     where
-      by : (b : Bool) → said_or (value_at q (as_changes ps)) None ≡ value_at q ps → said_or (cond b (Some (Some p.1)) (value_at q (as_changes ps))) None ≡ cond b (Some p.1) (value_at q ps)
+      by : (b : Bool) → change_or (value_at q (as_changes ps)) None ≡ value_at q ps → change_or (cond b (Some (Some p.1)) (value_at q (as_changes ps))) None ≡ cond b (Some p.1) (value_at q ps)
       by true h = refl
       by false h = h
 
   -- ---- those that have a value
 
-  absent_by : (b : Bool) (rest : Option (Option V)) (whole : Option (Option V)) (o : Option V) → rest ≡ cond b None whole → o ≡ said_or rest None → o ≡ said_or (cond b (Some None) rest) None
-  absent_by true rest whole o r h = h ∙ ap (λ (t : Option (Option V)). said_or t None) r
+  absent_by : (b : Bool) (rest : Option (Option V)) (whole : Option (Option V)) (o : Option V) → rest ≡ cond b None whole → o ≡ change_or rest None → o ≡ change_or (cond b (Some None) rest) None
+  absent_by true rest whole o r h = h ∙ ap (λ (t : Option (Option V)). change_or t None) r
   absent_by false rest whole o r h = h
 
-  there_by : (b : Bool) (v : V) (rest : Option (Option V)) (o : Option V) → o ≡ said_or rest None → cond b (Some v) o ≡ said_or (cond b (Some (Some v)) rest) None
+  there_by : (b : Bool) (v : V) (rest : Option (Option V)) (o : Option V) → o ≡ change_or rest None → cond b (Some v) o ≡ change_or (cond b (Some (Some v)) rest) None
   there_by true v rest o h = refl
   there_by false v rest o h = h
 
-  value_at-present : (cs : List (List ℕ × Option V)) (q : List ℕ) → IsRising cs → value_at q (present_ones cs) ≡ said_or (value_at q cs) None
+  value_at-present : (cs : List (List ℕ × Option V)) (q : List ℕ) → IsRising cs → value_at q (present_ones cs) ≡ change_or (value_at q cs) None
   unfolding IsStrictlySortedBy
   value_at-present [] q r = refl
   value_at-present ((k, None) ∷ cs) q r = absent_by (is_eq (order q k)) (value_at q cs) (value_at q ((k, None) ∷ cs)) (value_at q (present_ones cs)) (value_at_rest (k, None) cs q r) (value_at-present cs q r.1)
@@ -90,14 +90,14 @@ module _ {V : Type 0} where
       let n = rising-named_by_either ps cs r in
       same_map (present_ones (named_by_either ps cs)) (with_run ps cs) (rising-present (named_by_either ps cs) n) (rising-with_run ps cs r)
       (λ q. value_at-present (named_by_either ps cs) q n
-      ∙ ap (λ (t : Option (Option V)). said_or t None) (value_at-with_run (as_changes ps) (asserted cs) q (rising-as_changes ps r) (rising-asserted cs s))
+      ∙ ap (λ (t : Option (Option V)). change_or t None) (value_at-with_run (as_changes ps) (asserted cs) q (rising-as_changes ps r) (rising-asserted cs s))
       ∙ said_over cs q (value_at q (as_changes ps)) None
-      ∙ ap (λ (t : Option V). said_or (value_at q cs) t) (value_at-as_changes ps q)
+      ∙ ap (λ (t : Option V). change_or (value_at q cs) t) (value_at-as_changes ps q)
       ∙ sym (value_at-with_run ps cs q r s))
 
   -- ---- a part of a map under changes
 
-  said_in_part : (b : Bool) (said : Option (Option V)) (below : Option V) → said_or (cond b said None) (cond b below None) ≡ cond b (said_or said below) None
+  said_in_part : (b : Bool) (said : Option (Option V)) (below : Option V) → change_or (cond b said None) (cond b below None) ≡ cond b (change_or said below) None
   said_in_part true said below = refl
   said_in_part false said below = refl
 
@@ -107,8 +107,8 @@ module _ {V : Type 0} where
       let part = rising-in_range low end m r in
       same_map (with_run (in_range low end m) (in_range low end cs)) (in_range low end (with_run m cs)) (rising-with_run (in_range low end m) (in_range low end cs) part) (rising-in_range low end (with_run m cs) (rising-with_run m cs r))
       (λ q. value_at-with_run (in_range low end m) (in_range low end cs) q part (rising-in_range low end cs s)
-      ∙ ap (λ (t : Option V). said_or (value_at q (in_range low end cs)) t) (value_at-kept (is_within low end) m q)
-      ∙ ap (λ (t : Option (Option V)). said_or t (cond (is_within low end q) (value_at q m) None)) (lookup-filter-keys (λ j. is_eq (order q j)) (is_within low end) (is_within low end q) (λ j p. ap (is_within low end) (sym (passes_same q j p))) cs)
+      ∙ ap (λ (t : Option V). change_or (value_at q (in_range low end cs)) t) (value_at-kept (is_within low end) m q)
+      ∙ ap (λ (t : Option (Option V)). change_or t (cond (is_within low end q) (value_at q m) None)) (lookup-filter-keys (λ j. is_eq (order q j)) (is_within low end) (is_within low end q) (λ j p. ap (is_within low end) (sym (passes_same q j p))) cs)
       ∙ said_in_part (is_within low end q) (value_at q cs) (value_at q m)
       ∙ ap (λ (t : Option V). cond (is_within low end q) t None) (sym (value_at-with_run m cs q r s))
       ∙ sym (value_at-kept (is_within low end) (with_run m cs) q))
@@ -179,16 +179,16 @@ module _ {V : Type 0} where
   none_kept end k [] h a = refl
   none_kept end k (e ∷ es) h a = rw (not_before end k e.0 a.0 h) (none_kept end k es h a.1)
 
-  none_behind : (end : Option (List ℕ)) (k : List ℕ) (o : Option V) (rest : List (List ℕ × Option V)) → IsRising ((k, o) ∷ rest) → is_before end k ≡ false → filter (λ e. is_before end e.0) (present_ones ((k, o) ∷ rest)) ≡ []
+  none_after : (end : Option (List ℕ)) (k : List ℕ) (o : Option V) (rest : List (List ℕ × Option V)) → IsRising ((k, o) ∷ rest) → is_before end k ≡ false → filter (λ e. is_before end e.0) (present_ones ((k, o) ∷ rest)) ≡ []
   unfolding IsStrictlySortedBy
-  none_behind end k None rest r h = none_kept end k (present_ones rest) h (all_present (λ j. order k j ≡ Less) rest r.0)
-  none_behind end k (Some v) rest r h = rw h (none_kept end k (present_ones rest) h (all_present (λ j. order k j ≡ Less) rest r.0))
+  none_after end k None rest r h = none_kept end k (present_ones rest) h (all_present (λ j. order k j ≡ Less) rest r.0)
+  none_after end k (Some v) rest r h = rw h (none_kept end k (present_ones rest) h (all_present (λ j. order k j ≡ Less) rest r.0))
 
   -- nor from a key on that isn't below the end
   pub rows-past : (end : Option (List ℕ)) (n : ℕ) (out all : List (List ℕ × V)) (k : List ℕ) (o : Option V) (rest : List (List ℕ × Option V)) → IsRising ((k, o) ∷ rest) → is_before end k ≡ false
       → out ++ rows_of_changes end n ((k, o) ∷ rest) ≡ all → out ≡ all
   rows-past end n out all k o rest r h t =
-      sym (append-nil out) ∙ ap (λ (es : List (List ℕ × V)). out ++ es) (sym (ap (λ (es : List (List ℕ × V)). take n es) (none_behind end k o rest r h) ∙ taken_none n)) ∙ t
+      sym (append-nil out) ∙ ap (λ (es : List (List ℕ × V)). out ++ es) (sym (ap (λ (es : List (List ℕ × V)). take n es) (none_after end k o rest r h) ∙ taken_none n)) ∙ t
 
   -- an absent key gives no row
   pub row-absent : (end : Option (List ℕ)) (n : ℕ) (out all : List (List ℕ × V)) (k : List ℕ) (o : Option (Bor V)) (rest : List (List ℕ × Option V)) → ((x : Bor V) → o ≡ Some x → ⊥)
@@ -222,7 +222,7 @@ module _ {V : Type 0} where
 
   pub keys-past : (end : Option (List ℕ)) (out all : List (List ℕ)) (k : List ℕ) (o : Option V) (rest : List (List ℕ × Option V)) → IsRising ((k, o) ∷ rest) → is_before end k ≡ false → out ++ keys_of_changes end ((k, o) ∷ rest) ≡ all → out ≡ all
   keys-past end out all k o rest r h t =
-      sym (append-nil out) ∙ ap (λ (es : List (List ℕ × V)). out ++ keys_of es) (sym (none_behind end k o rest r h)) ∙ t
+      sym (append-nil out) ∙ ap (λ (es : List (List ℕ × V)). out ++ keys_of es) (sym (none_after end k o rest r h)) ∙ t
 
   pub key-absent : (end : Option (List ℕ)) (out all : List (List ℕ)) (k : List ℕ) (o : Option (Bor V)) (rest : List (List ℕ × Option V)) → is_some o ≡ false → out ++ keys_of_changes end ((k, option_copied o) ∷ rest) ≡ all → out ++ keys_of_changes end rest ≡ all
   key-absent end out all k None rest a h = h

@@ -14,7 +14,7 @@ use Rattle.keys.proofs.RangeLemmas.{value_at-out_of_range}
 use Rattle.keys.proofs.RunLemmas.{rising-map_after, rising-map_after_all, map_after_all-append}
 use Rattle.keys.specs.declared.command.Command.{Command}
 use Rattle.keys.specs.declared.command.Command.TheVariants.{Get, Put, Add, Del, Scan, Wipe}
-use Rattle.delta_chain.specs.Layers.{said_or, with_run}
+use Rattle.delta_chain.specs.Layers.{change_or, with_run}
 use Rattle.delta_chain.proofs.LayerLemmas.{value_at-with_run, rising-with_run}
 use Rattle.page_runs.specs.NetRun.{noted, noted_all, noted_by, touched, net_run}
 use Rattle.page_runs.proofs.Touching.{touches, is_touched}
@@ -129,9 +129,9 @@ later_map true b q before after h = refl
 later_map false true q before after h = ap (λ (o : Option (List ℕ)). Some o) (sym (h refl))
 later_map false false q before after h = refl
 
-said_by : (t : Bool) (m after : Pairs) (q : List ℕ) → (t ≡ false → value_at q after ≡ value_at q m) → said_or (said_if t q after) (value_at q m) ≡ value_at q after
-said_by true m after q h = refl
-said_by false m after q h = sym (h refl)
+joined_changes : (t : Bool) (m after : Pairs) (q : List ℕ) → (t ≡ false → value_at q after ≡ value_at q m) → change_or (said_if t q after) (value_at q m) ≡ value_at q after
+joined_changes true m after q h = refl
+joined_changes false m after q h = sym (h refl)
 
 -- ---- a command that leaves a key
 
@@ -209,8 +209,8 @@ module _ {A : Type 0} where
   with_run-net_run m cs r =
       same_map (with_run m (net_run m cs)) (map_after_all m cs) (rising-with_run m (net_run m cs) r) (rising-map_after_all m cs r)
       (λ q. value_at-with_run m (net_run m cs) q r (rising-net_run m cs)
-      ∙ ap (λ (t : Option (Option (List ℕ))). said_or t (value_at q m)) (value_at-touched (map_after_all m cs) m cs q)
-      ∙ said_by (is_touched q m cs) m (map_after_all m cs) q (untouched_by_all m cs q r))
+      ∙ ap (λ (t : Option (Option (List ℕ))). change_or t (value_at q m)) (value_at-touched (map_after_all m cs) m cs q)
+      ∙ joined_changes (is_touched q m cs) m (map_after_all m cs) q (untouched_by_all m cs q r))
 
   -- ---- one more command
 

@@ -9,7 +9,7 @@ use Rattle.keys.specs.Range.{is_within, in_range, out_of_range}
 use Rattle.keys.proofs.RangeLemmas.{wiped_within}
 use Rattle.keys.proofs.MapLemmas.{value_at-with_pair_here, value_at-without_here}
 use Rattle.keys.specs.declared.settings.Settings.{Settings}
-use Rattle.delta_chain.specs.Layers.{Layers, said_or, holds, with_run, entries_of, IsInOrder}
+use Rattle.delta_chain.specs.Layers.{Layers, change_or, holds, with_run, entries_of, IsInOrder}
 use Rattle.delta_chain.proofs.LayerLemmas.{value_at-with_run, value_at-entries_of, rising-entries_of}
 use Rattle.page_runs.specs.AfterRun.{must_replace, class_after, class_of_size}
 use Rattle.page_runs.specs.NetRun.{noted, noted_all}
@@ -20,14 +20,14 @@ module _ {V : Type 0} where
   pub named_now : (p : Layers V) (run : List (List ℕ × Option V)) (k : List ℕ) (o : Option V) → IsInOrder p → IsRising run → Some o ≡ value_at k run → o ≡ value_at k (with_run (entries_of p) run)
   named_now p run k o a r h =
       let said = value_at-with_run (entries_of p) run k (rising-entries_of p a) r in
-      rw said (ap (λ (t : Option (Option V)). said_or t (value_at k (entries_of p))) h)
+      rw said (ap (λ (t : Option (Option V)). change_or t (value_at k (entries_of p))) h)
 
   -- a key that they don't name has what the page holds
   pub unnamed_now : (p : Layers V) (run : List (List ℕ × Option V)) (k : List ℕ) → IsInOrder p → IsRising run → None ≡ value_at k run → holds p k ≡ value_at k (with_run (entries_of p) run)
   unnamed_now p run k a r h =
       let said = value_at-with_run (entries_of p) run k (rising-entries_of p a) r in
       let held = value_at-entries_of p k a in
-      rw (said, ← held) (ap (λ (t : Option (Option V)). said_or t (value_at k (entries_of p))) h)
+      rw (said, ← held) (ap (λ (t : Option (Option V)). change_or t (value_at k (entries_of p))) h)
 
   -- what is noted of a key that was put, added or deleted, unless memory was refused
   noted_put : (m : List (List ℕ × V)) (run : List (List ℕ × Option V)) (k : List ℕ) (v : V) → with_pair run k (Some v) ≡ noted (with_pair m k v) run k

@@ -21,28 +21,28 @@ newest (run ∷ runs) = run
 abbrev pub page_before : {V : Type 0} → Layers V → WayBack V → Layers V
 page_before p (Same run) = p
 page_before p InFront = popped p
-page_before p (Replaced class husk) = popped (put_back husk p.base)
+page_before p (Replaced class emptied) = popped (put_back emptied p.base)
 
 -- the run
 abbrev pub run_before : {V : Type 0} → Layers V → WayBack V → Changes V
 run_before p (Same run) = run
 run_before p InFront = newest p.runs
-run_before p (Replaced class husk) = newest (put_back husk p.base).runs
+run_before p (Replaced class emptied) = newest (put_back emptied p.base).runs
 
 -- there is a run to be taken off, where one has to be, and a replaced page is a base alone
 abbrev pub CanUndo : {V : Type 0} → Layers V → WayBack V → Type 0
 CanUndo p (Same run) = ⊤
 CanUndo p InFront = 0 < length p.runs
-CanUndo p (Replaced class husk) = (p.runs ≡ []) × (0 < length (put_back husk p.base).runs)
+CanUndo p (Replaced class emptied) = (p.runs ≡ []) × (0 < length (put_back emptied p.base).runs)
 
 -- the class of the page now
 abbrev pub class_now : {V : Type 0} → WayBack V → Class
 class_now (Same run) = SameClass
 class_now InFront = Changed
-class_now (Replaced class husk) = class
+class_now (Replaced class emptied) = class
 
 -- whether it was replaced
 abbrev pub is_replaced_now : {V : Type 0} → WayBack V → Bool
 is_replaced_now (Same run) = false
 is_replaced_now InFront = false
-is_replaced_now (Replaced class husk) = true
+is_replaced_now (Replaced class emptied) = true

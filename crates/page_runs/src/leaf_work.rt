@@ -157,7 +157,8 @@ impl<'a> Work for LeafWork<'a> {
         };
         match put_leaf_run(self.alloc, &self.settings, chain, run, bounds) {
             Ok((mut chain, way_back)) => {
-                // The replies show which entries came and went, and the chain by itself knows only how many were named.
+                // The replies show which entries came and went, and the chain by itself knows only how
+                // many were named.
                 chain.bound(bounds);
                 boxed(
                     self.alloc,

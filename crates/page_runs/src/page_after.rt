@@ -20,7 +20,7 @@ pub(crate) enum WayBack<V> {
     /// The page is a new one. Of the page before, with the run in front, all is kept but the cells that were moved into the new one.
     Replaced {
         class: Class,
-        husk: Chain<V, Global>,
+        emptied: Chain<V, Global>,
     },
 }
 
@@ -79,13 +79,13 @@ pub(crate) fn replace<V: Cell<Global> + Drop>(
     ensures run_before { IfOk result (λ after. run_before after.0 after.1 ≡ newest before.runs) }
     ensures back { IfErr result (λ again. before ≡ in_front again.0 again.1) }
 {
-    let mut husk = before;
-    match take_base(alloc, &mut husk) {
+    let mut emptied = before;
+    match take_base(alloc, &mut emptied) {
         Ok(base) => {
             let class = class_of(settings, base.len());
-            Ok((Chain::of_base(base), WayBack::Replaced { class, husk }))
+            Ok((Chain::of_base(base), WayBack::Replaced { class, emptied }))
         }
-        Err(_) => Err(popped(husk)),
+        Err(_) => Err(popped(emptied)),
     }
 }
 
@@ -131,9 +131,9 @@ impl<V: Cell<Global> + Drop> WayBack<V> {
             WayBack::InFront => popped(page),
             WayBack::Replaced {
                 class: _class,
-                husk,
+                emptied,
             } => {
-                let mut before = husk;
+                let mut before = emptied;
                 put_back(alloc, &mut before, page.into_base());
                 popped(before)
             }

@@ -12,7 +12,7 @@ use Rattle.keys.specs.Order.{order, AreRisingKeys, IsRising}
 use Rattle.keys.specs.OrderedMap.{value_at}
 use Rattle.keys.proofs.Basics.{less_by}
 use Rattle.keys.proofs.MapLemmas.{total, same_key, order_itself, passes_same, flipped_less, flipped_greater}
-use Rattle.delta_chain.specs.Layers.{Layers, said_or, held_under, holds, entries_of, IsInOrder}
+use Rattle.delta_chain.specs.Layers.{Layers, change_or, held_under, holds, entries_of, IsInOrder}
 use Rattle.delta_chain.proofs.LayerLemmas.{value_at-entries_of}
 use Rattle.page_search.specs.Places.{KeyGoesTo}
 use Rattle.page_search.specs.Nearest.{is_on, nearness, past, are_first, named_under, IsNearest, HasNoneOn, IsNearestPlace, Parts}
@@ -96,8 +96,8 @@ itself_below k = rw (order_itself k) refl
 
 module _ (s : Side) (k : List ℕ) (ks : List (List ℕ)) (at : ℕ) (r : AreRisingKeys ks) (h : slice_get ks at ≡ Some k) where
   -- after the place where the key is, where it is with those before it
-  behind : is_on s k k ≡ are_first s → Parts s k ks (at + 1)
-  behind e =
+  following : is_on s k k ≡ are_first s → Parts s k ks (at + 1)
+  following e =
       let within = slice_get_within ks at k h in
       record {
         within = omega arith;
@@ -115,8 +115,8 @@ module _ (s : Side) (k : List ℕ) (ks : List (List ℕ)) (at : ℕ) (r : AreRis
         from = λ m i l p. elim (rising-or_same ks at m k i r h p l) [ inl b ↦ on_above s k i b | inr same ↦ rw (← same) e ];
       }
 
-  pub parts-behind : (s ≡ UpTo) ⊎ (s ≡ Above) → Parts s k ks (at + 1)
-  parts-behind e = behind (elim e [ inl u ↦ rw u (itself_up_to k) | inr a ↦ rw a (itself_above k) ])
+  pub parts-following : (s ≡ UpTo) ⊎ (s ≡ Above) → Parts s k ks (at + 1)
+  parts-following e = following (elim e [ inl u ↦ rw u (itself_up_to k) | inr a ↦ rw a (itself_above k) ])
 
   pub parts-there : s ≡ Below → Parts s k ks at
   parts-there e = before (rw e (itself_below k))
@@ -124,8 +124,8 @@ module _ (s : Side) (k : List ℕ) (ks : List (List ℕ)) (at : ℕ) (r : AreRis
 -- ---- the place of the nearest key of a list
 
 -- of rising keys, a higher one stands further on
-stands_behind : (ks : List (List ℕ)) (at m : ℕ) (j i : List ℕ) → AreRisingKeys ks → slice_get ks at ≡ Some j → slice_get ks m ≡ Some i → order j i ≡ Less → at < m
-stands_behind ks at m j i r p q h =
+stands_after : (ks : List (List ℕ)) (at m : ℕ) (j i : List ℕ) → AreRisingKeys ks → slice_get ks at ≡ Some j → slice_get ks m ≡ Some i → order j i ≡ Less → at < m
+stands_after ks at m j i r p q h =
     elim (cases_lt at m) [
       | inl l ↦ l
       | inr l ↦ absurd (elim (rising-or_same ks m at i j r q p l) [
@@ -140,7 +140,7 @@ module _ (k : List ℕ) (ks : List (List ℕ)) (at : ℕ) (r : AreRisingKeys ks)
   first_above p l = record {
     within = l;
     on = λ j q. p.from at j (omega arith) q;
-    none_nearer = λ m i j q t h. p.before m i (stands_behind ks m at i j r t q h) t;
+    none_nearer = λ m i j q t h. p.before m i (stands_after ks m at i j r t q h) t;
   }
 
   pub none_above : Parts Above k ks at → length ks ≤ at → HasNoneOn Above k ks
@@ -153,7 +153,7 @@ last_before s k ks at r f n p =
     record {
       within = omega arith;
       on = λ j q. p.before at j (omega arith) q ∙ f;
-      none_nearer = λ m i j q t h. let l = stands_behind ks at m j i r q t (sym (n j i) ∙ h) in p.from m i (omega arith) t ∙ ap not f;
+      none_nearer = λ m i j q t h. let l = stands_after ks at m j i r q t (sym (n j i) ∙ h) in p.from m i (omega arith) t ∙ ap not f;
     }
 
 none_before : (s : Side) (k : List ℕ) (ks : List (List ℕ)) → are_first s ≡ true → Parts s k ks 0 → HasNoneOn s k ks
@@ -243,16 +243,16 @@ module _ {V : Type 0} (s : Side) (k : List ℕ) (run : List (List ℕ × Option 
 -- ---- a step of the search
 
 module _ {V : Type 0} where
-  base_by : (o : Option V) → o ≡ said_or (option_map Some o) None
+  base_by : (o : Option V) → o ≡ change_or (option_map Some o) None
   base_by None = refl
   base_by (Some v) = refl
 
-  run_by : (o : Option (Option V)) (n : Option (Option V)) (h : Option V) → h ≡ said_or n None → said_or o h ≡ said_or (option_or o n) None
+  run_by : (o : Option (Option V)) (n : Option (Option V)) (h : Option V) → h ≡ change_or n None → change_or o h ≡ change_or (option_or o n) None
   run_by None n h e = e
   run_by (Some c) n h e = refl
 
   -- a page holds what the newest list that names the key says of it
-  pub held-named : (i : List ℕ) (runs : List (List (List ℕ × Option V))) (base : List (List ℕ × V)) → held_under i runs base ≡ said_or (named_under i runs base) None
+  pub held-named : (i : List ℕ) (runs : List (List (List ℕ × Option V))) (base : List (List ℕ × V)) → held_under i runs base ≡ change_or (named_under i runs base) None
   held-named i [] base = base_by (value_at i base)
   held-named i (run ∷ runs) base = run_by (value_at i run) (named_under i runs base) (held_under i runs base) (held-named i runs base)
 
@@ -260,8 +260,8 @@ module _ {V : Type 0} (s : Side) (k : List ℕ) (p : Layers V) where
   abbrev names : List ℕ → Option (Option V)
   names i = named_under i p.runs p.base
 
-  holds-by : (i : List ℕ) (o : Option (Option V)) → names i ≡ o → holds p i ≡ said_or o None
-  holds-by i o h = held-named i p.runs p.base ∙ ap (λ (t : Option (Option V)). said_or t None) h
+  holds-by : (i : List ℕ) (o : Option (Option V)) → names i ≡ o → holds p i ≡ change_or o None
+  holds-by i o h = held-named i p.runs p.base ∙ ap (λ (t : Option (Option V)). change_or t None) h
 
   -- where the page names no key, it holds none
   pub none-held : IsNearest s k names None → IsNearest s k (holds p) None

@@ -13,10 +13,10 @@ use Rattle.std.proofs.lemmas.Map.Made.{is_some-lookup}
 use Rattle.keys.specs.Order.{order}
 use Rattle.keys.specs.OrderedMap.{value_at}
 use Rattle.keys.proofs.MapLemmas.{is_itself, passes_same, flipped_less}
-use Rattle.delta_chain.specs.Layers.{Layers, said_or, holds, entries_of, AllRise, IsInOrder}
-use Rattle.delta_chain.specs.Merging.{asserted, said_by}
+use Rattle.delta_chain.specs.Layers.{Layers, change_or, holds, entries_of, AllRise, IsInOrder}
+use Rattle.delta_chain.specs.Merging.{asserted, joined_changes}
 use Rattle.delta_chain.proofs.LayerLemmas.{value_at-with_run}
-use Rattle.delta_chain.proofs.Overlays.{rising-asserted, rising-said_by}
+use Rattle.delta_chain.proofs.Overlays.{rising-asserted, rising-joined_changes}
 use Rattle.page_search.specs.Above.{above}
 use Rattle.page_search.specs.Costs.{fewest_among, is_key_among, fewest_in, walk_most, walk_least, nearest_most, floor_most, above_most}
 use Rattle.page_search.specs.Digits.{binary_digits}
@@ -83,15 +83,15 @@ module _ {V : Type 0} where
   value_at-asserted q [] = refl
   value_at-asserted q (c ∷ cs) = asserted_by (is_eq (order q c.0)) c.1 (value_at q (asserted cs)) (value_at q cs) (value_at-asserted q cs)
 
-  over_by : (o older below : Option (Option V)) → option_or o (option_or older below) ≡ option_or (said_or (option_map Some o) older) below
+  over_by : (o older below : Option (Option V)) → option_or o (option_or older below) ≡ option_or (change_or (option_map Some o) older) below
   over_by None older below = refl
   over_by (Some c) older below = refl
 
-  named-said_by : (q : List ℕ) (runs : List (List (List ℕ × Option V))) (base : List (List ℕ × V)) → AllRise runs base → named_under q runs base ≡ option_or (value_at q (said_by runs)) (option_map Some (value_at q base))
-  named-said_by q [] base r = refl
-  named-said_by q (run ∷ runs) base r =
-      let said = value_at-with_run (said_by runs) (asserted run) q (rising-said_by runs base r.1) (rising-asserted run r.0) in
-      rw (named-said_by q runs base r.1, said, value_at-asserted q run) (over_by (value_at q run) (value_at q (said_by runs)) (option_map Some (value_at q base)))
+  named-joined_changes : (q : List ℕ) (runs : List (List (List ℕ × Option V))) (base : List (List ℕ × V)) → AllRise runs base → named_under q runs base ≡ option_or (value_at q (joined_changes runs)) (option_map Some (value_at q base))
+  named-joined_changes q [] base r = refl
+  named-joined_changes q (run ∷ runs) base r =
+      let said = value_at-with_run (joined_changes runs) (asserted run) q (rising-joined_changes runs base r.1) (rising-asserted run r.0) in
+      rw (named-joined_changes q runs base r.1, said, value_at-asserted q run) (over_by (value_at q run) (value_at q (joined_changes runs)) (option_map Some (value_at q base)))
 
   absent_by : (o : Option (Option V)) (b : Option V) → option_or o (option_map Some b) ≡ Some None → o ≡ Some None
   absent_by None None h = absurd (cc)
@@ -99,8 +99,8 @@ module _ {V : Type 0} where
   absent_by (Some c) b h = h
 
   -- the base names no key as absent
-  said_absent : (j : List ℕ) (p : Layers V) → IsInOrder p → named_by p j ≡ Some None → value_at j (said_by p.runs) ≡ Some None
-  said_absent j p r h = absent_by (value_at j (said_by p.runs)) (value_at j p.base) (sym (named-said_by j p.runs p.base r) ∙ h)
+  said_absent : (j : List ℕ) (p : Layers V) → IsInOrder p → named_by p j ≡ Some None → value_at j (joined_changes p.runs) ≡ Some None
+  said_absent j p r h = absent_by (value_at j (joined_changes p.runs)) (value_at j p.base) (sym (named-joined_changes j p.runs p.base r) ∙ h)
 
 -- ---- past an absent key, fewer absent keys lie before the entry
 
@@ -163,15 +163,15 @@ end_by before between after more all walk p q = omega arith
 module _ {V : Type 0} (first s : Side) (key k : List ℕ) (p : Layers V) (before between after : ℕ) (w : after ≤ between + walk_most p) where
   -- a walk that comes to an absent key takes what the whole search may take for it
   pub most_past : (j : List ℕ) (x : Option (List ℕ × V)) → IsInOrder p → IsNearest s k (named_by p) (Some (j, None)) → IsNearest (past s) j (holds p) x
-      → between + count_passed s k x (said_by p.runs) * walk_most p ≤ before + count_passed first key x (said_by p.runs) * walk_most p
-      → after + count_passed (past s) j x (said_by p.runs) * walk_most p ≤ before + count_passed first key x (said_by p.runs) * walk_most p
+      → between + count_passed s k x (joined_changes p.runs) * walk_most p ≤ before + count_passed first key x (joined_changes p.runs) * walk_most p
+      → after + count_passed (past s) j x (joined_changes p.runs) * walk_most p ≤ before + count_passed first key x (joined_changes p.runs) * walk_most p
   most_past j x r n f h =
-      let fewer = fewer_passed s k j x n.on (said_by p.runs) (nearer_past s j (holds p) x f) (said_absent j p r n.has) in
-      more_by (before + count_passed first key x (said_by p.runs) * walk_most p) between after (count_passed s k x (said_by p.runs)) (count_passed (past s) j x (said_by p.runs)) (walk_most p) h w fewer
+      let fewer = fewer_passed s k j x n.on (joined_changes p.runs) (nearer_past s j (holds p) x f) (said_absent j p r n.has) in
+      more_by (before + count_passed first key x (joined_changes p.runs) * walk_most p) between after (count_passed s k x (joined_changes p.runs)) (count_passed (past s) j x (joined_changes p.runs)) (walk_most p) h w fewer
 
   -- and so does the last walk
-  pub most_end : (x : Option (List ℕ × V)) → between + count_passed s k x (said_by p.runs) * walk_most p ≤ before + count_passed first key x (said_by p.runs) * walk_most p → after ≤ before + nearest_most first key x p
-  most_end x h = end_by before between after (count_passed s k x (said_by p.runs)) (count_passed first key x (said_by p.runs)) (walk_most p) h w
+  pub most_end : (x : Option (List ℕ × V)) → between + count_passed s k x (joined_changes p.runs) * walk_most p ≤ before + count_passed first key x (joined_changes p.runs) * walk_most p → after ≤ before + nearest_most first key x p
+  most_end x h = end_by before between after (count_passed s k x (joined_changes p.runs)) (count_passed first key x (joined_changes p.runs)) (walk_most p) h w
 
 -- ---- the nearest key is one
 
@@ -191,7 +191,7 @@ module _ {T : Type 0} (s : Side) (k : List ℕ) (at : List ℕ → Option T) (j 
 -- ---- where the page holds the key itself
 
 module _ {V : Type 0} (k : List ℕ) (p : Layers V) where
-  named_as_held : (o : Option (Option V)) (v : V) → said_or o None ≡ Some v → o ≡ Some (Some v)
+  named_as_held : (o : Option (Option V)) (v : V) → change_or o None ≡ Some v → o ≡ Some (Some v)
   named_as_held None v h = absurd (cc)
   named_as_held (Some c) v h = ap (λ (t : Option V). Some t) h
 

@@ -6,7 +6,7 @@ use Rattle.keys.specs.Bytes.{Bytes, Pairs, Changes}
 use Rattle.keys.specs.Order.{order}
 use Rattle.keys.specs.OrderedMap.{value_at}
 use Rattle.delta_chain.specs.Layers.{Layers, entries_of}
-use Rattle.delta_chain.specs.Merging.{said_by}
+use Rattle.delta_chain.specs.Merging.{joined_changes}
 use Rattle.page_search.specs.Above.{above}
 use Rattle.page_search.specs.Digits.{binary_digits}
 use Rattle.page_search.specs.Floor.{floor}
@@ -53,7 +53,7 @@ walk_least k p = sum_by (λ run. fewest_in k run) p.runs + fewest_in k p.base
 
 -- what a search on this side of k may take that comes to this entry, or to none: one walk, and one more for each absent key that it passes
 abbrev pub nearest_most : {V : Type 0} → Side → Bytes → Option (Bytes × V) → Layers V → ℕ
-nearest_most s k x p = (1 + count_passed s k x (said_by p.runs)) * walk_most p
+nearest_most s k x p = (1 + count_passed s k x (joined_changes p.runs)) * walk_most p
 
 -- what a search for the page's last entry whose key isn't above k may take
 abbrev pub floor_most : {V : Type 0} → Bytes → Layers V → ℕ

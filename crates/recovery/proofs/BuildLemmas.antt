@@ -31,11 +31,11 @@ use Rattle.flush_log.specs.FlushText.{tree_in_log}
 use Rattle.flush_log.specs.Reading.{Found}
 use Rattle.flush_log.specs.Slot.{Slot}
 use Rattle.verify.specs.Report.{IsFaultOf}
-use Rattle.recovery.specs.BuiltTree.{in_places, log_pids, pages_told, logs_made, pages_made, filled, log_under}
-use Rattle.recovery.specs.Gathered.{telling, wanted_of, IsKept, IsKeptOf, AreGathered, first_segment}
+use Rattle.recovery.specs.BuiltTree.{in_places, log_pids, pages_of_logs, logs_made, pages_made, filled, log_under}
+use Rattle.recovery.specs.Gathered.{live_frames, wanted_of, IsKept, IsKeptOf, AreGathered, first_segment}
 use Rattle.recovery.specs.LogPages.{in_log, pages_under, pages_of, broken_in}
-use Rattle.recovery.specs.PageByLog.{told_page, page_in}
-use Rattle.recovery.specs.Rebuild.{HeldLog, held_log, told_in}
+use Rattle.recovery.specs.PageByLog.{page_from_start, page_in}
+use Rattle.recovery.specs.Rebuild.{HeldLog, held_log, page_of_frames}
 use Rattle.recovery.specs.StoreOfDisk.{frames_in, tree_by_log, wrong_in}
 use Rattle.recovery.specs.declared.gather.Gathering.{Gathering}
 use Rattle.recovery.specs.declared.gather.Kept.{Kept}
@@ -43,7 +43,7 @@ use Rattle.recovery.specs.declared.gather.Wanted.TheVariants.{Every}
 use Rattle.recovery.specs.declared.rebuild.PageLog.{PageLog}
 use Rattle.recovery.specs.declared.rebuild.Rebuilt.{Rebuilt}
 use Rattle.recovery.proofs.GatherLemmas.{keys-rise}
-use Rattle.recovery.proofs.KeptPages.{first_is, later_are, in-order, told-in_log, bytes-frames, telling-within, wanted-within, wanted-page}
+use Rattle.recovery.proofs.KeptPages.{first_is, later_are, in-order, state-in_log, bytes-frames, live_frames-within, wanted-within, wanted-page}
 use Rattle.recovery.proofs.PagesLemmas.{rising-pages_of}
 use Rattle.recovery.proofs.TableLemmas.{table-marked}
 
@@ -193,29 +193,29 @@ first_same : {X : Type 0} (x y : X) (xs ys : List X) → x ∷ xs ≡ y ∷ ys �
 first_same x y xs ys e = (cc, cc)
 
 -- what was made of logs are the pages that they make
-pub pages-made : (s : Format) (rs : List Rebuilt) (hs : List HeldLog) → logs_made rs ≡ hs → map (λ r. r.page) rs ≡ map (λ h. page_in (told_in s h.frames)) hs → pages_made rs ≡ pages_told s hs
+pub pages-made : (s : Format) (rs : List Rebuilt) (hs : List HeldLog) → logs_made rs ≡ hs → map (λ r. r.page) rs ≡ map (λ h. page_in (page_of_frames s h.frames)) hs → pages_made rs ≡ pages_of_logs s hs
 pages-made s [] [] e f = refl
 pages-made s [] (h ∷ hs) e f = absurd (cc)
 pages-made s (r ∷ rs) [] e f = absurd (cc)
 pages-made s (r ∷ rs) (h ∷ hs) e f =
     let held = first_same (held_log r.log) h (logs_made rs) hs e in
-    let made = first_same r.page (page_in (told_in s h.frames)) (map (λ (q : Rebuilt). q.page) rs) (map (λ (g : HeldLog). page_in (told_in s g.frames)) hs) f in
+    let made = first_same r.page (page_in (page_of_frames s h.frames)) (map (λ (q : Rebuilt). q.page) rs) (map (λ (g : HeldLog). page_in (page_of_frames s g.frames)) hs) f in
     ap (λ (x : HeldLog). entry_if x.pid r.page ++ pages_made rs) held.0
     ∙ ap (λ (o : Option PageOfKind). entry_if h.pid o ++ pages_made rs) made.0
-    ∙ ap (λ (ps : List (ℕ × PageOfKind)). entry_if h.pid (page_in (told_in s h.frames)) ++ ps) (pages-made s rs hs held.1 made.1)
+    ∙ ap (λ (ps : List (ℕ × PageOfKind)). entry_if h.pid (page_in (page_of_frames s h.frames)) ++ ps) (pages-made s rs hs held.1 made.1)
 
 -- ---- some at a time
 
-pages-behind : (s : Format) (gs hs : List HeldLog) → pages_told s (gs ++ hs) ≡ pages_told s gs ++ pages_told s hs
-pages-behind s [] hs = refl
-pages-behind s (g ∷ gs) hs =
-    ap (λ (ps : List (ℕ × PageOfKind)). entry_if g.pid (page_in (told_in s g.frames)) ++ ps) (pages-behind s gs hs)
-    ∙ sym (append_assoc (entry_if g.pid (page_in (told_in s g.frames))) (pages_told s gs) (pages_told s hs))
+pages-following : (s : Format) (gs hs : List HeldLog) → pages_of_logs s (gs ++ hs) ≡ pages_of_logs s gs ++ pages_of_logs s hs
+pages-following s [] hs = refl
+pages-following s (g ∷ gs) hs =
+    ap (λ (ps : List (ℕ × PageOfKind)). entry_if g.pid (page_in (page_of_frames s g.frames)) ++ ps) (pages-following s gs hs)
+    ∙ sym (append_assoc (entry_if g.pid (page_in (page_of_frames s g.frames))) (pages_of_logs s gs) (pages_of_logs s hs))
 
 -- of the pages that are kept: the table, the logs that were put aside and those that are left are all; and their pids rise in this order
 pub record AreAside (s : Format) (t : Mapping PageOfKind) (logs : List HeldLog) (left all : List (ℕ × Kept)) : Type 0 where
   pub rising : AreRisingPids (pids_in t (log_pids (logs ++ map log_under left)))
-  pub placed : filled t (pages_told s (logs ++ map log_under left)) ≡ record { places = in_places (pages_told s (map log_under all)); logged = [] }
+  pub placed : filled t (pages_of_logs s (logs ++ map log_under left)) ≡ record { places = in_places (pages_of_logs s (map log_under all)); logged = [] }
 
 log_pids-under : (es : List (ℕ × Kept)) → log_pids (map log_under es) ≡ keys_of es
 log_pids-under [] = refl
@@ -250,16 +250,16 @@ module _ (s : Format) (t : Mapping PageOfKind) (logs : List HeldLog) (left rest 
       ap (λ (es : List (ℕ × Kept)). logs ++ map log_under es) is ∙ sym (append_assoc logs (log_under e ∷ []) (map log_under rest)) ∙ ap (λ (hs : List HeldLog). hs ++ map log_under rest) (sym put) in
       record {
         rising = subst (λ (hs : List HeldLog). AreRisingPids (pids_in t (log_pids hs))) same h.rising;
-        placed = ap (λ (hs : List HeldLog). filled t (pages_told s hs)) (sym same) ∙ h.placed;
+        placed = ap (λ (hs : List HeldLog). filled t (pages_of_logs s hs)) (sym same) ∙ h.placed;
       }
 
   -- and one that has no frames need not be
   pub aside-passed : e.1.frames.items ≡ [] → AreAside s t logs rest all
   aside-passed none =
-      let split : pages_told s (logs ++ map log_under left) ≡ pages_told s (logs ++ map log_under rest) =
-      ap (λ (es : List (ℕ × Kept)). pages_told s (logs ++ map log_under es)) is ∙ pages-behind s logs (log_under e ∷ map log_under rest)
-      ∙ ap (λ (bs : List ℕ). pages_told s logs ++ (entry_if e.0 (page_in (told_in s bs)) ++ pages_told s (map log_under rest))) none
-      ∙ sym (pages-behind s logs (map log_under rest)) in
+      let split : pages_of_logs s (logs ++ map log_under left) ≡ pages_of_logs s (logs ++ map log_under rest) =
+      ap (λ (es : List (ℕ × Kept)). pages_of_logs s (logs ++ map log_under es)) is ∙ pages-following s logs (log_under e ∷ map log_under rest)
+      ∙ ap (λ (bs : List ℕ). pages_of_logs s logs ++ (entry_if e.0 (page_in (page_of_frames s bs)) ++ pages_of_logs s (map log_under rest))) none
+      ∙ sym (pages-following s logs (map log_under rest)) in
       let parts : pids_in t (log_pids (logs ++ map log_under left)) ≡ (keys_of t.places ++ log_pids logs) ++ e.0 ∷ log_pids (map log_under rest) =
       ap (λ (es : List (ℕ × Kept)). pids_in t (log_pids (logs ++ map log_under es))) is ∙ ap (λ (ns : List ℕ). keys_of t.places ++ ns) (log_pids-append logs (log_under e ∷ map log_under rest))
       ∙ sym (append_assoc (keys_of t.places) (log_pids logs) (e.0 ∷ log_pids (map log_under rest))) in
@@ -285,64 +285,64 @@ module _ (s : Format) (t : Mapping PageOfKind) (logs : List HeldLog) (left all :
       split_rising (keys_of t.places ++ log_pids logs) (log_pids (map log_under left))
       (subst (λ (ns : List ℕ). AreRisingPids ns) (ap (λ (ns : List ℕ). keys_of t.places ++ ns) (log_pids-append logs (map log_under left)) ∙ sym (append_assoc (keys_of t.places) (log_pids logs) (log_pids (map log_under left)))) h.rising)
 
-  keys-filled : (hs : List HeldLog) (ns : List ℕ) → AreRisingPids ((keys_of t.places ++ log_pids hs) ++ ns) → AreRisingPids (keys_of (filled t (pages_told s hs)).places ++ ns)
-  keys-filled hs ns r = subst (λ (ms : List ℕ). AreRisingPids (ms ++ ns)) (sym (keys-append t.places (in_places (pages_told s hs)))) (subst (λ (ms : List ℕ). AreRisingPids ms) (sym (append_assoc (keys_of t.places) (keys_of (in_places (pages_told s hs))) ns)) (thinned (keys_of t.places) hs ns (subst (λ (ms : List ℕ). AreRisingPids ms) (append_assoc (keys_of t.places) (log_pids hs) ns) r)))
+  keys-filled : (hs : List HeldLog) (ns : List ℕ) → AreRisingPids ((keys_of t.places ++ log_pids hs) ++ ns) → AreRisingPids (keys_of (filled t (pages_of_logs s hs)).places ++ ns)
+  keys-filled hs ns r = subst (λ (ms : List ℕ). AreRisingPids (ms ++ ns)) (sym (keys-append t.places (in_places (pages_of_logs s hs)))) (subst (λ (ms : List ℕ). AreRisingPids ms) (sym (append_assoc (keys_of t.places) (keys_of (in_places (pages_of_logs s hs))) ns)) (thinned (keys_of t.places) hs ns (subst (λ (ms : List ℕ). AreRisingPids ms) (append_assoc (keys_of t.places) (log_pids hs) ns) r)))
     where
       keys-append : (es gs : List (ℕ × Option PageOfKind)) → keys_of (es ++ gs) ≡ keys_of es ++ keys_of gs
       keys-append [] gs = refl
       keys-append (x ∷ es) gs = ap (λ (ms : List ℕ). x.0 ∷ ms) (keys-append es gs)
 
       thin_by : (o : Option PageOfKind) (ms : List ℕ) (g : HeldLog) (gs : List HeldLog) (ns : List ℕ) → AreRisingPids (ms ++ ((g.pid ∷ log_pids gs) ++ ns))
-          → ((ks : List ℕ) → AreRisingPids (ks ++ (log_pids gs ++ ns)) → AreRisingPids (ks ++ (keys_of (in_places (pages_told s gs)) ++ ns)))
-          → AreRisingPids (ms ++ (keys_of (in_places (entry_if g.pid o ++ pages_told s gs)) ++ ns))
+          → ((ks : List ℕ) → AreRisingPids (ks ++ (log_pids gs ++ ns)) → AreRisingPids (ks ++ (keys_of (in_places (pages_of_logs s gs)) ++ ns)))
+          → AreRisingPids (ms ++ (keys_of (in_places (entry_if g.pid o ++ pages_of_logs s gs)) ++ ns))
       thin_by None ms g gs ns r on = on ms (rising-left_out ms (log_pids gs ++ ns) g.pid r)
       thin_by (Some p) ms g gs ns r on =
-          subst (λ (ks : List ℕ). AreRisingPids ks) (append_assoc ms (g.pid ∷ []) (keys_of (in_places (pages_told s gs)) ++ ns))
+          subst (λ (ks : List ℕ). AreRisingPids ks) (append_assoc ms (g.pid ∷ []) (keys_of (in_places (pages_of_logs s gs)) ++ ns))
           (on (ms ++ g.pid ∷ []) (subst (λ (ks : List ℕ). AreRisingPids ks) (sym (append_assoc ms (g.pid ∷ []) (log_pids gs ++ ns))) r))
 
-      thinned : (ms : List ℕ) (gs : List HeldLog) (ns : List ℕ) → AreRisingPids (ms ++ (log_pids gs ++ ns)) → AreRisingPids (ms ++ (keys_of (in_places (pages_told s gs)) ++ ns))
+      thinned : (ms : List ℕ) (gs : List HeldLog) (ns : List ℕ) → AreRisingPids (ms ++ (log_pids gs ++ ns)) → AreRisingPids (ms ++ (keys_of (in_places (pages_of_logs s gs)) ++ ns))
       thinned ms [] ns r = r
-      thinned ms (g ∷ gs) ns r = thin_by (page_in (told_in s g.frames)) ms g gs ns r (λ ks q. thinned ks gs ns q)
+      thinned ms (g ∷ gs) ns r = thin_by (page_in (page_of_frames s g.frames)) ms g gs ns r (λ ks q. thinned ks gs ns q)
 
   -- and then none is aside
-  pub aside-built : (now : Mapping PageOfKind) (none : List HeldLog) → now ≡ filled t (pages_told s logs) → none ≡ [] → AreAside s now none left all
+  pub aside-built : (now : Mapping PageOfKind) (none : List HeldLog) → now ≡ filled t (pages_of_logs s logs) → none ≡ [] → AreAside s now none left all
   aside-built now none built empty =
-      let e : AreAside s (filled t (pages_told s logs)) [] left all = record {
+      let e : AreAside s (filled t (pages_of_logs s logs)) [] left all = record {
         rising = keys-filled logs (log_pids (map log_under left))
             (subst (λ (ns : List ℕ). AreRisingPids ns) (ap (λ (ns : List ℕ). keys_of t.places ++ ns) (log_pids-append logs (map log_under left)) ∙ sym (append_assoc (keys_of t.places) (log_pids logs) (log_pids (map log_under left)))) h.rising);
-        placed = filled-more t (pages_told s logs) (pages_told s (map log_under left)) ∙ ap (λ (ps : List (ℕ × PageOfKind)). filled t ps) (sym (pages-behind s logs (map log_under left))) ∙ h.placed;
+        placed = filled-more t (pages_of_logs s logs) (pages_of_logs s (map log_under left)) ∙ ap (λ (ps : List (ℕ × PageOfKind)). filled t ps) (sym (pages-following s logs (map log_under left))) ∙ h.placed;
       } in
-      subst (λ (u : Mapping PageOfKind). AreAside s u none left all) (sym built) (subst (λ (hs : List HeldLog). AreAside s (filled t (pages_told s logs)) hs left all) (sym empty) e)
+      subst (λ (u : Mapping PageOfKind). AreAside s u none left all) (sym built) (subst (λ (hs : List HeldLog). AreAside s (filled t (pages_of_logs s logs)) hs left all) (sym empty) e)
 
   -- where none is left either, all are in the table once these are built
-  pub aside-all : (now : Mapping PageOfKind) → left ≡ [] → now ≡ filled t (pages_told s logs) → now ≡ record { places = in_places (pages_told s (map log_under all)); logged = [] }
+  pub aside-all : (now : Mapping PageOfKind) → left ≡ [] → now ≡ filled t (pages_of_logs s logs) → now ≡ record { places = in_places (pages_of_logs s (map log_under all)); logged = [] }
   aside-all now none built =
-      built ∙ ap (λ (hs : List HeldLog). filled t (pages_told s hs)) (sym (append-nil logs))
-      ∙ ap (λ (es : List (ℕ × Kept)). filled t (pages_told s (logs ++ map log_under es))) (sym none) ∙ h.placed
+      built ∙ ap (λ (hs : List HeldLog). filled t (pages_of_logs s hs)) (sym (append-nil logs))
+      ∙ ap (λ (es : List (ℕ × Kept)). filled t (pages_of_logs s (logs ++ map log_under es))) (sym none) ∙ h.placed
 
 -- ---- what is kept gives the pages of the log
 
 module _ (s : Format) (good : first_bad_field s.settings ≡ None) (head : ℕ) (found : List Found) (within : AllByRecursion (λ f. is_frame s f.frame ≡ true) found) where
   -- the frames that are kept of a page make it
-  page_kept : (k : Kept) (pid : ℕ) → IsKept Every head k (telling pid found) → page_in (told_in s k.frames.items) ≡ page_in (in_log (frames_in found) pid)
+  page_kept : (k : Kept) (pid : ℕ) → IsKept Every head k (live_frames pid found) → page_in (page_of_frames s k.frames.items) ≡ page_in (in_log (frames_in found) pid)
   page_kept k pid h =
-      ap (λ (bs : List ℕ). page_in (told_in s bs)) h.frames
-      ∙ ap (λ (fs : List Frame). page_in (told_page (map (λ (f : Frame). f.content) fs))) (bytes-frames s good (wanted_of Every head (telling pid found)) (wanted-within s Every head (telling pid found) (telling-within s pid found within)))
-      ∙ wanted-page head (telling pid found)
-      ∙ ap page_in (sym (told-in_log found pid))
+      ap (λ (bs : List ℕ). page_in (page_of_frames s bs)) h.frames
+      ∙ ap (λ (fs : List Frame). page_in (page_from_start (map (λ (f : Frame). f.content) fs))) (bytes-frames s good (wanted_of Every head (live_frames pid found)) (wanted-within s Every head (live_frames pid found) (live_frames-within s pid found within)))
+      ∙ wanted-page head (live_frames pid found)
+      ∙ ap page_in (sym (state-in_log found pid))
 
   abbrev KeepEach : List (ℕ × Kept) → Type 0
-  KeepEach es = (n : ℕ) → is_among n (keys_of es) ≡ true → IsKeptOf Every head (lookup (nat_eq n) es) (telling n found)
+  KeepEach es = (n : ℕ) → is_among n (keys_of es) ≡ true → IsKeptOf Every head (lookup (nat_eq n) es) (live_frames n found)
 
-  pages_kept : (es : List (ℕ × Kept)) → AreRisingPids (keys_of es) → KeepEach es → pages_told s (map log_under es) ≡ pages_under (frames_in found) (keys_of es)
+  pages_kept : (es : List (ℕ × Kept)) → AreRisingPids (keys_of es) → KeepEach es → pages_of_logs s (map log_under es) ≡ pages_under (frames_in found) (keys_of es)
   pages_kept [] r h = refl
   pages_kept ((k, v) ∷ es) r h =
-      ap (λ (o : Option PageOfKind). entry_if k o ++ pages_told s (map log_under es)) (page_kept v k (first_is Every head found k v es h))
+      ap (λ (o : Option PageOfKind). entry_if k o ++ pages_of_logs s (map log_under es)) (page_kept v k (first_is Every head found k v es h))
       ∙ ap (λ (ps : List (ℕ × PageOfKind)). entry_if k (page_in (in_log (frames_in found) k)) ++ ps) (pages_kept es r.1 (later_are Every head found k v es r h))
 
 -- of a log whose frames are all kept
 pub pages-gathered : (s : Format) (g : Gathering) (found : List Found) → first_bad_field s.settings ≡ None → IsStrictlySortedBy nat_cmp (keys_of g.by_pid.entries) → AreGathered s Every g found
-    → pages_told s (map log_under g.by_pid.entries) ≡ pages_of (frames_in found)
+    → pages_of_logs s (map log_under g.by_pid.entries) ≡ pages_of (frames_in found)
 pages-gathered s g found good sorted h =
     let es = g.by_pid.entries in
     let order = in-order Every (first_segment found) g.by_pid found sorted h.live.kept in

@@ -125,7 +125,7 @@ module _ (s : Settings) (text : Text) (tree : Tree) (slot : Slot) (within : HasF
       let sized = are_sized s good in
       let size = sized.least_size in
       let count = sized.least_count in
-      let behind = was.behind in
+      let following = was.following in
       let from = (split-tail s slot.head slot.tail (omega arith) (omega arith)).from in
       let last = leb-false (slot.head + s.segments - 1) (last_segment s next.tail) free in
       next_good (format_with s text) slot.sequence slot next frames good was within refl number refl small (omega arith) from (omega (arith, last, count)) root some low

@@ -58,8 +58,8 @@ module _ (s : Format) where
   frames-within : (is_end : List ℕ → Bool) (most : ℕ) (bytes : List ℕ) (fs : List Frame) → read_frames s is_end most bytes ≡ frames_read fs → Good fs
   frames-within is_end zero bytes fs e = end_by (is_end bytes) (Err (length bytes)) fs (λ h. absurd (cc)) e
   frames-within is_end (suc most) bytes fs e =
-      end_by (is_end bytes) (read_then (length bytes) (read_frame s bytes) (λ behind. read_frames s is_end most behind)) fs
-      (λ h. then_by (length bytes) (read_frame s bytes) (λ behind. read_frames s is_end most behind) fs (λ p g. of_any (read_any bytes) p g) (λ behind gs g. frames-within is_end most behind gs g) h) e
+      end_by (is_end bytes) (read_then (length bytes) (read_frame s bytes) (λ following. read_frames s is_end most following)) fs
+      (λ h. then_by (length bytes) (read_frame s bytes) (λ following. read_frames s is_end most following) fs (λ p g. of_any (read_any bytes) p g) (λ following gs g. frames-within is_end most following gs g) h) e
 
   all_good : (n : ℕ) (fs : List Frame) → Good fs → GoodFound (all_in n fs)
   all_good n [] a = tt
@@ -78,8 +78,8 @@ module _ (s : Format) where
 
   both : (x y : Result (List Found) Fault) (found : List Found) → followed_by x y ≡ ok found → ((xs : List Found) → x ≡ ok xs → GoodFound xs) → ((ys : List Found) → y ≡ ok ys → GoodFound ys) → GoodFound found
   both x y found e f g =
-      let (xs, ys, before, behind, same) = followed_by-ok x y found e in
-      subst (λ (zs : List Found). GoodFound zs) (sym same) (all-append (λ z. is_frame s z.frame ≡ true) xs ys (f xs before) (g ys behind))
+      let (xs, ys, before, following, same) = followed_by-ok x y found e in
+      subst (λ (zs : List Found). GoodFound zs) (sym same) (all-append (λ z. is_frame s z.frame ≡ true) xs ys (f xs before) (g ys following))
 
   earlier-within : (file : List ℕ) (head k : ℕ) (found : List Found) → read_earlier s file head k ≡ ok found → GoodFound found
   earlier-within file head zero found e = let same : [] ≡ found = cc in subst (λ (xs : List Found). GoodFound xs) same tt

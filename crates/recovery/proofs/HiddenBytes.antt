@@ -32,7 +32,7 @@ module _ (s : Settings) (file c : List ℕ) (on_disk : Store) (by : StandsBy s f
       let sized = are_sized s good in
       let size = sized.least_size in
       let count = sized.least_count in
-      let behind = (slot-read s on_disk file by).behind in
+      let following = (slot-read s on_disk file by).following in
       let settings = settings_same (IsLookedAt s read) file c agree (omega (arith, whole)) (λ i low. inl low) in
       let same = hidden (format_of s by.slot) file c by.slot.head by.slot.tail (omega arith) (omega arith) whole (omega arith) (agree_less (IsLookedAt s read) (IsInLog s by.slot.head by.slot.tail) file c (λ i h. inr (inr h)) agree) in
       stands-for s c by.slot by.found (record { settings = settings ∙ by.reads.settings; slot = slot; log = same ∙ by.reads.log }) by.sound by.proper

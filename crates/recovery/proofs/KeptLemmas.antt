@@ -15,14 +15,14 @@ use Rattle.frame_codec.specs.Frame.{Content, Frame, bytes_of}
 use Rattle.frame_codec.specs.Frame.Content.{FullLeaf, DeltaLeaf, FullIndex, DeltaIndex, Free}
 use Rattle.frame_codec.specs.Skimmed.{kind_of}
 use Rattle.flush_log.specs.Reading.{Found}
-use Rattle.recovery.specs.Gathered.{telling, contents_in, is_wanted_in, wanted_of, spelled, IsTold, IsKept, with_leaf_run, with_index_run, told_with, with_base, with_run, kept_with, IsKeptOf, AreKept, first_segment, first_found}
+use Rattle.recovery.specs.Gathered.{live_frames, contents_in, is_wanted_in, wanted_of, spelled, IsStateOf, IsKept, with_leaf_run, with_index_run, state_after, with_base, with_run, kept_with, IsKeptOf, AreKept, first_segment, first_found}
 use Rattle.recovery.specs.LogPages.{contents_of}
-use Rattle.recovery.specs.PageByLog.{is_base, is_start, from_last, InLog, with_newer_run, begun_page, continued, told_page}
+use Rattle.recovery.specs.PageByLog.{is_base, is_start, from_last, InLog, with_newer_run, begun_page, continued, page_from_start}
 use Rattle.recovery.specs.PageByLog.InLog.{Missing, Present, Broken}
 use Rattle.recovery.specs.StoreOfDisk.{frames_in}
 use Rattle.recovery.specs.declared.gather.Kept.{Kept}
-use Rattle.recovery.specs.declared.gather.Told.{Told}
-use Rattle.recovery.specs.declared.gather.Told.TheVariants as told
+use Rattle.recovery.specs.declared.gather.PageState.{PageState}
+use Rattle.recovery.specs.declared.gather.PageState.TheVariants as state
 use Rattle.recovery.specs.declared.gather.Wanted.{Wanted}
 use Rattle.recovery.proofs.GatherLemmas.{same_at, among_more, same_turned}
 use Rattle.recovery.proofs.PartLemmas.{from_last-none, from_last-at, from_last-more, from_last-some}
@@ -39,13 +39,13 @@ starts f = is_start f.frame.content
 abbrev pub of_pid : ℕ → List Found → List Found
 of_pid pid found = filter (λ f. nat_eq f.frame.pid pid) found
 
-said_by : (b : Bool) (f : Found) (fs : List Frame) (gs : List Found) → map (λ (g : Frame). g.content) fs ≡ contents_in gs → map (λ (g : Frame). g.content) (cond b (f.frame ∷ fs) fs) ≡ contents_in (cond b (f ∷ gs) gs)
-said_by true f fs gs e = ap (λ (cs : List Content). f.frame.content ∷ cs) e
-said_by false f fs gs e = e
+joined_changes : (b : Bool) (f : Found) (fs : List Frame) (gs : List Found) → map (λ (g : Frame). g.content) fs ≡ contents_in gs → map (λ (g : Frame). g.content) (cond b (f.frame ∷ fs) fs) ≡ contents_in (cond b (f ∷ gs) gs)
+joined_changes true f fs gs e = ap (λ (cs : List Content). f.frame.content ∷ cs) e
+joined_changes false f fs gs e = e
 
 pub contents-found : (pid : ℕ) (found : List Found) → contents_of pid (frames_in found) ≡ contents_in (of_pid pid found)
 contents-found pid [] = refl
-contents-found pid (f ∷ fs) = said_by (nat_eq f.frame.pid pid) f (filter (λ g. nat_eq g.pid pid) (frames_in fs)) (of_pid pid fs) (contents-found pid fs)
+contents-found pid (f ∷ fs) = joined_changes (nat_eq f.frame.pid pid) f (filter (λ g. nat_eq g.pid pid) (frames_in fs)) (of_pid pid fs) (contents-found pid fs)
 
 filter_by : (b : Bool) (f : Found) (xs ys zs : List Found) → xs ≡ ys ++ zs → cond b (f ∷ xs) xs ≡ cond b (f ∷ ys) ys ++ zs
 filter_by true f xs ys zs e = ap (λ (x : List Found). f ∷ x) e
@@ -58,88 +58,88 @@ of_pid-append pid (x ∷ xs) ys = filter_by (nat_eq x.frame.pid pid) x (of_pid p
 -- ---- the part from the last start on, with one more after it
 
 -- one more after some, unless there are none
-abbrev pub behind_some : {X : Type 0} → List X → X → List X
-behind_some [] x = []
-behind_some (y ∷ ys) x = y ∷ (ys ++ x ∷ [])
+abbrev pub after_some : {X : Type 0} → List X → X → List X
+after_some [] x = []
+after_some (y ∷ ys) x = y ∷ (ys ++ x ∷ [])
 
 module _ {X : Type 0} (test : X → Bool) where
-  behind_any : (xs : List X) (x : X) → list_any test xs ≡ true → behind_some xs x ≡ xs ++ x ∷ []
-  behind_any [] x e = absurd (cc)
-  behind_any (y ∷ ys) x e = refl
+  after_any : (xs : List X) (x : X) → list_any test xs ≡ true → after_some xs x ≡ xs ++ x ∷ []
+  after_any [] x e = absurd (cc)
+  after_any (y ∷ ys) x e = refl
 
   not_one : (x : X) → test x ≡ false → list_any test (x ∷ []) ≡ false
   not_one x e = rw e refl
 
-  run_behind : (b : Bool) (xs : List X) (x : X) → list_any test xs ≡ b → test x ≡ false → from_last test (xs ++ x ∷ []) ≡ behind_some (from_last test xs) x
-  run_behind true xs x some e = from_last-more test xs (x ∷ []) some (not_one x e) ∙ sym (behind_any (from_last test xs) x (from_last-some test xs some))
-  run_behind false xs x none e =
+  run_after : (b : Bool) (xs : List X) (x : X) → list_any test xs ≡ b → test x ≡ false → from_last test (xs ++ x ∷ []) ≡ after_some (from_last test xs) x
+  run_after true xs x some e = from_last-more test xs (x ∷ []) some (not_one x e) ∙ sym (after_any (from_last test xs) x (from_last-some test xs some))
+  run_after false xs x none e =
       from_last-none test (xs ++ x ∷ []) (list_any-append test xs (x ∷ []) ∙ ap (λ (b : Bool). b || list_any test (x ∷ [])) none ∙ not_one x e)
-      ∙ ap (λ (ys : List X). behind_some ys x) (sym (from_last-none test xs none))
+      ∙ ap (λ (ys : List X). after_some ys x) (sym (from_last-none test xs none))
 
-  part_by : (b : Bool) (xs : List X) (x : X) → test x ≡ b → from_last test (xs ++ x ∷ []) ≡ cond b (x ∷ []) (behind_some (from_last test xs) x)
+  part_by : (b : Bool) (xs : List X) (x : X) → test x ≡ b → from_last test (xs ++ x ∷ []) ≡ cond b (x ∷ []) (after_some (from_last test xs) x)
   part_by true xs x e = from_last-at test xs x [] e refl
-  part_by false xs x e = run_behind (list_any test xs) xs x refl e
+  part_by false xs x e = run_after (list_any test xs) xs x refl e
 
-  pub part-more : (xs : List X) (x : X) → from_last test (xs ++ x ∷ []) ≡ cond (test x) (x ∷ []) (behind_some (from_last test xs) x)
+  pub part-more : (xs : List X) (x : X) → from_last test (xs ++ x ∷ []) ≡ cond (test x) (x ∷ []) (after_some (from_last test xs) x)
   part-more xs x = part_by (test x) xs x refl
 
 -- a page's live frames, with one more of it
 abbrev pub part_with : List Found → Found → List Found
-part_with fs f = cond (starts f) (f ∷ []) (behind_some fs f)
+part_with fs f = cond (starts f) (f ∷ []) (after_some fs f)
 
 one_by : (b : Bool) (f : Found) (pid : ℕ) → nat_eq f.frame.pid pid ≡ b → of_pid pid (f ∷ []) ≡ cond b (f ∷ []) []
 one_by true f pid e = rw e refl
 one_by false f pid e = rw e refl
 
-pub telling-own : (pid : ℕ) (found : List Found) (f : Found) → nat_eq f.frame.pid pid ≡ true → telling pid (found ++ f ∷ []) ≡ part_with (telling pid found) f
-telling-own pid found f e =
+pub live_frames-own : (pid : ℕ) (found : List Found) (f : Found) → nat_eq f.frame.pid pid ≡ true → live_frames pid (found ++ f ∷ []) ≡ part_with (live_frames pid found) f
+live_frames-own pid found f e =
     ap (λ (fs : List Found). from_last starts fs) (of_pid-append pid found (f ∷ []) ∙ ap (λ (fs : List Found). of_pid pid found ++ fs) (one_by true f pid e))
     ∙ part-more starts (of_pid pid found) f
 
-pub telling-other : (pid : ℕ) (found : List Found) (f : Found) → nat_eq f.frame.pid pid ≡ false → telling pid (found ++ f ∷ []) ≡ telling pid found
-telling-other pid found f e =
+pub live_frames-other : (pid : ℕ) (found : List Found) (f : Found) → nat_eq f.frame.pid pid ≡ false → live_frames pid (found ++ f ∷ []) ≡ live_frames pid found
+live_frames-other pid found f e =
     ap (λ (fs : List Found). from_last starts fs) (of_pid-append pid found (f ∷ []) ∙ ap (λ (fs : List Found). of_pid pid found ++ fs) (one_by false f pid e) ∙ append-nil (of_pid pid found))
 
 -- ---- the state of a page
 
-with_some : (cs : List Content) (c : Content) → cs ≢ [] → told_page (behind_some cs c) ≡ continued (told_page cs) c
+with_some : (cs : List Content) (c : Content) → cs ≢ [] → page_from_start (after_some cs c) ≡ continued (page_from_start cs) c
 with_some [] c some = absurd (some refl)
 with_some (d ∷ ds) c some = fold-append continued (begun_page d) ds (c ∷ [])
 
-some_told : (cs : List Content) (q : InLog) → told_page cs ≡ q → q ≢ Missing → cs ≢ []
-some_told cs q e other none = other (sym e ∙ ap told_page none)
+some_state : (cs : List Content) (q : InLog) → page_from_start cs ≡ q → q ≢ Missing → cs ≢ []
+some_state cs q e other none = other (sym e ∙ ap page_from_start none)
 
-behind_told : (cs : List Content) (c : Content) (q : InLog) → told_page cs ≡ q → q ≢ Missing → told_page (behind_some cs c) ≡ continued q c
-behind_told cs c q e other = with_some cs c (some_told cs q e other) ∙ ap (λ (r : InLog). continued r c) e
+continued_after : (cs : List Content) (c : Content) (q : InLog) → page_from_start cs ≡ q → q ≢ Missing → page_from_start (after_some cs c) ≡ continued q c
+continued_after cs c q e other = with_some cs c (some_state cs q e other) ∙ ap (λ (r : InLog). continued r c) e
 
-leaf_run : (t : Told) (cs : List Content) (run : List (List ℕ × Option (List ℕ))) → IsTold t cs → IsTold (with_leaf_run t) (behind_some cs (DeltaLeaf run))
-leaf_run told.Nothing cs run h = ap (λ (ds : List Content). behind_some ds (DeltaLeaf run)) h
-leaf_run told.Leaf cs run (p, h) = (with_newer_run p run, behind_told cs (DeltaLeaf run) (Present (Leaf p)) h (λ e. absurd (cc)))
-leaf_run told.Index cs run (p, h) = behind_told cs (DeltaLeaf run) (Present (Index p)) h (λ e. absurd (cc))
-leaf_run told.Free cs run h = ap (λ (ds : List Content). told_page (behind_some ds (DeltaLeaf run))) h
-leaf_run told.Unfit cs run h = behind_told cs (DeltaLeaf run) Broken h (λ e. absurd (cc))
+leaf_run : (t : PageState) (cs : List Content) (run : List (List ℕ × Option (List ℕ))) → IsStateOf t cs → IsStateOf (with_leaf_run t) (after_some cs (DeltaLeaf run))
+leaf_run state.Nothing cs run h = ap (λ (ds : List Content). after_some ds (DeltaLeaf run)) h
+leaf_run state.Leaf cs run (p, h) = (with_newer_run p run, continued_after cs (DeltaLeaf run) (Present (Leaf p)) h (λ e. absurd (cc)))
+leaf_run state.Index cs run (p, h) = continued_after cs (DeltaLeaf run) (Present (Index p)) h (λ e. absurd (cc))
+leaf_run state.Free cs run h = ap (λ (ds : List Content). page_from_start (after_some ds (DeltaLeaf run))) h
+leaf_run state.Unfit cs run h = continued_after cs (DeltaLeaf run) Broken h (λ e. absurd (cc))
 
-index_run : (t : Told) (cs : List Content) (run : List (List ℕ × Option ℕ)) → IsTold t cs → IsTold (with_index_run t) (behind_some cs (DeltaIndex run))
-index_run told.Nothing cs run h = ap (λ (ds : List Content). behind_some ds (DeltaIndex run)) h
-index_run told.Leaf cs run (p, h) = behind_told cs (DeltaIndex run) (Present (Leaf p)) h (λ e. absurd (cc))
-index_run told.Index cs run (p, h) = (with_newer_run p run, behind_told cs (DeltaIndex run) (Present (Index p)) h (λ e. absurd (cc)))
-index_run told.Free cs run h = ap (λ (ds : List Content). told_page (behind_some ds (DeltaIndex run))) h
-index_run told.Unfit cs run h = behind_told cs (DeltaIndex run) Broken h (λ e. absurd (cc))
+index_run : (t : PageState) (cs : List Content) (run : List (List ℕ × Option ℕ)) → IsStateOf t cs → IsStateOf (with_index_run t) (after_some cs (DeltaIndex run))
+index_run state.Nothing cs run h = ap (λ (ds : List Content). after_some ds (DeltaIndex run)) h
+index_run state.Leaf cs run (p, h) = continued_after cs (DeltaIndex run) (Present (Leaf p)) h (λ e. absurd (cc))
+index_run state.Index cs run (p, h) = (with_newer_run p run, continued_after cs (DeltaIndex run) (Present (Index p)) h (λ e. absurd (cc)))
+index_run state.Free cs run h = ap (λ (ds : List Content). page_from_start (after_some ds (DeltaIndex run))) h
+index_run state.Unfit cs run h = continued_after cs (DeltaIndex run) Broken h (λ e. absurd (cc))
 
-told-more : (t : Told) (cs : List Content) (c : Content) → IsTold t cs → IsTold (told_with t (kind_of c)) (cond (is_start c) (c ∷ []) (behind_some cs c))
-told-more t cs (FullLeaf spelling low base) h = (bare low base, refl)
-told-more t cs (DeltaLeaf run) h = leaf_run t cs run h
-told-more t cs (FullIndex spelling low base) h = (bare low base, refl)
-told-more t cs (DeltaIndex run) h = index_run t cs run h
-told-more t cs Free h = refl
+state-more : (t : PageState) (cs : List Content) (c : Content) → IsStateOf t cs → IsStateOf (state_after t (kind_of c)) (cond (is_start c) (c ∷ []) (after_some cs c))
+state-more t cs (FullLeaf spelling low base) h = (bare low base, refl)
+state-more t cs (DeltaLeaf run) h = leaf_run t cs run h
+state-more t cs (FullIndex spelling low base) h = (bare low base, refl)
+state-more t cs (DeltaIndex run) h = index_run t cs run h
+state-more t cs Free h = refl
 
-contents_behind_some : (fs : List Found) (f : Found) → contents_in (behind_some fs f) ≡ behind_some (contents_in fs) f.frame.content
-contents_behind_some [] f = refl
-contents_behind_some (g ∷ gs) f = ap (λ (cs : List Content). g.frame.content ∷ cs) (map-append (λ (g : Found). g.frame.content) gs (f ∷ []))
+contents_after_some : (fs : List Found) (f : Found) → contents_in (after_some fs f) ≡ after_some (contents_in fs) f.frame.content
+contents_after_some [] f = refl
+contents_after_some (g ∷ gs) f = ap (λ (cs : List Content). g.frame.content ∷ cs) (map-append (λ (g : Found). g.frame.content) gs (f ∷ []))
 
-contents_by : (b : Bool) (fs : List Found) (f : Found) → contents_in (cond b (f ∷ []) (behind_some fs f)) ≡ cond b (f.frame.content ∷ []) (behind_some (contents_in fs) f.frame.content)
+contents_by : (b : Bool) (fs : List Found) (f : Found) → contents_in (cond b (f ∷ []) (after_some fs f)) ≡ cond b (f.frame.content ∷ []) (after_some (contents_in fs) f.frame.content)
 contents_by true fs f = refl
-contents_by false fs f = contents_behind_some fs f
+contents_by false fs f = contents_after_some fs f
 
 -- ---- which of its frames are kept
 
@@ -163,8 +163,8 @@ free_kept : (b : Bool) (f : Frame) → [] ≡ spelled (cond (b && false) (f ∷ 
 free_kept true f = refl
 free_kept false f = refl
 
-behind_by : (b : Bool) (g f : Found) (gs : List Found) (bytes : List ℕ) → bytes ≡ spelled (cond b (frames_in (g ∷ gs)) []) → with_run bytes (bytes_of f.frame) ≡ spelled (cond b (frames_in (g ∷ (gs ++ f ∷ []))) [])
-behind_by true g f gs bytes e =
+follows_by : (b : Bool) (g f : Found) (gs : List Found) (bytes : List ℕ) → bytes ≡ spelled (cond b (frames_in (g ∷ gs)) []) → with_run bytes (bytes_of f.frame) ≡ spelled (cond b (frames_in (g ∷ (gs ++ f ∷ []))) [])
+follows_by true g f gs bytes e =
     let some = some_bytes g.frame in
     let long = length-append (bytes_of g.frame) (spelled (frames_in gs)) in
     ap (λ (bs : List ℕ). with_run bs (bytes_of f.frame)) e
@@ -172,12 +172,12 @@ behind_by true g f gs bytes e =
     ∙ ap (λ (bs : List ℕ). spelled (frames_in (g ∷ gs)) ++ bs) (sym (append-nil (bytes_of f.frame)))
     ∙ sym (spelled-append (frames_in (g ∷ gs)) (f.frame ∷ []))
     ∙ ap (λ (fs : List Frame). spelled (g.frame ∷ fs)) (sym (map-append (λ (h : Found). h.frame) gs (f ∷ [])))
-behind_by false g f gs bytes e = ap (λ (bs : List ℕ). with_run bs (bytes_of f.frame)) e
+follows_by false g f gs bytes e = ap (λ (bs : List ℕ). with_run bs (bytes_of f.frame)) e
 
 module _ (w : Wanted) (head : ℕ) where
-  run_kept : (fs : List Found) (f : Found) (bytes : List ℕ) → bytes ≡ spelled (wanted_of w head fs) → with_run bytes (bytes_of f.frame) ≡ spelled (wanted_of w head (behind_some fs f))
+  run_kept : (fs : List Found) (f : Found) (bytes : List ℕ) → bytes ≡ spelled (wanted_of w head fs) → with_run bytes (bytes_of f.frame) ≡ spelled (wanted_of w head (after_some fs f))
   run_kept [] f bytes e = ap (λ (bs : List ℕ). with_run bs (bytes_of f.frame)) e
-  run_kept (g ∷ gs) f bytes e = behind_by (is_wanted_in w head g.segment && is_base g.frame.content) g f gs bytes e
+  run_kept (g ∷ gs) f bytes e = follows_by (is_wanted_in w head g.segment && is_base g.frame.content) g f gs bytes e
 
   kept_as : (c : Content) (n pid : ℕ) (fs : List Found) (bytes : List ℕ) → bytes ≡ spelled (wanted_of w head fs)
       → (let f : Found = record { segment = n; frame = record { pid = pid; content = c } } in kept_with bytes (kind_of c) (is_wanted_in w head n) (bytes_of f.frame) ≡ spelled (wanted_of w head (part_with fs f)))
@@ -188,20 +188,20 @@ module _ (w : Wanted) (head : ℕ) where
   kept_as Free n pid fs bytes e = free_kept (is_wanted_in w head n) (record { pid = pid; content = Free })
 
   -- what is kept of a page, with one more of its frames
-  pub kept-more : (k now : Kept) (fs : List Found) (f : Found) → IsKept w head k fs → now.told ≡ told_with k.told (kind_of f.frame.content)
+  pub kept-more : (k now : Kept) (fs : List Found) (f : Found) → IsKept w head k fs → now.state ≡ state_after k.state (kind_of f.frame.content)
       → now.frames.items ≡ kept_with k.frames.items (kind_of f.frame.content) (is_wanted_in w head f.segment) (bytes_of f.frame) → IsKept w head now (part_with fs f)
   kept-more k now fs f h t i =
-      let told' : IsTold (told_with k.told (kind_of f.frame.content)) (contents_in (part_with fs f)) =
-      subst (λ (cs : List Content). IsTold (told_with k.told (kind_of f.frame.content)) cs) (sym (contents_by (starts f) fs f)) (told-more k.told (contents_in fs) f.frame.content h.told) in
+      let state' : IsStateOf (state_after k.state (kind_of f.frame.content)) (contents_in (part_with fs f)) =
+      subst (λ (cs : List Content). IsStateOf (state_after k.state (kind_of f.frame.content)) cs) (sym (contents_by (starts f) fs f)) (state-more k.state (contents_in fs) f.frame.content h.state) in
       record {
-        told = subst (λ (u : Told). IsTold u (contents_in (part_with fs f))) (sym t) told';
+        state = subst (λ (u : PageState). IsStateOf u (contents_in (part_with fs f))) (sym t) state';
         frames = i ∙ kept_as f.frame.content f.segment f.frame.pid fs k.frames.items h.frames;
       }
 
   -- of a page without a frame so far
-  pub kept-none : (k : Kept) (fs : List Found) → k.told ≡ told.Nothing → k.frames.items ≡ [] → fs ≡ [] → IsKept w head k fs
+  pub kept-none : (k : Kept) (fs : List Found) → k.state ≡ state.Nothing → k.frames.items ≡ [] → fs ≡ [] → IsKept w head k fs
   kept-none k fs t i none = record {
-    told = subst (λ (u : Told). IsTold u (contents_in fs)) (sym t) (ap contents_in none);
+    state = subst (λ (u : PageState). IsStateOf u (contents_in fs)) (sym t) (ap contents_in none);
     frames = i ∙ ap (λ (gs : List Found). spelled (wanted_of w head gs)) (sym none);
   }
 
@@ -229,14 +229,14 @@ module _ (w : Wanted) (head : ℕ) (old mid now : BTreeMap ℕ Kept) (f : Found)
       into n ∙ ap (λ (b : Bool). cond b (Some kept) (get nat_cmp mid n)) (same_at f.frame.pid n ∙ e)
       ∙ (out n ∙ ap (λ (b : Bool). cond b no_page (get nat_cmp old n)) (same_at f.frame.pid n ∙ e))
 
-  each_by : (b : Bool) (found : List Found) (n : ℕ) → nat_eq f.frame.pid n ≡ b → AreKept w head old found → IsKept w head kept (part_with (telling f.frame.pid found) f)
-      → IsKeptOf w head (get nat_cmp now n) (telling n (found ++ f ∷ []))
+  each_by : (b : Bool) (found : List Found) (n : ℕ) → nat_eq f.frame.pid n ≡ b → AreKept w head old found → IsKept w head kept (part_with (live_frames f.frame.pid found) f)
+      → IsKeptOf w head (get nat_cmp now n) (live_frames n (found ++ f ∷ []))
   each_by true found n e h k =
-      let own : telling n (found ++ f ∷ []) ≡ part_with (telling f.frame.pid found) f = telling-own n found f e ∙ ap (λ (m : ℕ). part_with (telling m found) f) (sym (eqb-true f.frame.pid n e)) in
-      subst (λ (o : Option Kept). IsKeptOf w head o (telling n (found ++ f ∷ []))) (sym (in_by true n e)) (subst (λ (fs : List Found). IsKept w head kept fs) (sym own) k)
+      let own : live_frames n (found ++ f ∷ []) ≡ part_with (live_frames f.frame.pid found) f = live_frames-own n found f e ∙ ap (λ (m : ℕ). part_with (live_frames m found) f) (sym (eqb-true f.frame.pid n e)) in
+      subst (λ (o : Option Kept). IsKeptOf w head o (live_frames n (found ++ f ∷ []))) (sym (in_by true n e)) (subst (λ (fs : List Found). IsKept w head kept fs) (sym own) k)
   each_by false found n e h k =
-      subst (λ (o : Option Kept). IsKeptOf w head o (telling n (found ++ f ∷ []))) (sym (in_by false n e))
-      (subst (λ (fs : List Found). IsKeptOf w head (get nat_cmp old n) fs) (sym (telling-other n found f e)) (h.each n))
+      subst (λ (o : Option Kept). IsKeptOf w head o (live_frames n (found ++ f ∷ []))) (sym (in_by false n e))
+      (subst (λ (fs : List Found). IsKeptOf w head (get nat_cmp old n) fs) (sym (live_frames-other n found f e)) (h.each n))
 
   pids_by : (b : Bool) (found : List Found) (n : ℕ) → nat_eq f.frame.pid n ≡ b → AreKept w head old found → is_some (get nat_cmp now n) ≡ (is_among n (map (λ (g : Found). g.frame.pid) found) || b)
   pids_by true found n e h = ap (λ o. is_some o) (in_by true n e) ∙ sym (or_true (is_among n (map (λ (g : Found). g.frame.pid) found)))
@@ -250,7 +250,7 @@ module _ (w : Wanted) (head : ℕ) (old mid now : BTreeMap ℕ Kept) (f : Found)
       or_none true = refl
       or_none false = refl
 
-  pub pages-more : (found : List Found) → AreKept w head old found → IsKept w head kept (part_with (telling f.frame.pid found) f) → AreKept w head now (found ++ f ∷ [])
+  pub pages-more : (found : List Found) → AreKept w head old found → IsKept w head kept (part_with (live_frames f.frame.pid found) f) → AreKept w head now (found ++ f ∷ [])
   pages-more found h k = record {
     each = λ n. each_by (nat_eq f.frame.pid n) found n refl h k;
     pids = λ n. pids_by (nat_eq f.frame.pid n) found n refl h
@@ -274,7 +274,7 @@ kept_any w head other by_pid [] e h = record { each = λ pid. any (get nat_cmp b
   where
     any : (o : Option Kept) → IsKeptOf w head o [] → IsKeptOf w other o []
     any None k = k
-    any (Some k) is = record { told = is.told; frames = is.frames }
+    any (Some k) is = record { state = is.state; frames = is.frames }
 kept_any w head other by_pid (f ∷ fs) e h = absurd (cc)
 
 pub kept-before : (w : Wanted) (by_pid : BTreeMap ℕ Kept) (found : List Found) (f : Found) → AreKept w (first_segment found) by_pid found → AreKept w (first_segment (found ++ f ∷ [])) by_pid found

@@ -18,16 +18,16 @@ use Rattle.frame_codec.specs.Frame.{Content, Frame, bytes_of, is_frame}
 use Rattle.frame_codec.specs.Frame.Content.{FullLeaf, DeltaLeaf, FullIndex, DeltaIndex, Free}
 use Rattle.frame_codec.proofs.FrameLemmas.{in_limits, frame-back}
 use Rattle.flush_log.specs.Reading.{Found, is_at_tail, with_first, read_frames}
-use Rattle.recovery.specs.Gathered.{telling, contents_in, wanted_of, spelled, IsTold, IsKept, IsKeptOf, AreKept, AreLive, first_segment, is_unfit, first_unfit}
+use Rattle.recovery.specs.Gathered.{live_frames, contents_in, wanted_of, spelled, IsStateOf, IsKept, IsKeptOf, AreKept, AreLive, first_segment, is_unfit, first_unfit}
 use Rattle.recovery.specs.LogPages.{in_log, pids_of, broken_under, broken_in}
-use Rattle.recovery.specs.PageByLog.{is_base, is_start, from_last, continued, told_page, page_in, is_broken}
+use Rattle.recovery.specs.PageByLog.{is_base, is_start, from_last, continued, page_from_start, page_in, is_broken}
 use Rattle.recovery.specs.PageByLog.InLog.{Missing}
 use Rattle.recovery.specs.Rebuild.{all_or_none, frames_of_bytes}
 use Rattle.recovery.specs.StoreOfDisk.{frames_in}
 use Rattle.recovery.specs.declared.gather.Gathering.{Gathering}
 use Rattle.recovery.specs.declared.gather.Kept.{Kept}
-use Rattle.recovery.specs.declared.gather.Told.{Told}
-use Rattle.recovery.specs.declared.gather.Told.TheVariants as told
+use Rattle.recovery.specs.declared.gather.PageState.{PageState}
+use Rattle.recovery.specs.declared.gather.PageState.TheVariants as state
 use Rattle.recovery.specs.declared.gather.Wanted.{Wanted}
 use Rattle.recovery.specs.declared.gather.Wanted.TheVariants.{Every}
 use Rattle.recovery.proofs.BrokenLemmas.{broken-stays, missing-breaks}
@@ -46,20 +46,20 @@ looked_up false k v n es e = rw e refl
 module _ (w : Wanted) (head : ℕ) (found : List Found) where
   -- under each pid that there is, what is kept of its page
   abbrev pub KeepEach : List (ℕ × Kept) → Type 0
-  KeepEach es = (n : ℕ) → is_among n (keys_of es) ≡ true → IsKeptOf w head (lookup (nat_eq n) es) (telling n found)
+  KeepEach es = (n : ℕ) → is_among n (keys_of es) ≡ true → IsKeptOf w head (lookup (nat_eq n) es) (live_frames n found)
 
-  pub first_is : (k : ℕ) (v : Kept) (es : List (ℕ × Kept)) → KeepEach ((k, v) ∷ es) → IsKept w head v (telling k found)
-  first_is k v es h = kept-some w head (lookup (nat_eq k) ((k, v) ∷ es)) v (telling k found) (looked_up true k v k es (eq-eqb k k refl)) (h k (there k (keys_of es)))
+  pub first_is : (k : ℕ) (v : Kept) (es : List (ℕ × Kept)) → KeepEach ((k, v) ∷ es) → IsKept w head v (live_frames k found)
+  first_is k v es h = kept-some w head (lookup (nat_eq k) ((k, v) ∷ es)) v (live_frames k found) (looked_up true k v k es (eq-eqb k k refl)) (h k (there k (keys_of es)))
 
   pub later_are : (k : ℕ) (v : Kept) (es : List (ℕ × Kept)) → AreRisingPids (keys_of ((k, v) ∷ es)) → KeepEach ((k, v) ∷ es) → KeepEach es
   later_are k v es r h n among = of (nat_eq n k) refl
     where
-      of : (b : Bool) → nat_eq n k ≡ b → IsKeptOf w head (lookup (nat_eq n) es) (telling n found)
+      of : (b : Bool) → nat_eq n k ≡ b → IsKeptOf w head (lookup (nat_eq n) es) (live_frames n found)
       of true e =
           let none : is_among n (keys_of es) ≡ false = subst (λ (j : ℕ). is_among j (keys_of es) ≡ false) (sym (eqb-true n k e)) (none_above k (keys_of es) r.0) in
           let both : true ≡ false = sym among ∙ none in
           absurd (cc)
-      of false e = subst (λ (o : Option Kept). IsKeptOf w head o (telling n found)) (looked_up false k v n es e) (h n (ap (λ (b : Bool). b || is_among n (keys_of es)) e ∙ among))
+      of false e = subst (λ (o : Option Kept). IsKeptOf w head o (live_frames n found)) (looked_up false k v n es e) (h n (ap (λ (b : Bool). b || is_among n (keys_of es)) e ∙ among))
 
 -- what is kept, by rising pid: of each pid with a frame
 pub record AreInOrder (w : Wanted) (head : ℕ) (found : List Found) (es : List (ℕ × Kept)) : Type 0 where
@@ -80,25 +80,25 @@ in-order w head by_pid found sorted h =
     λ n. among_found n es ∙ ap (λ o. is_some o) (sym (lookup-same n es)) ∙ h.pids n ∙ ap (λ (ns : List ℕ). is_among n ns) (pids-found found) ∙ sym (among-pids_of fs n) in
     record {
       rise = rise;
-      each = λ n among. subst (λ (o : Option Kept). IsKeptOf w head o (telling n found)) (lookup-same n es) (h.each n);
+      each = λ n among. subst (λ (o : Option Kept). IsKeptOf w head o (live_frames n found)) (lookup-same n es) (h.each n);
       all = same_rising (keys_of es) (pids_of fs) rise (rising-with_numbers (pids fs) [] tt) among;
     }
 
 -- ---- what the log says of a page
 
 -- it is what its live frames say
-pub told-in_log : (found : List Found) (pid : ℕ) → in_log (frames_in found) pid ≡ told_page (contents_in (telling pid found))
-told-in_log found pid =
-    ap (λ (cs : List Content). told_page (from_last is_start cs)) (contents-found pid found)
-    ∙ ap told_page (from_last-map said is_start (of_pid pid found))
+pub state-in_log : (found : List Found) (pid : ℕ) → in_log (frames_in found) pid ≡ page_from_start (contents_in (live_frames pid found))
+state-in_log found pid =
+    ap (λ (cs : List Content). page_from_start (from_last is_start cs)) (contents-found pid found)
+    ∙ ap page_from_start (from_last-map said is_start (of_pid pid found))
 
 -- the state of a page is unfit where the log says so
-told_unfit : (t : Told) (cs : List Content) → IsTold t cs → is_unfit t ≡ is_broken (told_page cs)
-told_unfit told.Nothing cs h = ap (λ (ds : List Content). is_broken (told_page ds)) (sym h)
-told_unfit told.Leaf cs (p, h) = ap is_broken (sym h)
-told_unfit told.Index cs (p, h) = ap is_broken (sym h)
-told_unfit told.Free cs h = ap (λ (ds : List Content). is_broken (told_page ds)) (sym h)
-told_unfit told.Unfit cs h = ap is_broken (sym h)
+state_unfit : (t : PageState) (cs : List Content) → IsStateOf t cs → is_unfit t ≡ is_broken (page_from_start cs)
+state_unfit state.Nothing cs h = ap (λ (ds : List Content). is_broken (page_from_start ds)) (sym h)
+state_unfit state.Leaf cs (p, h) = ap is_broken (sym h)
+state_unfit state.Index cs (p, h) = ap is_broken (sym h)
+state_unfit state.Free cs h = ap (λ (ds : List Content). is_broken (page_from_start ds)) (sym h)
+state_unfit state.Unfit cs h = ap is_broken (sym h)
 
 module _ (w : Wanted) (head : ℕ) (found : List Found) where
   abbrev unfit_at : ℕ → Option Finding
@@ -107,7 +107,7 @@ module _ (w : Wanted) (head : ℕ) (found : List Found) where
   kept_unfit : (es : List (ℕ × Kept)) → AreRisingPids (keys_of es) → KeepEach w head found es → first_unfit es ≡ broken_under (frames_in found) (keys_of es)
   kept_unfit [] r h = refl
   kept_unfit ((k, v) ∷ es) r h =
-      ap (λ (b : Bool). cond b (unfit_at k) (first_unfit es)) (told_unfit v.told (contents_in (telling k found)) (first_is w head found k v es h).told ∙ ap is_broken (sym (told-in_log found k)))
+      ap (λ (b : Bool). cond b (unfit_at k) (first_unfit es)) (state_unfit v.state (contents_in (live_frames k found)) (first_is w head found k v es h).state ∙ ap is_broken (sym (state-in_log found k)))
       ∙ ap (λ (o : Option Finding). cond (is_broken (in_log (frames_in found) k)) (unfit_at k) o) (kept_unfit es r.1 (later_are w head found k v es r h))
 
 -- the first page whose frames fit no page is that of the log
@@ -117,14 +117,14 @@ unfit-found w g found sorted live =
     kept_unfit w (first_segment found) found g.by_pid.entries order.rise order.each ∙ ap (λ (ns : List ℕ). broken_under (frames_in found) ns) order.all
 
 -- one entry after the other
-next-unfit : (e : ℕ × Kept) (es : List (ℕ × Kept)) (b : Bool) → is_unfit e.1.told ≡ b → first_unfit (e ∷ es) ≡ cond b (Some (record { rule = 1; pid = e.0 })) (first_unfit es)
+next-unfit : (e : ℕ × Kept) (es : List (ℕ × Kept)) (b : Bool) → is_unfit e.1.state ≡ b → first_unfit (e ∷ es) ≡ cond b (Some (record { rule = 1; pid = e.0 })) (first_unfit es)
 next-unfit e es b is = ap (λ (c : Bool). (let o : Option Finding = Some (record { rule = 1; pid = e.0 }) in cond c o (first_unfit es))) is
 
 -- of these entries the first is unfit, or is passed over
-pub unfit-here : (left rest every : List (ℕ × Kept)) (e : ℕ × Kept) → left ≡ e ∷ rest → first_unfit left ≡ first_unfit every → is_unfit e.1.told ≡ true → first_unfit every ≡ Some (record { rule = 1; pid = e.0 })
+pub unfit-here : (left rest every : List (ℕ × Kept)) (e : ℕ × Kept) → left ≡ e ∷ rest → first_unfit left ≡ first_unfit every → is_unfit e.1.state ≡ true → first_unfit every ≡ Some (record { rule = 1; pid = e.0 })
 unfit-here left rest every e is same unfit = sym same ∙ ap first_unfit is ∙ next-unfit e rest true unfit
 
-pub unfit-later : (left rest every : List (ℕ × Kept)) (e : ℕ × Kept) → left ≡ e ∷ rest → first_unfit left ≡ first_unfit every → is_unfit e.1.told ≡ false → first_unfit rest ≡ first_unfit every
+pub unfit-later : (left rest every : List (ℕ × Kept)) (e : ℕ × Kept) → left ≡ e ∷ rest → first_unfit left ≡ first_unfit every → is_unfit e.1.state ≡ false → first_unfit rest ≡ first_unfit every
 unfit-later left rest every e is same fits = sym (ap first_unfit is ∙ next-unfit e rest false fits) ∙ same
 
 -- ---- frames that stand back to back
@@ -151,8 +151,8 @@ module _ (s : Format) (good : first_bad_field s.settings ≡ None) where
   bytes-frames fs a = ap all_or_none (frames_back fs a (length (spelled fs)) (omega arith))
 
 module _ (s : Format) where
-  pub telling-within : (pid : ℕ) (found : List Found) → AllByRecursion (λ f. is_frame s f.frame ≡ true) found → AllByRecursion (λ f. is_frame s f.frame ≡ true) (telling pid found)
-  telling-within pid found a = from_last-all starts (λ f. is_frame s f.frame ≡ true) (of_pid pid found) (all-filter (λ f. is_frame s f.frame ≡ true) (λ f. nat_eq f.frame.pid pid) found a)
+  pub live_frames-within : (pid : ℕ) (found : List Found) → AllByRecursion (λ f. is_frame s f.frame ≡ true) found → AllByRecursion (λ f. is_frame s f.frame ≡ true) (live_frames pid found)
+  live_frames-within pid found a = from_last-all starts (λ f. is_frame s f.frame ≡ true) (of_pid pid found) (all-filter (λ f. is_frame s f.frame ≡ true) (λ f. nat_eq f.frame.pid pid) found a)
 
   all_frames : (fs : List Found) → AllByRecursion (λ f. is_frame s f.frame ≡ true) fs → AllByRecursion (λ f. is_frame s f ≡ true) (frames_in fs)
   all_frames [] a = tt
@@ -177,7 +177,7 @@ missing_none [] = refl
 missing_none (c ∷ cs) = ap page_in (ap (λ t. fold continued t cs) (missing-breaks c) ∙ broken-stays cs)
 
 -- after what is no base there is no page
-pub none-page : (c : Content) (cs : List Content) → is_base c ≡ false → page_in (told_page (c ∷ cs)) ≡ None
+pub none-page : (c : Content) (cs : List Content) → is_base c ≡ false → page_in (page_from_start (c ∷ cs)) ≡ None
 none-page (FullLeaf spelling low base) cs e = absurd (cc)
 none-page (DeltaLeaf run) cs e = missing_none cs
 none-page (FullIndex spelling low base) cs e = absurd (cc)
@@ -185,10 +185,10 @@ none-page (DeltaIndex run) cs e = missing_none cs
 none-page Free cs e = missing_none cs
 
 -- what is kept of a page, where that of every page is, makes it
-pub wanted-page : (head : ℕ) (fs : List Found) → page_in (told_page (map (λ (f : Frame). f.content) (wanted_of Every head fs))) ≡ page_in (told_page (contents_in fs))
+pub wanted-page : (head : ℕ) (fs : List Found) → page_in (page_from_start (map (λ (f : Frame). f.content) (wanted_of Every head fs))) ≡ page_in (page_from_start (contents_in fs))
 wanted-page head [] = refl
 wanted-page head (f ∷ fs) = of (is_base f.frame.content) refl
   where
-    of : (b : Bool) → is_base f.frame.content ≡ b → page_in (told_page (map (λ (g : Frame). g.content) (wanted_of Every head (f ∷ fs)))) ≡ page_in (told_page (contents_in (f ∷ fs)))
-    of true e = rw e (ap (λ (cs : List Content). page_in (told_page cs)) (contents_of_frames (f ∷ fs)))
+    of : (b : Bool) → is_base f.frame.content ≡ b → page_in (page_from_start (map (λ (g : Frame). g.content) (wanted_of Every head (f ∷ fs)))) ≡ page_in (page_from_start (contents_in (f ∷ fs)))
+    of true e = rw e (ap (λ (cs : List Content). page_in (page_from_start cs)) (contents_of_frames (f ∷ fs)))
     of false e = rw e (sym (none-page f.frame.content (contents_in fs) e))

@@ -32,5 +32,5 @@ mod SoFarLemmas
 pub mod StepLemmas
 pub mod StoreLemmas
 pub mod TableLemmas
-mod TellLemmas
+mod StateLemmas
 pub mod TextLemmas

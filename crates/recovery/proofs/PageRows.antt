@@ -23,9 +23,9 @@ abbrev other_run : Content
 other_run = DeltaIndex ((codes "a", None) ∷ [])
 
 -- the newest run is the last that stands there, and comes first in the page
-runs_behind_a_base : page_by_log (base ∷ run ∷ newer_run ∷ [])
+runs_after_a_base : page_by_log (base ∷ run ∷ newer_run ∷ [])
     ≡ Present (Leaf (record { low = []; layers = record { runs = (set "a" "3" ∷ []) ∷ (set "a" "2" ∷ []) ∷ []; base = pair "a" "1" ∷ [] } }))
-runs_behind_a_base = refl
+runs_after_a_base = refl
 
 -- runs from before the last base don't count, whatever their kind; nor does a free frame, and what stands before it
 last_base_alone : page_by_log (base ∷ run ∷ other_run ∷ base ∷ []) ≡ Present (Leaf (record { low = []; layers = record { runs = []; base = pair "a" "1" ∷ [] } }))
@@ -45,8 +45,8 @@ nothing : page_by_log [] ≡ Missing
 nothing = refl
 
 -- finding 1: a run after the last free frame, or one of the other kind after the last base
-run_behind_free : page_by_log (base ∷ Free ∷ run ∷ []) ≡ Broken
-run_behind_free = refl
+run_after_free : page_by_log (base ∷ Free ∷ run ∷ []) ≡ Broken
+run_after_free = refl
 
 other_kind : page_by_log (base ∷ run ∷ other_run ∷ run ∷ []) ≡ Broken
 other_kind = refl

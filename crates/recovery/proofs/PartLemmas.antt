@@ -26,10 +26,10 @@ module _ {X : Type 0} (test : X → Bool) where
   from_last-none (x ∷ xs) e = none_by (test x) (list_any test xs) x xs (from_last test xs) e ∙ from_last-none xs (or_parts (test x) (list_any test xs) e).1
 
   -- where one passes in the second part, the first part doesn't count
-  pub from_last-behind : (xs ys : List X) → list_any test ys ≡ true → from_last test (xs ++ ys) ≡ from_last test ys
-  from_last-behind [] ys e = refl
-  from_last-behind (x ∷ xs) ys e =
-      from_last-step x (xs ++ ys) (list_any-append test xs ys ∙ or_right (list_any test xs) (list_any test ys) e) ∙ from_last-behind xs ys e
+  pub from_last-following : (xs ys : List X) → list_any test ys ≡ true → from_last test (xs ++ ys) ≡ from_last test ys
+  from_last-following [] ys e = refl
+  from_last-following (x ∷ xs) ys e =
+      from_last-step x (xs ++ ys) (list_any-append test xs ys ∙ or_right (list_any test xs) (list_any test ys) e) ∙ from_last-following xs ys e
 
   first_by : (b c : Bool) (x : X) (xs rest : List X) → b ≡ true → c ≡ false → cond (b && not c) (x ∷ xs) rest ≡ x ∷ xs
   first_by true true x xs rest e f = absurd (cc)
@@ -41,7 +41,7 @@ module _ {X : Type 0} (test : X → Bool) where
   from_last-first x xs e f = first_by (test x) (list_any test xs) x xs (from_last test xs) e f
 
   pub from_last-at : (xs : List X) (y : X) (ys : List X) → test y ≡ true → list_any test ys ≡ false → from_last test (xs ++ y ∷ ys) ≡ y ∷ ys
-  from_last-at xs y ys e f = from_last-behind xs (y ∷ ys) (ap (λ (b : Bool). b || list_any test ys) e) ∙ from_last-first y ys e f
+  from_last-at xs y ys e f = from_last-following xs (y ∷ ys) (ap (λ (b : Bool). b || list_any test ys) e) ∙ from_last-first y ys e f
 
   more_by : (b c d : Bool) (x : X) (xs ys rest other : List X) → (b || c) ≡ true → d ≡ c → (c ≡ true → rest ≡ other ++ ys) → cond (b && not d) (x ∷ xs ++ ys) rest ≡ cond (b && not c) (x ∷ xs) other ++ ys
   more_by true true true x xs ys rest other h e f = f refl

@@ -42,12 +42,12 @@ same_then a b c ab bc = record {
 -- ---- what is decided
 
 -- what the bytes decide, or a late fault
-abbrev pub IsToldBy : {X : Type 0} → Result X Fault → (Fault → Type 0) → Result X Fault → Type 0
-IsToldBy told Late result = MatchResult result (λ x. told ≡ Ok x) (λ fault. (told ≡ Err fault) ⊎ Late fault)
+abbrev pub IsReadOrLate : {X : Type 0} → Result X Fault → (Fault → Type 0) → Result X Fault → Type 0
+IsReadOrLate state Late result = MatchResult result (λ x. state ≡ Ok x) (λ fault. (state ≡ Err fault) ⊎ Late fault)
 
-pub as_told : {X : Type 0} (told : Result X Fault) (Late : Fault → Type 0) (r : Result X Fault) → r ≡ told → IsToldBy told Late r
-as_told told Late (Ok x) e = sym e
-as_told told Late (Err fault) e = inl (sym e)
+pub as_read : {X : Type 0} (state : Result X Fault) (Late : Fault → Type 0) (r : Result X Fault) → r ≡ state → IsReadOrLate state Late r
+as_read state Late (Ok x) e = sym e
+as_read state Late (Err fault) e = inl (sym e)
 
 -- the same on an honest disk, which stays honest
 pub same_on : (a b c : View) → Kept a b → (IsTrue a.is_honest → Same a b) → (IsTrue b.is_honest → Same b c) → IsTrue a.is_honest → Same a c

@@ -18,13 +18,13 @@ use Rattle.flush_log.proofs.OverlayLemmas.{overlay-part}
 use Rattle.flush_log.proofs.PlaceLemmas.{remainders_differ, place-within, places-beside, overlay-beside as part-beside}
 use Rattle.flush_log.proofs.ReadBackLemmas.{earlier-same}
 use Rattle.recovery.specs.Recovered.{IsReadOf}
-use Rattle.recovery.specs.Scan.{HeldSegment, held_segment, scanned, scanned_behind}
+use Rattle.recovery.specs.Scan.{HeldSegment, held_segment, scanned, scanned_after}
 use Rattle.recovery.specs.declared.scan_segment.End.TheVariants.{Padding}
 use Rattle.recovery.specs.declared.scan_segment.Segment.{Segment}
 
 -- what a log holds, or its first fault
-abbrev pub Told : Type 0
-Told = Result (List Found) Fault
+abbrev pub ReadResult : Type 0
+ReadResult = Result (List Found) Fault
 
 -- ---- one segment, put over the bytes so far
 
@@ -60,12 +60,12 @@ module _ (g : Format) (good : first_bad_field g.settings ≡ None) (file buf : L
 -- ---- all of them
 
 -- bytes whose k segments from the head on were read, by what has taken what they hold; in front of the segments they are as these
-pub record AreReadUpto (Has : Told → Type 0) (v : View) (g : Format) (head k : ℕ) (file now : List ℕ) : Type 0 where
+pub record AreReadUpto (Has : ReadResult → Type 0) (v : View) (g : Format) (head k : ℕ) (file now : List ℕ) : Type 0 where
   pub bytes : IsReadOf v now
   pub front : take segments_begin now ≡ take segments_begin file
   pub found : Has (read_earlier g now head k)
 
-pub none-read : (Has : Told → Type 0) (v : View) (g : Format) (head k : ℕ) (file : List ℕ) → k ≡ 0 → IsReadOf v file → Has (Ok []) → AreReadUpto Has v g head k file file
+pub none-read : (Has : ReadResult → Type 0) (v : View) (g : Format) (head k : ℕ) (file : List ℕ) → k ≡ 0 → IsReadOf v file → Has (Ok []) → AreReadUpto Has v g head k file file
 none-read Has v g head k file zero bytes h = record {
   bytes = bytes;
   front = refl;
@@ -80,20 +80,20 @@ module _ (g : Format) (head : ℕ) (file now buf : List ℕ) (old new : View) (n
   has_room read = let long = read.whole in omega (arith, long, size)
 
   -- one segment more
-  pub read-next : (Has More : Told → Type 0) (k l : ℕ) → n ≡ head + k → l ≡ suc k → k < g.settings.segments → length buf ≡ g.settings.seg_size → AreReadUpto Has old g head k file now
-      → IsReadOf new then_now → ((told : Told) → Has told → More (followed_by told (read_segment g is_padding n buf))) → AreReadUpto More new g head l file then_now
+  pub read-next : (Has More : ReadResult → Type 0) (k l : ℕ) → n ≡ head + k → l ≡ suc k → k < g.settings.segments → length buf ≡ g.settings.seg_size → AreReadUpto Has old g head k file now
+      → IsReadOf new then_now → ((state : ReadResult) → Has state → More (followed_by state (read_segment g is_padding n buf))) → AreReadUpto More new g head l file then_now
   read-next Has More k l at count few all h bytes takes =
       let whole = has_room h.bytes in
       let part : length buf ≤ g.settings.seg_size = omega (arith, all) in
-      let earlier : Told = read_earlier g now head k in
-      let told : followed_by earlier (read_segment g is_padding n buf) ≡ read_earlier g then_now head (suc k) =
-      ap (λ (r : Told). followed_by r (read_segment g is_padding n buf)) (sym (part-earlier g good now buf n whole part head k at few))
+      let earlier : ReadResult = read_earlier g now head k in
+      let state : followed_by earlier (read_segment g is_padding n buf) ≡ read_earlier g then_now head (suc k) =
+      ap (λ (r : ReadResult). followed_by r (read_segment g is_padding n buf)) (sym (part-earlier g good now buf n whole part head k at few))
       ∙ ap (λ (bs : List ℕ). followed_by (read_earlier g then_now head k) (read_segment g is_padding n bs)) (sym (whole-read g good now buf n whole part all))
       ∙ ap (λ (m : ℕ). followed_by (read_earlier g then_now head k) (read_segment g is_padding m (segment_bytes g.settings then_now m))) at in
       record {
         bytes = bytes;
         front = part-front g good now buf n whole part ∙ h.front;
-        found = subst (λ (m : ℕ). More (read_earlier g then_now head m)) (sym count) (subst (λ (r : Told). More r) told (takes earlier h.found));
+        found = subst (λ (m : ℕ). More (read_earlier g then_now head m)) (sym count) (subst (λ (r : ReadResult). More r) state (takes earlier h.found));
       }
 
 -- what is in use of the last one
@@ -103,9 +103,9 @@ pub read-last : (g : Format) (e : LogEnds) (file buf : List ℕ) (old : View) (n
 read-last g e file buf old n good size is last all read =
     let whole = has_room g e.head file file buf old old n good size read in
     let sized = (are_sized g.settings good).least_size in
-    let behind = is.after in
+    let following = is.after in
     let room = is.last in
-    let split = split-tail g.settings e.head e.tail (omega (arith, sized)) (omega (arith, behind)) in
+    let split = split-tail g.settings e.head e.tail (omega (arith, sized)) (omega (arith, following)) in
     let from = split.from in
     let high = split.high in
     let k : ℕ = last_segment g.settings e.tail - e.head in
@@ -114,54 +114,54 @@ read-last g e file buf old n good size is last all read =
     let now : List ℕ = overlay file (place_of_segment g.settings n) buf in
     let bytes : take (bytes_in_use g.settings e.tail) (segment_bytes g.settings now n) ≡ buf = ap (λ (m : ℕ). take m (segment_bytes g.settings now n)) (sym all) ∙ part-read g good file buf n whole part in (
       part-front g good file buf n whole part,
-      ap (λ (r : Told). followed_by r (read_segment g is_at_tail n buf)) (sym (part-earlier g good file buf n whole part e.head k at (omega (arith, room, last, from))))
+      ap (λ (r : ReadResult). followed_by r (read_segment g is_at_tail n buf)) (sym (part-earlier g good file buf n whole part e.head k at (omega (arith, room, last, from))))
           ∙ ap (λ (bs : List ℕ). followed_by (read_earlier g now e.head k) (read_segment g is_at_tail n bs)) (sym bytes)
           ∙ ap (λ (m : ℕ). followed_by (read_earlier g now e.head k) (read_segment g is_at_tail m (take (bytes_in_use g.settings e.tail) (segment_bytes g.settings now m)))) at,
     )
 
 -- ---- some at a time
 
-pub scanned-more : (g : Format) (told : Told) (gs : List HeldSegment) (x : HeldSegment) → scanned_behind g told (gs ++ x ∷ []) ≡ followed_by (scanned_behind g told gs) (scanned g x)
-scanned-more g told [] x = refl
-scanned-more g told (h ∷ gs) x = scanned-more g (followed_by told (scanned g h)) gs x
+pub scanned-more : (g : Format) (state : ReadResult) (gs : List HeldSegment) (x : HeldSegment) → scanned_after g state (gs ++ x ∷ []) ≡ followed_by (scanned_after g state gs) (scanned g x)
+scanned-more g state [] x = refl
+scanned-more g state (h ∷ gs) x = scanned-more g (followed_by state (scanned g h)) gs x
 
-pub one-scanned : (g : Format) (told : Told) (gs hs : List Segment) (x : Segment) → hs ≡ gs ++ x ∷ [] → gs ≡ [] → scanned_behind g told (map held_segment hs) ≡ followed_by told (scanned g (held_segment x))
-one-scanned g told gs hs x put none = ap (λ (xs : List Segment). scanned_behind g told (map held_segment xs)) (put ∙ ap (λ (xs : List Segment). xs ++ x ∷ []) none)
+pub one-scanned : (g : Format) (state : ReadResult) (gs hs : List Segment) (x : Segment) → hs ≡ gs ++ x ∷ [] → gs ≡ [] → scanned_after g state (map held_segment hs) ≡ followed_by state (scanned g (held_segment x))
+one-scanned g state gs hs x put none = ap (λ (xs : List Segment). scanned_after g state (map held_segment xs)) (put ∙ ap (λ (xs : List Segment). xs ++ x ∷ []) none)
 
 -- these segments were read after k others, `upto` in all
-abbrev pub AreReadBehind : View → Format → (head k upto : ℕ) → List Segment → List ℕ → List ℕ → Type 0
-AreReadBehind v g head k upto gs file now = AreReadUpto (λ told. scanned_behind g (read_earlier g file head k) (map held_segment gs) ≡ told) v g head upto file now
+abbrev pub AreReadAfter : View → Format → (head k upto : ℕ) → List Segment → List ℕ → List ℕ → Type 0
+AreReadAfter v g head k upto gs file now = AreReadUpto (λ state. scanned_after g (read_earlier g file head k) (map held_segment gs) ≡ state) v g head upto file now
 
 -- one more
-pub behind-next : (g : Format) (head k upto more n : ℕ) (gs hs : List Segment) (x : Segment) (file now buf : List ℕ) (old new : View) → first_bad_field g.settings ≡ None → disk_size g.settings ≤ old.size
+pub following-next : (g : Format) (head k upto more n : ℕ) (gs hs : List Segment) (x : Segment) (file now buf : List ℕ) (old new : View) → first_bad_field g.settings ≡ None → disk_size g.settings ≤ old.size
     → held_segment x ≡ (record { number = n; end = Padding; bytes = buf }) → hs ≡ gs ++ x ∷ [] → n ≡ head + upto → more ≡ suc upto → upto < g.settings.segments → length buf ≡ g.settings.seg_size
-    → AreReadBehind old g head k upto gs file now → IsReadOf new (overlay now (place_of_segment g.settings n) buf)
-    → AreReadBehind new g head k more hs file (overlay now (place_of_segment g.settings n) buf)
-behind-next g head k upto more n gs hs x file now buf old new good size is put at count few all h bytes =
-    let told : Told = read_earlier g file head k in
-    read-next g head file now buf old new n good size (λ r. scanned_behind g told (map held_segment gs) ≡ r) (λ r. scanned_behind g told (map held_segment hs) ≡ r) upto more at count few all h bytes
-    (λ r e. ap (λ (xs : List HeldSegment). scanned_behind g told xs) (ap (λ (xs : List Segment). map held_segment xs) put ∙ map-append held_segment gs (x ∷ []))
-    ∙ scanned-more g told (map held_segment gs) (held_segment x) ∙ ap (λ (y : HeldSegment). followed_by (scanned_behind g told (map held_segment gs)) (scanned g y)) is
-    ∙ ap (λ (y : Told). followed_by y (read_segment g is_padding n buf)) e)
+    → AreReadAfter old g head k upto gs file now → IsReadOf new (overlay now (place_of_segment g.settings n) buf)
+    → AreReadAfter new g head k more hs file (overlay now (place_of_segment g.settings n) buf)
+following-next g head k upto more n gs hs x file now buf old new good size is put at count few all h bytes =
+    let state : ReadResult = read_earlier g file head k in
+    read-next g head file now buf old new n good size (λ r. scanned_after g state (map held_segment gs) ≡ r) (λ r. scanned_after g state (map held_segment hs) ≡ r) upto more at count few all h bytes
+    (λ r e. ap (λ (xs : List HeldSegment). scanned_after g state xs) (ap (λ (xs : List Segment). map held_segment xs) put ∙ map-append held_segment gs (x ∷ []))
+    ∙ scanned-more g state (map held_segment gs) (held_segment x) ∙ ap (λ (y : HeldSegment). followed_by (scanned_after g state (map held_segment gs)) (scanned g y)) is
+    ∙ ap (λ (y : ReadResult). followed_by y (read_segment g is_padding n buf)) e)
 
 -- all of them
-pub behind-all : (v : View) (g : Format) (head k upto all : ℕ) (gs : List Segment) (file now : List ℕ) → upto ≡ all → AreReadBehind v g head k upto gs file now
-    → scanned_behind g (read_earlier g file head k) (map held_segment gs) ≡ read_earlier g now head all
-behind-all v g head k upto all gs file now same h = h.found ∙ ap (λ (m : ℕ). read_earlier g now head m) same
+pub following-all : (v : View) (g : Format) (head k upto all : ℕ) (gs : List Segment) (file now : List ℕ) → upto ≡ all → AreReadAfter v g head k upto gs file now
+    → scanned_after g (read_earlier g file head k) (map held_segment gs) ≡ read_earlier g now head all
+following-all v g head k upto all gs file now same h = h.found ∙ ap (λ (m : ℕ). read_earlier g now head m) same
 
 -- and these were taken too
-pub round-more : (Has More : Told → Type 0) (old new : View) (g : Format) (head k all : ℕ) (gs : List Segment) (file before now : List ℕ) → AreReadUpto Has old g head k file before
-    → IsReadOf new now → take segments_begin now ≡ take segments_begin before → scanned_behind g (read_earlier g before head k) (map held_segment gs) ≡ read_earlier g now head all
-    → ((told : Told) → Has told → More (scanned_behind g told (map held_segment gs))) → AreReadUpto More new g head all file now
-round-more Has More old new g head k all gs file before now upto bytes front told takes = record {
+pub round-more : (Has More : ReadResult → Type 0) (old new : View) (g : Format) (head k all : ℕ) (gs : List Segment) (file before now : List ℕ) → AreReadUpto Has old g head k file before
+    → IsReadOf new now → take segments_begin now ≡ take segments_begin before → scanned_after g (read_earlier g before head k) (map held_segment gs) ≡ read_earlier g now head all
+    → ((state : ReadResult) → Has state → More (scanned_after g state (map held_segment gs))) → AreReadUpto More new g head all file now
+round-more Has More old new g head k all gs file before now upto bytes front state takes = record {
   bytes = bytes;
   front = front ∙ upto.front;
-  found = subst More told (takes (read_earlier g before head k) upto.found);
+  found = subst More state (takes (read_earlier g before head k) upto.found);
 }
 
 -- the last segment was taken, and so the whole log
-pub last-taken : {X : Type 0} (r : Result X Fault) (Has : Told → Type 0) (told whole : Told) → told ≡ whole → OnOk r (Has told) → OnOk r (Has whole)
-last-taken r Has told whole same h = subst (λ (t : Told). OnOk r (Has t)) same h
+pub last-taken : {X : Type 0} (r : Result X Fault) (Has : ReadResult → Type 0) (state whole : ReadResult) → state ≡ whole → OnOk r (Has state) → OnOk r (Has whole)
+last-taken r Has state whole same h = subst (λ (t : ReadResult). OnOk r (Has t)) same h
 
 -- ---- numbers
 
@@ -179,8 +179,8 @@ pub record IsLast (s : Settings) (e : LogEnds) : Type 0 where
 pub is_last : (s : Settings) (e : LogEnds) → first_bad_field s ≡ None → AreEnds s e → IsLast s e
 is_last s e good is =
     let size = (are_sized s good).least_size in
-    let behind = is.after in
-    let split = split-tail s e.head e.tail (omega (arith, size)) (omega (arith, behind)) in
+    let following = is.after in
+    let split = split-tail s e.head e.tail (omega (arith, size)) (omega (arith, following)) in
     let at = split.is in
     record { from = split.from; free = is.last; begins = omega (arith, at); used = split.high }
 

@@ -9,14 +9,14 @@ use Rattle.frame_codec.specs.declared.format.Format.{Format}
 use Rattle.frame_codec.specs.Frame.{Content, Frame, bytes_of}
 use Rattle.frame_codec.specs.Reading.{read_frame}
 use Rattle.flush_log.specs.Reading.{is_at_tail, with_first, read_frames}
-use Rattle.recovery.specs.PageByLog.{base_in, is_base, present_or_missing, continued, told_page, page_in, InLog}
+use Rattle.recovery.specs.PageByLog.{base_in, is_base, present_or_missing, continued, page_from_start, page_in, InLog}
 use Rattle.recovery.specs.PageByLog.InLog.{Present, Broken}
-use Rattle.recovery.specs.Rebuild.{all_or_none, told_in}
+use Rattle.recovery.specs.Rebuild.{all_or_none, page_of_frames}
 use Rattle.recovery.proofs.BrokenLemmas.{broken-stays}
 use Rattle.recovery.proofs.KeptLemmas.{some_bytes}
 use Rattle.recovery.proofs.KeptPages.{none-page}
-use Rattle.recovery.proofs.ScanLemmas.{left-behind, with_front, front-err, AreRead, read-none, read-more, read-all, read-broken}
-use Rattle.recovery.proofs.TellLemmas.{told-more}
+use Rattle.recovery.proofs.ScanLemmas.{left-following, with_front, front-err, AreRead, read-none, read-more, read-all, read-broken}
+use Rattle.recovery.proofs.StateLemmas.{state-more}
 
 abbrev said : List Frame → List Content
 said fs = map (λ (f : Frame). f.content) fs
@@ -26,13 +26,13 @@ not_at_tail [] h = absurd (omega (arith, h))
 not_at_tail (b ∷ bs) h = refl
 
 -- where these were read of bytes and these are left, nothing is a page whatever is read of them
-none_read : (fs : List Frame) (r : Result (List Frame) ℕ) → ((gs : List Frame) → page_in (told_page (said (fs ++ gs))) ≡ None) → page_in (told_page (said (all_or_none (with_front fs r)))) ≡ None
-none_read fs (Ok gs) none = ap (λ (x : Result (List Frame) ℕ). page_in (told_page (said (all_or_none x)))) (front fs) ∙ none gs
+none_read : (fs : List Frame) (r : Result (List Frame) ℕ) → ((gs : List Frame) → page_in (page_from_start (said (fs ++ gs))) ≡ None) → page_in (page_from_start (said (all_or_none (with_front fs r)))) ≡ None
+none_read fs (Ok gs) none = ap (λ (x : Result (List Frame) ℕ). page_in (page_from_start (said (all_or_none x)))) (front fs) ∙ none gs
   where
     front : (hs : List Frame) → with_front hs (Ok gs) ≡ (let x : Result (List Frame) ℕ = Ok (hs ++ gs) in x)
     front [] = refl
     front (h ∷ hs) = ap (λ (x : Result (List Frame) ℕ). with_first h x) (front hs)
-none_read fs (Err left) none = ap (λ (x : Result (List Frame) ℕ). page_in (told_page (said (all_or_none x)))) (front-err fs left)
+none_read fs (Err left) none = ap (λ (x : Result (List Frame) ℕ). page_in (page_from_start (said (all_or_none x)))) (front-err fs left)
 
 module _ (s : Format) where
   -- a frame that was read at the front of bytes
@@ -41,29 +41,29 @@ module _ (s : Format) where
     pub long : size ≡ length (bytes_of f)
     pub within : size ≤ length rest
 
-  abbrev behind : ℕ → Bytes → Bytes
-  behind size rest = take (length rest - size) (drop size rest)
+  abbrev following : ℕ → Bytes → Bytes
+  following size rest = take (length rest - size) (drop size rest)
 
-  pub less_behind : (rest : Bytes) (f : Frame) (size : ℕ) → IsReadAt rest f size → length (behind size rest) < length rest
-  less_behind rest f size h =
+  pub less_after : (rest : Bytes) (f : Frame) (size : ℕ) → IsReadAt rest f size → length (following size rest) < length rest
+  less_after rest f size h =
       let some = some_bytes f in
-      let long = ap (λ (bs : Bytes). length bs) (left-behind size rest) in
+      let long = ap (λ (bs : Bytes). length bs) (left-following size rest) in
       let left = length-drop size rest in
       let is = h.long in
       let fits = h.within in
       omega (arith, some, long, left, is, fits)
 
   one_more : (long : ℕ) (body rest : Bytes) (fs : List Frame) (f : Frame) (size : ℕ) → AreRead s is_at_tail long body fs rest → is_at_tail rest ≡ false → IsReadAt rest f size
-      → AreRead s is_at_tail long body (fs ++ f ∷ []) (behind size rest)
+      → AreRead s is_at_tail long body (fs ++ f ∷ []) (following size rest)
   one_more long body rest fs f size h more at =
-      let less = subst (λ (bs : Bytes). length bs < length rest) (left-behind size rest) (less_behind rest f size at) in
-      subst (λ (bs : Bytes). AreRead s is_at_tail long body (fs ++ f ∷ []) bs) (sym (left-behind size rest)) (read-more s is_at_tail long body fs rest (drop size rest) f h more at.found less)
+      let less = subst (λ (bs : Bytes). length bs < length rest) (left-following size rest) (less_after rest f size at) in
+      subst (λ (bs : Bytes). AreRead s is_at_tail long body (fs ++ f ∷ []) bs) (sym (left-following size rest)) (read-more s is_at_tail long body fs rest (drop size rest) f h more at.found less)
 
   -- of these bytes these are left, and the frames in front of them make this page
-  pub record IsToldUpto (bytes : Bytes) (p : PageOfKind) (rest : Bytes) : Type 0 where
+  pub record IsDecidedUpto (bytes : Bytes) (p : PageOfKind) (rest : Bytes) : Type 0 where
     pub frames : List Frame
     pub read : AreRead s is_at_tail (length bytes) bytes frames rest
-    pub told : told_page (said frames) ≡ Present p
+    pub state : page_from_start (said frames) ≡ Present p
 
   has_more : (bytes : Bytes) (f : Frame) (size : ℕ) → IsReadAt bytes f size → is_at_tail bytes ≡ false
   has_more bytes f size h =
@@ -73,60 +73,60 @@ module _ (s : Format) where
       not_at_tail bytes (omega (arith, some, is, fits))
 
   -- the first frame is a base
-  pub upto-first : (bytes : Bytes) (f : Frame) (size : ℕ) (p : PageOfKind) → IsReadAt bytes f size → base_in f.content ≡ Some p → IsToldUpto bytes p (behind size bytes)
+  pub upto-first : (bytes : Bytes) (f : Frame) (size : ℕ) (p : PageOfKind) → IsReadAt bytes f size → base_in f.content ≡ Some p → IsDecidedUpto bytes p (following size bytes)
   upto-first bytes f size p h base = record {
     frames = f ∷ [];
     read = one_more (length bytes) bytes bytes [] f size (read-none s is_at_tail (length bytes) bytes (omega arith)) (has_more bytes f size h) h;
-    told = ap present_or_missing base;
+    state = ap present_or_missing base;
   }
 
   -- and the next one a run of that page
-  pub upto-more : (bytes rest : Bytes) (p q : PageOfKind) (f : Frame) (size : ℕ) → IsToldUpto bytes p rest → IsReadAt rest f size → continued (Present p) f.content ≡ Present q → IsToldUpto bytes q (behind size rest)
+  pub upto-more : (bytes rest : Bytes) (p q : PageOfKind) (f : Frame) (size : ℕ) → IsDecidedUpto bytes p rest → IsReadAt rest f size → continued (Present p) f.content ≡ Present q → IsDecidedUpto bytes q (following size rest)
   upto-more bytes rest p q f size h at run = record {
     frames = h.frames ++ f ∷ [];
     read = one_more (length bytes) bytes rest h.frames f size h.read (has_more rest f size at) at;
-    told = ap told_page (map-append (λ (g : Frame). g.content) h.frames (f ∷ [])) ∙ told-more (said h.frames) (f.content ∷ []) p h.told ∙ run;
+    state = ap page_from_start (map-append (λ (g : Frame). g.content) h.frames (f ∷ [])) ∙ state-more (said h.frames) (f.content ∷ []) p h.state ∙ run;
   }
 
-  abbrev page_told : Result (List Frame) ℕ → Option PageOfKind
-  page_told r = page_in (told_page (said (all_or_none r)))
+  abbrev page_state : Result (List Frame) ℕ → Option PageOfKind
+  page_state r = page_in (page_from_start (said (all_or_none r)))
 
   -- no byte is left: that is the page
-  pub told-all : (bytes rest : Bytes) (p : PageOfKind) → IsToldUpto bytes p rest → is_at_tail rest ≡ true → Some p ≡ page_in (told_in s bytes)
-  told-all bytes rest p h e = sym (ap page_told (read-all s is_at_tail (length bytes) bytes h.frames rest h.read e) ∙ ap page_in h.told)
+  pub state-all : (bytes rest : Bytes) (p : PageOfKind) → IsDecidedUpto bytes p rest → is_at_tail rest ≡ true → Some p ≡ page_in (page_of_frames s bytes)
+  state-all bytes rest p h e = sym (ap page_state (read-all s is_at_tail (length bytes) bytes h.frames rest h.read e) ∙ ap page_in h.state)
 
   -- what is left begins with no frame
-  pub told-other : (bytes rest : Bytes) (p : PageOfKind) → IsToldUpto bytes p rest → is_at_tail rest ≡ false → read_frame s rest ≡ None → None ≡ page_in (told_in s bytes)
-  told-other bytes rest p h e none = sym (ap page_told (read-broken s is_at_tail (length bytes) bytes h.frames rest h.read e none))
+  pub state-other : (bytes rest : Bytes) (p : PageOfKind) → IsDecidedUpto bytes p rest → is_at_tail rest ≡ false → read_frame s rest ≡ None → None ≡ page_in (page_of_frames s bytes)
+  state-other bytes rest p h e none = sym (ap page_state (read-broken s is_at_tail (length bytes) bytes h.frames rest h.read e none))
 
   -- or with one that doesn't fit
-  pub told-unfit : (bytes rest : Bytes) (p : PageOfKind) (f : Frame) (size : ℕ) → IsToldUpto bytes p rest → IsReadAt rest f size → continued (Present p) f.content ≡ Broken → None ≡ page_in (told_in s bytes)
-  told-unfit bytes rest p f size h at unfit =
+  pub state-unfit : (bytes rest : Bytes) (p : PageOfKind) (f : Frame) (size : ℕ) → IsDecidedUpto bytes p rest → IsReadAt rest f size → continued (Present p) f.content ≡ Broken → None ≡ page_in (page_of_frames s bytes)
+  state-unfit bytes rest p f size h at unfit =
       let fs = h.frames in
       let read = one_more (length bytes) bytes rest fs f size h.read (has_more rest f size at) at in
-      let broken : (gs : List Frame) → page_in (told_page (said ((fs ++ f ∷ []) ++ gs))) ≡ None = λ gs.
-      ap (λ (hs : List Frame). page_in (told_page (said hs))) (append_assoc fs (f ∷ []) gs)
-      ∙ ap (λ (cs : List Content). page_in (told_page cs)) (map-append (λ (g : Frame). g.content) fs (f ∷ gs))
-      ∙ ap page_in (told-more (said fs) (f.content ∷ said gs) p h.told ∙ ap (λ (t : InLog). fold continued t (said gs)) unfit ∙ broken-stays (said gs)) in
-      sym (ap page_told read.read ∙ none_read (fs ++ f ∷ []) (read_frames s is_at_tail (length bytes - length (fs ++ f ∷ [])) (behind size rest)) broken)
+      let broken : (gs : List Frame) → page_in (page_from_start (said ((fs ++ f ∷ []) ++ gs))) ≡ None = λ gs.
+      ap (λ (hs : List Frame). page_in (page_from_start (said hs))) (append_assoc fs (f ∷ []) gs)
+      ∙ ap (λ (cs : List Content). page_in (page_from_start cs)) (map-append (λ (g : Frame). g.content) fs (f ∷ gs))
+      ∙ ap page_in (state-more (said fs) (f.content ∷ said gs) p h.state ∙ ap (λ (t : InLog). fold continued t (said gs)) unfit ∙ broken-stays (said gs)) in
+      sym (ap page_state read.read ∙ none_read (fs ++ f ∷ []) (read_frames s is_at_tail (length bytes - length (fs ++ f ∷ [])) (following size rest)) broken)
 
   -- there is no frame at all
-  pub told-none : (bytes : Bytes) → read_frame s bytes ≡ None → None ≡ page_in (told_in s bytes)
-  told-none bytes none = of (is_at_tail bytes) refl
+  pub state-none : (bytes : Bytes) → read_frame s bytes ≡ None → None ≡ page_in (page_of_frames s bytes)
+  state-none bytes none = of (is_at_tail bytes) refl
     where
       start : AreRead s is_at_tail (length bytes) bytes [] bytes
       start = read-none s is_at_tail (length bytes) bytes (omega arith)
 
-      of : (b : Bool) → is_at_tail bytes ≡ b → None ≡ page_in (told_in s bytes)
-      of true e = sym (ap page_told (read-all s is_at_tail (length bytes) bytes [] bytes start e))
-      of false e = sym (ap page_told (read-broken s is_at_tail (length bytes) bytes [] bytes start e none))
+      of : (b : Bool) → is_at_tail bytes ≡ b → None ≡ page_in (page_of_frames s bytes)
+      of true e = sym (ap page_state (read-all s is_at_tail (length bytes) bytes [] bytes start e))
+      of false e = sym (ap page_state (read-broken s is_at_tail (length bytes) bytes [] bytes start e none))
 
   -- or the first is no base
-  pub told-no_base : (bytes : Bytes) (f : Frame) (size : ℕ) → IsReadAt bytes f size → base_in f.content ≡ None → None ≡ page_in (told_in s bytes)
-  told-no_base bytes f size at none =
+  pub state-no_base : (bytes : Bytes) (f : Frame) (size : ℕ) → IsReadAt bytes f size → base_in f.content ≡ None → None ≡ page_in (page_of_frames s bytes)
+  state-no_base bytes f size at none =
       let read = one_more (length bytes) bytes bytes [] f size (read-none s is_at_tail (length bytes) bytes (omega arith)) (has_more bytes f size at) at in
       let no_base : is_base f.content ≡ false = rw none refl in
-      sym (ap page_told read.read ∙ none_read (f ∷ []) (read_frames s is_at_tail (length bytes - length (f ∷ [])) (behind size bytes)) (λ gs. none-page f.content (said gs) no_base))
+      sym (ap page_state read.read ∙ none_read (f ∷ []) (read_frames s is_at_tail (length bytes - length (f ∷ [])) (following size bytes)) (λ gs. none-page f.content (said gs) no_base))
 
 -- as code asks it
 pub tail_by : (rest : Bytes) (b : Bool) → (length rest == 0) ≡ b → is_at_tail rest ≡ b

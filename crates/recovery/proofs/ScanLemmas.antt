@@ -23,8 +23,8 @@ padding-zeros (zero ∷ bytes) = padding-zeros bytes
 padding-zeros (suc b ∷ bytes) = ap (λ t. t && list_all (λ b. b == 0) bytes) (ne_eqb (suc b) 0 (λ e. cc))
 
 -- what is left after the first n bytes
-pub left-behind : (n : ℕ) (bytes : Bytes) → take (length bytes - n) (drop n bytes) ≡ drop n bytes
-left-behind n bytes = ap (λ (k : ℕ). take k (drop n bytes)) (sym (length-drop n bytes)) ∙ take_all (length (drop n bytes)) (drop n bytes) (omega arith)
+pub left-following : (n : ℕ) (bytes : Bytes) → take (length bytes - n) (drop n bytes) ≡ drop n bytes
+left-following n bytes = ap (λ (k : ℕ). take k (drop n bytes)) (sym (length-drop n bytes)) ∙ take_all (length (drop n bytes)) (drop n bytes) (omega arith)
 
 -- these frames in front of what is read
 abbrev pub with_front : List Frame → Result (List Frame) ℕ → Result (List Frame) ℕ
@@ -69,9 +69,9 @@ module _ (s : Format) (is_end : Bytes → Bool) where
   broken zero rest e none = rw e refl
   broken (suc most) rest e none = rw e (rw none refl)
 
-  pub goes_on : (most : ℕ) (rest behind : Bytes) (f : Frame) → is_end rest ≡ false → read_frame s rest ≡ Some (f, behind)
-      → read_frames s is_end (suc most) rest ≡ with_first f (read_frames s is_end most behind)
-  goes_on most rest behind f e some = rw e (rw some refl)
+  pub goes_on : (most : ℕ) (rest following : Bytes) (f : Frame) → is_end rest ≡ false → read_frame s rest ≡ Some (f, following)
+      → read_frames s is_end (suc most) rest ≡ with_first f (read_frames s is_end most following)
+  goes_on most rest following f e some = rw e (rw some refl)
 
   -- where they end, all were read
   pub read-all : (long : ℕ) (body : Bytes) (fs : List Frame) (rest : Bytes) → AreRead long body fs rest → is_end rest ≡ true
@@ -84,15 +84,15 @@ module _ (s : Format) (is_end : Bytes → Bool) where
   read-broken long body fs rest h e none = h.read ∙ ap (λ r. with_front fs r) (broken (long - length fs) rest e none) ∙ front-err fs (length rest)
 
   -- and one frame more
-  pub read-more : (long : ℕ) (body : Bytes) (fs : List Frame) (rest behind : Bytes) (f : Frame) → AreRead long body fs rest → is_end rest ≡ false
-      → read_frame s rest ≡ Some (f, behind) → length behind < length rest → AreRead long body (fs ++ f ∷ []) behind
-  read-more long body fs rest behind f h e some less =
+  pub read-more : (long : ℕ) (body : Bytes) (fs : List Frame) (rest following : Bytes) (f : Frame) → AreRead long body fs rest → is_end rest ≡ false
+      → read_frame s rest ≡ Some (f, following) → length following < length rest → AreRead long body (fs ++ f ∷ []) following
+  read-more long body fs rest following f h e some less =
       let fewer = length-append fs (f ∷ []) in
       let left : long - length fs ≡ suc (long - length (fs ++ f ∷ [])) = omega (arith, h.room, less, fewer) in
       record {
         read = h.read ∙ ap (λ (n : ℕ). with_front fs (read_frames s is_end n rest)) left
-            ∙ ap (λ r. with_front fs r) (goes_on (long - length (fs ++ f ∷ [])) rest behind f e some)
-            ∙ sym (front-more fs f (read_frames s is_end (long - length (fs ++ f ∷ [])) behind));
+            ∙ ap (λ r. with_front fs r) (goes_on (long - length (fs ++ f ∷ [])) rest following f e some)
+            ∙ sym (front-more fs f (read_frames s is_end (long - length (fs ++ f ∷ [])) following));
         room = omega (arith, h.room, less, fewer);
       }
 
@@ -100,13 +100,13 @@ module _ (s : Format) (is_end : Bytes → Bool) where
 
 module _ (s : Format) (rest : Bytes) where
   -- what code that skims a frame at the front of these bytes returns
-  pub record IsToldOf (told : Option Skimmed) : Type 0 where
-    pub found : MatchOption told (read_frame s rest ≡ None) (λ k. (f : Frame) × (read_frame s rest ≡ Some (f, drop k.size rest)) × IsSkimmed k f × (take k.size rest ≡ bytes_of f))
-    pub within : IfSome told (λ k. k.size ≤ length rest)
+  pub record IsDecidedOf (state : Option Skimmed) : Type 0 where
+    pub found : MatchOption state (read_frame s rest ≡ None) (λ k. (f : Frame) × (read_frame s rest ≡ Some (f, drop k.size rest)) × IsSkimmed k f × (take k.size rest ≡ bytes_of f))
+    pub within : IfSome state (λ k. k.size ≤ length rest)
 
-  pub told-none : (told : Option Skimmed) → told ≡ None → IsToldOf told → read_frame s rest ≡ None
-  told-none None e h = h.found
-  told-none (Some k) e h = absurd (cc)
+  pub state-none : (state : Option Skimmed) → state ≡ None → IsDecidedOf state → read_frame s rest ≡ None
+  state-none None e h = h.found
+  state-none (Some k) e h = absurd (cc)
 
   -- the frame that was identified so
   pub record IsFrame (k : Skimmed) : Type 0 where
@@ -117,8 +117,8 @@ module _ (s : Format) (rest : Bytes) where
     pub within : k.size ≤ length rest
     pub less : length (drop k.size rest) < length rest
 
-  told_by : (k : Skimmed) → IsToldOf (Some k) → IsFrame k
-  told_by k h =
+  state_by : (k : Skimmed) → IsDecidedOf (Some k) → IsFrame k
+  state_by k h =
       let (f, read, skimmed, bytes) = h.found in
       let fits = h.within in
       let long = ap length (sym bytes) in
@@ -126,13 +126,13 @@ module _ (s : Format) (rest : Bytes) where
       let left = length-drop k.size rest in
       record { frame = f; read = read; skimmed = skimmed; bytes = bytes; within = fits; less = omega (arith, long, part, left, fits) }
 
-  pub told-some : (told : Option Skimmed) (k : Skimmed) → told ≡ Some k → IsToldOf told → IsFrame k
-  told-some told k e h = told_by k (subst (λ (o : Option Skimmed). IsToldOf o) e h)
+  pub state-some : (state : Option Skimmed) (k : Skimmed) → state ≡ Some k → IsDecidedOf state → IsFrame k
+  state-some state k e h = state_by k (subst (λ (o : Option Skimmed). IsDecidedOf o) e h)
 
 -- there is less left then
-pub less-left : (s : Format) (rest : Bytes) (told : Skimmed) (size : ℕ) → size ≡ told.size → IsFrame s rest told → length (take (length rest - size) (drop size rest)) < length rest
-less-left s rest told size same_size f =
-    let same = ap (λ (bs : Bytes). length bs) (ap (λ (m : ℕ). take (length rest - m) (drop m rest)) same_size ∙ left-behind told.size rest) in
+pub less-left : (s : Format) (rest : Bytes) (state : Skimmed) (size : ℕ) → size ≡ state.size → IsFrame s rest state → length (take (length rest - size) (drop size rest)) < length rest
+less-left s rest state size same_size f =
+    let same = ap (λ (bs : Bytes). length bs) (ap (λ (m : ℕ). take (length rest - m) (drop m rest)) same_size ∙ left-following state.size rest) in
     let less = f.less in
     omega (arith, same, less)
 
@@ -159,20 +159,20 @@ module _ (s : Format) (is_end : Bytes → Bool) (long n : ℕ) (body : Bytes) wh
       let first = read-none s is_end long (drop 16 bytes) (omega (arith, less, fits)) in
       record {
         frames = [];
-        read = subst (λ (b : Bytes). AreRead s is_end long b [] (take (length bytes - 16) (drop 16 bytes))) (sym is) (subst (λ (rest : Bytes). AreRead s is_end long (drop 16 bytes) [] rest) (sym (left-behind 16 bytes)) first);
+        read = subst (λ (b : Bytes). AreRead s is_end long b [] (take (length bytes - 16) (drop 16 bytes))) (sym is) (subst (λ (rest : Bytes). AreRead s is_end long (drop 16 bytes) [] rest) (sym (left-following 16 bytes)) first);
         held = ap (λ (ks : List ScannedFrame). map (held_frame n) ks) none;
       }
 
   -- and one frame more
-  pub upto-more : (items now : List ScannedFrame) (k : ScannedFrame) (told : Skimmed) (size : ℕ) (rest : Bytes) → now ≡ items ++ k ∷ [] → k.pid ≡ told.pid → k.kind ≡ told.kind → size ≡ told.size → k.bytes.now ≡ take size rest
-      → IsUpto s is_end long n body items rest → is_end rest ≡ false → (f : IsFrame s rest told) → IsUpto s is_end long n body now (take (length rest - size) (drop size rest))
-  upto-more items now k told size rest put pid kind same_size bytes h e f =
+  pub upto-more : (items now : List ScannedFrame) (k : ScannedFrame) (state : Skimmed) (size : ℕ) (rest : Bytes) → now ≡ items ++ k ∷ [] → k.pid ≡ state.pid → k.kind ≡ state.kind → size ≡ state.size → k.bytes.now ≡ take size rest
+      → IsUpto s is_end long n body items rest → is_end rest ≡ false → (f : IsFrame s rest state) → IsUpto s is_end long n body now (take (length rest - size) (drop size rest))
+  upto-more items now k state size rest put pid kind same_size bytes h e f =
       let one : Found = record { segment = n; frame = f.frame } in
       let same : held_frame n k ≡ said_of_frame one = held-same n k.pid f.frame.pid k.kind (kind_of f.frame.content) k.bytes.now (bytes_of f.frame) (pid ∙ sym f.skimmed.0) (kind ∙ sym f.skimmed.1) (bytes ∙ ap (λ (m : ℕ). take m rest) same_size ∙ f.bytes) in
       record {
         frames = h.frames ++ f.frame ∷ [];
-        read = subst (λ (behind : Bytes). AreRead s is_end long body (h.frames ++ f.frame ∷ []) behind) (sym (left-behind told.size rest) ∙ ap (λ (m : ℕ). take (length rest - m) (drop m rest)) (sym same_size))
-            (read-more s is_end long body h.frames rest (drop told.size rest) f.frame h.read e f.read f.less);
+        read = subst (λ (following : Bytes). AreRead s is_end long body (h.frames ++ f.frame ∷ []) following) (sym (left-following state.size rest) ∙ ap (λ (m : ℕ). take (length rest - m) (drop m rest)) (sym same_size))
+            (read-more s is_end long body h.frames rest (drop state.size rest) f.frame h.read e f.read f.less);
         held = ap (λ (ks : List ScannedFrame). map (held_frame n) ks) put ∙ map-append (held_frame n) items (k ∷ [])
             ∙ ap (λ (hs : List HeldFrame). hs ++ held_frame n k ∷ []) h.held ∙ ap (λ (x : HeldFrame). map said_of_frame (all_in n h.frames) ++ x ∷ []) same
             ∙ sym (map-append said_of_frame (all_in n h.frames) (one ∷ []))
@@ -184,16 +184,16 @@ module _ (s : Format) (g : HeldSegment) (headed : starts_with nat_eq g.bytes (se
   abbrev read_by : Result (List Frame) ℕ → Result (List Found) Fault
   read_by r = in_segment g.number (length g.bytes) r
 
-  behind_header : scanned s g ≡ read_by (read_frames s (is_end_at g.end) (length g.bytes) (drop 16 g.bytes))
-  behind_header = rw headed refl
+  past_header : scanned s g ≡ read_by (read_frames s (is_end_at g.end) (length g.bytes) (drop 16 g.bytes))
+  past_header = rw headed refl
 
   pub segment-read : (fs : List Frame) (rest : Bytes) → AreRead s (is_end_at g.end) (length g.bytes) (drop 16 g.bytes) fs rest → is_end_at g.end rest ≡ true
       → scanned s g ≡ Ok (all_in g.number fs)
-  segment-read fs rest h e = behind_header ∙ ap (λ r. read_by r) (read-all s (is_end_at g.end) (length g.bytes) (drop 16 g.bytes) fs rest h e)
+  segment-read fs rest h e = past_header ∙ ap (λ r. read_by r) (read-all s (is_end_at g.end) (length g.bytes) (drop 16 g.bytes) fs rest h e)
 
   pub segment-broken : (fs : List Frame) (rest : Bytes) → AreRead s (is_end_at g.end) (length g.bytes) (drop 16 g.bytes) fs rest → is_end_at g.end rest ≡ false
       → read_frame s rest ≡ None → scanned s g ≡ Err (BadFrame g.number (length g.bytes - length rest))
-  segment-broken fs rest h e none = behind_header ∙ ap (λ r. read_by r) (read-broken s (is_end_at g.end) (length g.bytes) (drop 16 g.bytes) fs rest h e none)
+  segment-broken fs rest h e none = past_header ∙ ap (λ r. read_by r) (read-broken s (is_end_at g.end) (length g.bytes) (drop 16 g.bytes) fs rest h e none)
 
 -- what a segment holds
 abbrev all : List Found → Result (List Found) Fault

@@ -17,28 +17,28 @@ use Rattle.recovery.specs.declared.scan_segment.ScannedFrame.{ScannedFrame}
 
 -- ---- the segments
 
-abbrev pub Told : Type 0
-Told = Result (List Found) Fault
+abbrev pub ReadResult : Type 0
+ReadResult = Result (List Found) Fault
 
-abbrev all : List Found → Told
+abbrev all : List Found → ReadResult
 all found = Ok found
 
-abbrev broken : Fault → Told
+abbrev broken : Fault → ReadResult
 broken fault = Err fault
 
 module _ (w : Wanted) (gathering : Gathering) where
   -- without a fault the frames are gathered
-  pub found-of : (o : Option Fault) (told : Told) → is_some o ≡ false → IsSoFar w gathering o told → (found : List Found) × (told ≡ all found) × AreLive w gathering found
-  found-of None told none h = h
-  found-of (Some fault) told none h = absurd (cc)
+  pub found-of : (o : Option Fault) (state : ReadResult) → is_some o ≡ false → IsSoFar w gathering o state → (found : List Found) × (state ≡ all found) × AreLive w gathering found
+  found-of None state none h = h
+  found-of (Some fault) state none h = absurd (cc)
 
-  pub found-none : (o : Option Fault) (told : Told) → o ≡ None → IsSoFar w gathering o told → (found : List Found) × (told ≡ all found) × AreLive w gathering found
-  found-none None told none h = h
-  found-none (Some fault) told none h = absurd (cc)
+  pub found-none : (o : Option Fault) (state : ReadResult) → o ≡ None → IsSoFar w gathering o state → (found : List Found) × (state ≡ all found) × AreLive w gathering found
+  found-none None state none h = h
+  found-none (Some fault) state none h = absurd (cc)
 
-  pub fault-some : (o : Option Fault) (told : Told) (fault : Fault) → o ≡ Some fault → IsSoFar w gathering o told → told ≡ broken fault
-  fault-some None told fault some h = absurd (cc)
-  fault-some (Some g) told fault some h = let is : g ≡ fault = cc in h ∙ ap broken is
+  pub fault-some : (o : Option Fault) (state : ReadResult) (fault : Fault) → o ≡ Some fault → IsSoFar w gathering o state → state ≡ broken fault
+  fault-some None state fault some h = absurd (cc)
+  fault-some (Some g) state fault some h = let is : g ≡ fault = cc in h ∙ ap broken is
 
 -- ---- what was scanned is gathered
 
@@ -52,32 +52,32 @@ abbrev none_said : Fault → Said
 none_said fault = Err fault
 
 -- of segment n, or of more, which hold all this, these frames are left, and those in front of them are kept
-pub record AreBehind (w : Wanted) (gathering : Gathering) (n : ℕ) (every : List Found) (left : List ScannedFrame) : Type 0 where
+pub record AreAfter (w : Wanted) (gathering : Gathering) (n : ℕ) (every : List Found) (left : List ScannedFrame) : Type 0 where
   pub front : List Found
   pub more : List Found
   pub all : front ++ more ≡ every
   pub same : map said_of_frame more ≡ map (held_frame n) left
   pub live : AreLive w gathering front
 
-pub behind-next : (w : Wanted) (gathering next : Gathering) (n : ℕ) (every : List Found) (left rest : List ScannedFrame) (k : ScannedFrame) → left ≡ k ∷ rest → AreBehind w gathering n every left
-    → ((found : List Found) (f : Found) → said_of_frame f ≡ held_frame n k → AreLive w gathering found → AreLive w next (found ++ f ∷ [])) → AreBehind w next n every rest
-behind-next w gathering next n every left rest k is h add = of h.more h.all (h.same ∙ ap (λ (ks : List ScannedFrame). map (held_frame n) ks) is)
+pub following-next : (w : Wanted) (gathering next : Gathering) (n : ℕ) (every : List Found) (left rest : List ScannedFrame) (k : ScannedFrame) → left ≡ k ∷ rest → AreAfter w gathering n every left
+    → ((found : List Found) (f : Found) → said_of_frame f ≡ held_frame n k → AreLive w gathering found → AreLive w next (found ++ f ∷ [])) → AreAfter w next n every rest
+following-next w gathering next n every left rest k is h add = of h.more h.all (h.same ∙ ap (λ (ks : List ScannedFrame). map (held_frame n) ks) is)
   where
-    of : (more : List Found) → h.front ++ more ≡ every → map said_of_frame more ≡ held_frame n k ∷ map (held_frame n) rest → AreBehind w next n every rest
+    of : (more : List Found) → h.front ++ more ≡ every → map said_of_frame more ≡ held_frame n k ∷ map (held_frame n) rest → AreAfter w next n every rest
     of [] all same = absurd (cc)
     of (f ∷ fs) all same =
         let one : said_of_frame f ≡ held_frame n k = cc in
-        let behind : map said_of_frame fs ≡ map (held_frame n) rest = cc in
+        let following : map said_of_frame fs ≡ map (held_frame n) rest = cc in
         record {
           front = h.front ++ f ∷ [];
           more = fs;
           all = append_assoc h.front (f ∷ []) fs ∙ all;
-          same = behind;
+          same = following;
           live = add h.front f one h.live;
         }
 
-pub behind-none : (w : Wanted) (gathering : Gathering) (n : ℕ) (every : List Found) (left : List ScannedFrame) → left ≡ [] → AreBehind w gathering n every left → AreLive w gathering every
-behind-none w gathering n every left none h = of h.more h.all (h.same ∙ ap (λ (ks : List ScannedFrame). map (held_frame n) ks) none)
+pub following-none : (w : Wanted) (gathering : Gathering) (n : ℕ) (every : List Found) (left : List ScannedFrame) → left ≡ [] → AreAfter w gathering n every left → AreLive w gathering every
+following-none w gathering n every left none h = of h.more h.all (h.same ∙ ap (λ (ks : List ScannedFrame). map (held_frame n) ks) none)
   where
     of : (more : List Found) → h.front ++ more ≡ every → map said_of_frame more ≡ [] → AreLive w gathering every
     of [] all same = subst (λ (fs : List Found). AreLive w gathering fs) (sym (append-nil h.front) ∙ all) h.live
@@ -86,44 +86,44 @@ behind-none w gathering n every left none h = of h.more h.all (h.same ∙ ap (λ
 -- ---- the segments
 
 -- after a fault nothing counts
-pub broken-stays : (fault : Fault) (read : List Told) → fold followed_by (broken fault) read ≡ broken fault
+pub broken-stays : (fault : Fault) (read : List ReadResult) → fold followed_by (broken fault) read ≡ broken fault
 broken-stays fault [] = refl
 broken-stays fault (r ∷ read) = broken-stays fault read
 
-pub stays-broken : (w : Wanted) (gathering : Gathering) (o : Option Fault) (told : Told) (read : List Told) → is_some o ≡ true → IsSoFar w gathering o told → IsSoFar w gathering o (fold followed_by told read)
-stays-broken w gathering None told read some h = absurd (cc)
-stays-broken w gathering (Some fault) told read some h = ap (λ (t : Told). fold followed_by t read) h ∙ broken-stays fault read
+pub stays-broken : (w : Wanted) (gathering : Gathering) (o : Option Fault) (state : ReadResult) (read : List ReadResult) → is_some o ≡ true → IsSoFar w gathering o state → IsSoFar w gathering o (fold followed_by state read)
+stays-broken w gathering None state read some h = absurd (cc)
+stays-broken w gathering (Some fault) state read some h = ap (λ (t : ReadResult). fold followed_by t read) h ∙ broken-stays fault read
 
 -- which segment gave frames, and which a fault
-ok_of : (hs : List HeldFrame) (r : Told) → said_of r ≡ said hs → (more : List Found) × (r ≡ all more) × (map said_of_frame more ≡ hs)
+ok_of : (hs : List HeldFrame) (r : ReadResult) → said_of r ≡ said hs → (more : List Found) × (r ≡ all more) × (map said_of_frame more ≡ hs)
 ok_of hs (Ok more) e = (more, refl, cc)
 ok_of hs (Err fault) e = absurd (cc)
 
-err_of : (fault : Fault) (r : Told) → said_of r ≡ none_said fault → r ≡ broken fault
+err_of : (fault : Fault) (r : ReadResult) → said_of r ≡ none_said fault → r ≡ broken fault
 err_of fault (Ok more) e = absurd (cc)
 err_of fault (Err other) e = let is : other ≡ fault = cc in ap broken is
 
 -- of segments that all together hold this, these scans are left
-pub record AreLeft (w : Wanted) (gathering : Gathering) (o : Option Fault) (every : Told) (left : List ScanDone) : Type 0 where
-  pub so_far : Told
-  pub read : List Told
+pub record AreLeft (w : Wanted) (gathering : Gathering) (o : Option Fault) (every : ReadResult) (left : List ScanDone) : Type 0 where
+  pub so_far : ReadResult
+  pub read : List ReadResult
   pub all : fold followed_by so_far read ≡ every
   pub same : map said_of read ≡ map said_by_scan left
   pub is : IsSoFar w gathering o so_far
 
 -- the first of them
-record IsFirst (every so_far : Told) (d : ScanDone) (rest : List ScanDone) : Type 0 where
-  one : Told
-  behind : List Told
-  told : said_of one ≡ said_by_scan d
-  same : map said_of behind ≡ map said_by_scan rest
-  all : fold followed_by (followed_by so_far one) behind ≡ every
+record IsFirst (every so_far : ReadResult) (d : ScanDone) (rest : List ScanDone) : Type 0 where
+  one : ReadResult
+  following : List ReadResult
+  state : said_of one ≡ said_by_scan d
+  same : map said_of following ≡ map said_by_scan rest
+  all : fold followed_by (followed_by so_far one) following ≡ every
 
-first_of : (every so_far : Told) (read : List Told) (d : ScanDone) (rest : List ScanDone) → fold followed_by so_far read ≡ every → map said_of read ≡ said_by_scan d ∷ map said_by_scan rest → IsFirst every so_far d rest
+first_of : (every so_far : ReadResult) (read : List ReadResult) (d : ScanDone) (rest : List ScanDone) → fold followed_by so_far read ≡ every → map said_of read ≡ said_by_scan d ∷ map said_by_scan rest → IsFirst every so_far d rest
 first_of every so_far [] d rest all same = absurd (cc)
-first_of every so_far (r ∷ rs) d rest all same = record { one = r; behind = rs; told = cc; same = cc; all = all }
+first_of every so_far (r ∷ rs) d rest all same = record { one = r; following = rs; state = cc; same = cc; all = all }
 
-module _ (w : Wanted) (gathering : Gathering) (o : Option Fault) (every : Told) (left rest : List ScanDone) (d : ScanDone) (is : left ≡ d ∷ rest) (none : o ≡ None) (h : AreLeft w gathering o every left) where
+module _ (w : Wanted) (gathering : Gathering) (o : Option Fault) (every : ReadResult) (left rest : List ScanDone) (d : ScanDone) (is : left ≡ d ∷ rest) (none : o ≡ None) (h : AreLeft w gathering o every left) where
   first : IsFirst every h.so_far d rest
   first = first_of every h.so_far h.read d rest h.all (h.same ∙ ap (λ (ds : List ScanDone). map said_by_scan ds) is)
 
@@ -132,12 +132,12 @@ module _ (w : Wanted) (gathering : Gathering) (o : Option Fault) (every : Told) 
       → ((found more : List Found) → map said_of_frame more ≡ map (held_frame n) frames.items → AreLive w gathering found → AreLive w next (found ++ more)) → AreLeft w next o every rest
   left-ok next n frames number ok add =
       let f = first in
-      let (found, told, live) = found-none w gathering o h.so_far none h.is in
-      let (more, one, same) = ok_of (map (held_frame n) frames.items) f.one (f.told ∙ ap (λ (m : ℕ). frames_held m d.scan) number ∙ ap (λ r. frames_held n r) ok) in
-      let both : followed_by h.so_far f.one ≡ all (found ++ more) = ap (λ (t : Told). followed_by t f.one) told ∙ ap (λ (t : Told). followed_by (all found) t) one in
+      let (found, state, live) = found-none w gathering o h.so_far none h.is in
+      let (more, one, same) = ok_of (map (held_frame n) frames.items) f.one (f.state ∙ ap (λ (m : ℕ). frames_held m d.scan) number ∙ ap (λ r. frames_held n r) ok) in
+      let both : followed_by h.so_far f.one ≡ all (found ++ more) = ap (λ (t : ReadResult). followed_by t f.one) state ∙ ap (λ (t : ReadResult). followed_by (all found) t) one in
       record {
         so_far = followed_by h.so_far f.one;
-        read = f.behind;
+        read = f.following;
         all = f.all;
         same = f.same;
         is = subst (λ (p : Option Fault). IsSoFar w next p (followed_by h.so_far f.one)) (sym none) (found ++ more, both, add found more same live);
@@ -147,16 +147,16 @@ module _ (w : Wanted) (gathering : Gathering) (o : Option Fault) (every : Told) 
   pub left-err : (fault : Fault) → d.scan ≡ Err fault → every ≡ broken fault
   left-err fault err =
       let f = first in
-      let (found, told, live) = found-none w gathering o h.so_far none h.is in
-      let one = err_of fault f.one (f.told ∙ ap (λ r. frames_held d.segment.number r) err) in
-      sym f.all ∙ ap (λ (t : Told). fold followed_by t f.behind) (ap (λ (t : Told). followed_by t f.one) told ∙ ap (λ (t : Told). followed_by (all found) t) one) ∙ broken-stays fault f.behind
+      let (found, state, live) = found-none w gathering o h.so_far none h.is in
+      let one = err_of fault f.one (f.state ∙ ap (λ r. frames_held d.segment.number r) err) in
+      sym f.all ∙ ap (λ (t : ReadResult). fold followed_by t f.following) (ap (λ (t : ReadResult). followed_by t f.one) state ∙ ap (λ (t : ReadResult). followed_by (all found) t) one) ∙ broken-stays fault f.following
 
 -- where none is left
-pub left-none : (w : Wanted) (gathering : Gathering) (o : Option Fault) (every : Told) (left : List ScanDone) → left ≡ [] → AreLeft w gathering o every left → IsSoFar w gathering o every
+pub left-none : (w : Wanted) (gathering : Gathering) (o : Option Fault) (every : ReadResult) (left : List ScanDone) → left ≡ [] → AreLeft w gathering o every left → IsSoFar w gathering o every
 left-none w gathering o every left none h = of h.read h.all (h.same ∙ ap (λ (ds : List ScanDone). map said_by_scan ds) none)
   where
-    of : (read : List Told) → fold followed_by h.so_far read ≡ every → map said_of read ≡ [] → IsSoFar w gathering o every
-    of [] all same = subst (λ (t : Told). IsSoFar w gathering o t) all h.is
+    of : (read : List ReadResult) → fold followed_by h.so_far read ≡ every → map said_of read ≡ [] → IsSoFar w gathering o every
+    of [] all same = subst (λ (t : ReadResult). IsSoFar w gathering o t) all h.is
     of (r ∷ rs) all same = absurd (cc)
 
 -- ---- what a round makes
@@ -171,8 +171,8 @@ scans-made s own gs made same is = scans-each s gs ∙ ap (λ (t : Format). map 
 -- ---- the whole log
 
 -- the frames that were gathered are such as a store may have, since the log is read so
-pub gathered-all : (s : Format) (w : Wanted) (old new : ℕ) (told : Told) → ((found : List Found) → told ≡ all found → AllByRecursion (λ f. is_frame s f.frame ≡ true) found)
-    → (r : Result Gathering Fault) → MatchResult r (λ g. (found : List Found) × (told ≡ Ok found) × AreLive w g found) (λ fault. told ≡ Err fault)
-    → MatchResult r (λ g. (found : List Found) × (told ≡ Ok found) × AreGathered s w g found) (λ fault. (told ≡ Err fault) ⊎ IsLate old new fault)
-gathered-all s w old new told within (Ok g) (found, is, live) = (found, is, record { live = live; within = within found is })
-gathered-all s w old new told within (Err fault) e = inl e
+pub gathered-all : (s : Format) (w : Wanted) (old new : ℕ) (state : ReadResult) → ((found : List Found) → state ≡ all found → AllByRecursion (λ f. is_frame s f.frame ≡ true) found)
+    → (r : Result Gathering Fault) → MatchResult r (λ g. (found : List Found) × (state ≡ Ok found) × AreLive w g found) (λ fault. state ≡ Err fault)
+    → MatchResult r (λ g. (found : List Found) × (state ≡ Ok found) × AreGathered s w g found) (λ fault. (state ≡ Err fault) ⊎ IsLate old new fault)
+gathered-all s w old new state within (Ok g) (found, is, live) = (found, is, record { live = live; within = within found is })
+gathered-all s w old new state within (Err fault) e = inl e

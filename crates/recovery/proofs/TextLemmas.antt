@@ -27,7 +27,7 @@ use Rattle.recovery.specs.LogPages.{contents_of, in_log, pages_of, broken_in}
 use Rattle.recovery.specs.PageByLog.{InLog, page_by_log, page_in, is_broken}
 use Rattle.recovery.specs.PageByLog.InLog.{Missing, Present, Broken}
 use Rattle.recovery.proofs.PagesLemmas.{contents-append, page_at-pages_of, rising-pages_of, none_broken, not_broken}
-use Rattle.recovery.proofs.TellLemmas.{page-whole, page-free, page-newer}
+use Rattle.recovery.proofs.StateLemmas.{page-whole, page-free, page-newer}
 
 -- ---- the text of each pid
 
@@ -135,24 +135,24 @@ module _ (text : Text) (t : Tree) where
 -- ---- the log with the text after it
 
 -- a page, or none, as a log says it
-abbrev pub as_told : Option PageOfKind → InLog
-as_told None = Missing
-as_told (Some p) = Present p
+abbrev pub as_read : Option PageOfKind → InLog
+as_read None = Missing
+as_read (Some p) = Present p
 
-told-back : (o : Option PageOfKind) → page_in (as_told o) ≡ o
-told-back None = refl
-told-back (Some p) = refl
+state-back : (o : Option PageOfKind) → page_in (as_read o) ≡ o
+state-back None = refl
+state-back (Some p) = refl
 
-told-sound : (o : Option PageOfKind) → is_broken (as_told o) ≡ false
-told-sound None = refl
-told-sound (Some p) = refl
+state-sound : (o : Option PageOfKind) → is_broken (as_read o) ≡ false
+state-sound None = refl
+state-sound (Some p) = refl
 
-missing : (told : InLog) → page_in told ≡ None → is_broken told ≡ false → told ≡ Missing
+missing : (state : InLog) → page_in state ≡ None → is_broken state ≡ false → state ≡ Missing
 missing Missing e f = refl
 missing (Present p) e f = absurd (cc)
 missing Broken e f = absurd (cc)
 
-newer_by : (spelling : Spelling) (cs : List Content) (k : ℕ) (told : InLog) (now : Option PageOfKind) → page_by_log cs ≡ told → IsLogged k (page_in told) now → page_by_log (cs ++ lacking spelling now (Upto k)) ≡ as_told now
+newer_by : (spelling : Spelling) (cs : List Content) (k : ℕ) (state : InLog) (now : Option PageOfKind) → page_by_log cs ≡ state → IsLogged k (page_in state) now → page_by_log (cs ++ lacking spelling now (Upto k)) ≡ as_read now
 newer_by spelling cs k Missing now e h = absurd h
 newer_by spelling cs k Broken now e h = absurd h
 newer_by spelling cs k (Present x) None e h = absurd h
@@ -160,7 +160,7 @@ newer_by spelling cs k (Present x) (Some p) e h = page-newer cs k x p e h
 
 -- what contents say, with those after them that are written: just the page that there is
 after_by : (spelling : Spelling) (cs : List Content) (now : Option PageOfKind) (l : Logged) → is_broken (page_by_log cs) ≡ false → (l ≡ No → page_in (page_by_log cs) ≡ None) → ((k : ℕ) → l ≡ Upto k → IsLogged k (page_in (page_by_log cs)) now)
-    → page_by_log (cs ++ lacking spelling now l) ≡ as_told now
+    → page_by_log (cs ++ lacking spelling now l) ≡ as_read now
 after_by spelling cs (Some p) No sound none upto = page-whole spelling cs p
 after_by spelling cs (Some p) Old sound none upto = page-whole spelling cs p
 after_by spelling cs None No sound none upto = ap page_by_log (append-nil cs) ∙ missing (page_by_log cs) (none refl) sound
@@ -177,8 +177,8 @@ pub record IsKnown (t : Tree) (fs : List Frame) : Type 0 where
 
 module _ (text : Text) (t : Tree) (fs : List Frame) (known : IsKnown t fs) where
   -- what the log then says of each pid
-  pub told-after : (pid : ℕ) → in_log (fs ++ text_of text t) pid ≡ as_told (page_at t.pages pid)
-  told-after pid =
+  pub state-after : (pid : ℕ) → in_log (fs ++ text_of text t) pid ≡ as_read (page_at t.pages pid)
+  state-after pid =
       let here : page_at (pages_of fs) pid ≡ page_in (in_log fs pid) = page_at-pages_of fs pid in
       ap page_by_log (contents-append pid fs (text_of text t) ∙ ap (λ (cs : List Content). contents_of pid fs ++ cs) (text-of_pid text t known.pages known.logs pid))
       ∙ after_by (spelling_of (version_with text)) (contents_of pid fs) (page_at t.pages pid) (taken text (logged_of t pid)) (none_broken fs pid known.sound)
@@ -189,7 +189,7 @@ module _ (text : Text) (t : Tree) (fs : List Frame) (known : IsKnown t fs) where
   pub pages-after : pages_of (fs ++ text_of text t) ≡ t.pages
   pages-after =
       same_table (pages_of (fs ++ text_of text t)) t.pages (rising-pages_of (fs ++ text_of text t)) known.pages
-      (λ pid. page_at-pages_of (fs ++ text_of text t) pid ∙ ap page_in (told-after pid) ∙ told-back (page_at t.pages pid))
+      (λ pid. page_at-pages_of (fs ++ text_of text t) pid ∙ ap page_in (state-after pid) ∙ state-back (page_at t.pages pid))
 
   pub sound-after : broken_in (fs ++ text_of text t) ≡ None
-  sound-after = not_broken (fs ++ text_of text t) (λ pid. ap is_broken (told-after pid) ∙ told-sound (page_at t.pages pid))
+  sound-after = not_broken (fs ++ text_of text t) (λ pid. ap is_broken (state-after pid) ∙ state-sound (page_at t.pages pid))

@@ -5,7 +5,7 @@ use Rattle.mapping.specs.Slots.{entry_if}
 use Rattle.mapping.specs.Table.{Mapping}
 use Rattle.frame_codec.specs.declared.format.Format.{Format}
 use Rattle.recovery.specs.PageByLog.{page_in}
-use Rattle.recovery.specs.Rebuild.{HeldLog, held_log, told_in}
+use Rattle.recovery.specs.Rebuild.{HeldLog, held_log, page_of_frames}
 use Rattle.recovery.specs.declared.gather.Kept.{Kept}
 use Rattle.recovery.specs.declared.rebuild.Rebuilt.{Rebuilt}
 
@@ -18,8 +18,8 @@ abbrev pub log_pids : List HeldLog → List ℕ
 log_pids hs = map (λ h. h.pid) hs
 
 -- the pages that these logs make
-abbrev pub pages_told : Format → List HeldLog → List (ℕ × PageOfKind)
-pages_told s hs = flat_map (λ h. entry_if h.pid (page_in (told_in s h.frames))) hs
+abbrev pub pages_of_logs : Format → List HeldLog → List (ℕ × PageOfKind)
+pages_of_logs s hs = flat_map (λ h. entry_if h.pid (page_in (page_of_frames s h.frames))) hs
 
 -- the logs that these were made of, and the pages that were
 abbrev pub logs_made : List Rebuilt → List HeldLog

@@ -15,21 +15,21 @@ use Rattle.frame_codec.specs.Frame.Content.{Free}
 use Rattle.frame_codec.specs.declared.skim.FrameKind.{FrameKind}
 use Rattle.frame_codec.specs.declared.skim.FrameKind.TheVariants as kinds
 use Rattle.flush_log.specs.Reading.{Found}
-use Rattle.recovery.specs.PageByLog.{is_base, is_start, from_last, told_page}
+use Rattle.recovery.specs.PageByLog.{is_base, is_start, from_last, page_from_start}
 use Rattle.recovery.specs.PageByLog.InLog.{Present, Broken}
 use Rattle.recovery.specs.StoreOfDisk.{frames_in}
 use Rattle.recovery.specs.declared.gather.Gathering.{Gathering}
 use Rattle.recovery.specs.declared.gather.Kept.{Kept}
-use Rattle.recovery.specs.declared.gather.Told.{Told}
-use Rattle.recovery.specs.declared.gather.Told.TheVariants as told
+use Rattle.recovery.specs.declared.gather.PageState.{PageState}
+use Rattle.recovery.specs.declared.gather.PageState.TheVariants as state
 use Rattle.recovery.specs.declared.gather.Wanted.{Wanted}
 use Rattle.recovery.specs.declared.gather.Wanted.TheVariants.{Every, Head}
 
 -- ---- the frames of a page
 
 -- of a pid's frames the live ones, which make its page: from the last base or free frame on
-abbrev pub telling : ℕ → List Found → List Found
-telling pid found = from_last (λ f. is_start f.frame.content) (filter (λ f. nat_eq f.frame.pid pid) found)
+abbrev pub live_frames : ℕ → List Found → List Found
+live_frames pid found = from_last (λ f. is_start f.frame.content) (filter (λ f. nat_eq f.frame.pid pid) found)
 
 -- their contents
 abbrev pub contents_in : List Found → List Content
@@ -52,43 +52,43 @@ spelled fs = flat_map bytes_of fs
 -- ---- one page
 
 -- the state of a page whose contents are these, from its last base or free frame on
-abbrev pub IsTold : Told → List Content → Type 0
-IsTold told.Nothing cs = cs ≡ []
-IsTold told.Leaf cs = (p : Page Bytes) × (told_page cs ≡ Present (Leaf p))
-IsTold told.Index cs = (p : Page ℕ) × (told_page cs ≡ Present (Index p))
-IsTold told.Free cs = cs ≡ Free ∷ []
-IsTold told.Unfit cs = told_page cs ≡ Broken
+abbrev pub IsStateOf : PageState → List Content → Type 0
+IsStateOf state.Nothing cs = cs ≡ []
+IsStateOf state.Leaf cs = (p : Page Bytes) × (page_from_start cs ≡ Present (Leaf p))
+IsStateOf state.Index cs = (p : Page ℕ) × (page_from_start cs ≡ Present (Index p))
+IsStateOf state.Free cs = cs ≡ Free ∷ []
+IsStateOf state.Unfit cs = page_from_start cs ≡ Broken
 
 -- what is kept of a page with these live frames, where the log begins at this segment
 pub record IsKept (w : Wanted) (head : ℕ) (k : Kept) (fs : List Found) : Type 0 where
-  pub told : IsTold k.told (contents_in fs)
+  pub state : IsStateOf k.state (contents_in fs)
   pub frames : k.frames.items ≡ spelled (wanted_of w head fs)
 
 -- ---- one frame more
 
 -- the state of a page with a run of a leaf after it
-abbrev pub with_leaf_run : Told → Told
-with_leaf_run told.Nothing = told.Nothing
-with_leaf_run told.Leaf = told.Leaf
-with_leaf_run told.Index = told.Unfit
-with_leaf_run told.Free = told.Unfit
-with_leaf_run told.Unfit = told.Unfit
+abbrev pub with_leaf_run : PageState → PageState
+with_leaf_run state.Nothing = state.Nothing
+with_leaf_run state.Leaf = state.Leaf
+with_leaf_run state.Index = state.Unfit
+with_leaf_run state.Free = state.Unfit
+with_leaf_run state.Unfit = state.Unfit
 
 -- and with a run of an index page
-abbrev pub with_index_run : Told → Told
-with_index_run told.Nothing = told.Nothing
-with_index_run told.Leaf = told.Unfit
-with_index_run told.Index = told.Index
-with_index_run told.Free = told.Unfit
-with_index_run told.Unfit = told.Unfit
+abbrev pub with_index_run : PageState → PageState
+with_index_run state.Nothing = state.Nothing
+with_index_run state.Leaf = state.Unfit
+with_index_run state.Index = state.Index
+with_index_run state.Free = state.Unfit
+with_index_run state.Unfit = state.Unfit
 
 -- and with any frame
-abbrev pub told_with : Told → FrameKind → Told
-told_with t kinds.FullLeaf = told.Leaf
-told_with t kinds.DeltaLeaf = with_leaf_run t
-told_with t kinds.FullIndex = told.Index
-told_with t kinds.DeltaIndex = with_index_run t
-told_with t kinds.Free = told.Free
+abbrev pub state_after : PageState → FrameKind → PageState
+state_after t kinds.FullLeaf = state.Leaf
+state_after t kinds.DeltaLeaf = with_leaf_run t
+state_after t kinds.FullIndex = state.Index
+state_after t kinds.DeltaIndex = with_index_run t
+state_after t kinds.Free = state.Free
 
 -- the frames that are kept with a base: that alone, where it is wanted
 abbrev pub with_base : Bool → Bytes → Bytes
@@ -116,7 +116,7 @@ IsKeptOf w head (Some k) fs = IsKept w head k fs
 
 -- Of what was found so far, under each pid what is kept of its page; and each pid with a frame that was found is known to have one.
 pub record AreKept (w : Wanted) (head : ℕ) (by_pid : BTreeMap ℕ Kept) (found : List Found) : Type 0 where
-  pub each : (pid : ℕ) → IsKeptOf w head (get nat_cmp by_pid pid) (telling pid found)
+  pub each : (pid : ℕ) → IsKeptOf w head (get nat_cmp by_pid pid) (live_frames pid found)
   pub pids : (pid : ℕ) → is_some (get nat_cmp by_pid pid) ≡ is_among pid (map (λ f. f.frame.pid) found)
 
 -- the segment where the first of these stands
@@ -148,11 +148,11 @@ IsSoFar w g (Some fault) t = t ≡ Err fault
 -- ---- what fits no page
 
 -- whether the frames of a page fit no page
-abbrev pub is_unfit : Told → Bool
-is_unfit told.Unfit = true
+abbrev pub is_unfit : PageState → Bool
+is_unfit state.Unfit = true
 is_unfit _ = false
 
 -- the first of these pages whose frames do
 abbrev pub first_unfit : List (ℕ × Kept) → Option Finding
 first_unfit [] = None
-first_unfit (e ∷ es) = if is_unfit e.1.told then Some (record { rule = 1; pid = e.0 }) else first_unfit es
+first_unfit (e ∷ es) = if is_unfit e.1.state then Some (record { rule = 1; pid = e.0 }) else first_unfit es

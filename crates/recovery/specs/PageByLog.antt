@@ -59,13 +59,13 @@ continued (Present (Index p)) (DeltaIndex run) = Present (Index (with_newer_run 
 continued _ _ = Broken
 
 -- what contents say that begin with a base, or with there being no page
-abbrev pub told_page : List Content → InLog
-told_page [] = Missing
-told_page (c ∷ cs) = fold continued (begun_page c) cs
+abbrev pub page_from_start : List Content → InLog
+page_from_start [] = Missing
+page_from_start (c ∷ cs) = fold continued (begun_page c) cs
 
 -- the page of a pid, by all its contents in order: what the part from the last base or free frame on says
 abbrev pub page_by_log : List Content → InLog
-page_by_log cs = told_page (from_last is_start cs)
+page_by_log cs = page_from_start (from_last is_start cs)
 
 -- the page, if there is one
 abbrev pub page_in : InLog → Option PageOfKind

@@ -8,7 +8,7 @@ use Rattle.frame_codec.specs.Frame.{Content, Frame}
 use Rattle.frame_codec.specs.Shown.{frame_of}
 use Rattle.frame_codec.specs.declared.frame.Frame as code
 use Rattle.flush_log.specs.Reading.{is_at_tail, read_frames}
-use Rattle.recovery.specs.PageByLog.{InLog, continued, told_page}
+use Rattle.recovery.specs.PageByLog.{InLog, continued, page_from_start}
 use Rattle.recovery.specs.PageByLog.InLog.{Present, Broken}
 use Rattle.recovery.specs.declared.page_parts.PageParts.{PageParts}
 use Rattle.recovery.specs.declared.page_parts.PageParts.TheVariants.{Leaf, Index}
@@ -26,8 +26,8 @@ abbrev pub frames_of_bytes : Format → Bytes → List Frame
 frames_of_bytes s bytes = all_or_none (read_frames s is_at_tail (length bytes) bytes)
 
 -- what they say of a page
-abbrev pub told_in : Format → Bytes → InLog
-told_in s bytes = told_page (map (λ f. f.content) (frames_of_bytes s bytes))
+abbrev pub page_of_frames : Format → Bytes → InLog
+page_of_frames s bytes = page_from_start (map (λ f. f.content) (frames_of_bytes s bytes))
 
 -- ---- the work
 

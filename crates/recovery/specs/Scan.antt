@@ -34,8 +34,8 @@ abbrev pub scanned : Format → HeldSegment → Result (List Found) Fault
 scanned s g = read_segment s (is_end_at g.end) g.number g.bytes
 
 -- what was found, and then what these segments hold, one after the other; or the first fault
-abbrev pub scanned_behind : Format → Result (List Found) Fault → List HeldSegment → Result (List Found) Fault
-scanned_behind s told segments = fold followed_by told (map (scanned s) segments)
+abbrev pub scanned_after : Format → Result (List Found) Fault → List HeldSegment → Result (List Found) Fault
+scanned_after s state segments = fold followed_by state (map (scanned s) segments)
 
 -- ---- frames that are not decoded
 

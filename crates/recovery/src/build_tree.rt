@@ -11,7 +11,7 @@ ghost use Rattle.mapping.specs.Proper.{AreRisingPids};
 ghost use Rattle.mapping.specs.Slots.{entry_if};
 ghost use Rattle.mapping.specs.TreeInMemory.{AreAllHome, tree_of};
 ghost use Rattle.flush_log.specs.Reading.{Found};
-ghost use Rattle.recovery.specs.BuiltTree.{in_places, log_pids, pages_told, logs_made, pages_made, filled, log_under};
+ghost use Rattle.recovery.specs.BuiltTree.{in_places, log_pids, pages_of_logs, logs_made, pages_made, filled, log_under};
 ghost use Rattle.recovery.specs.Gathered.{AreGathered};
 ghost use Rattle.recovery.specs.Rebuild.{held_log};
 ghost use Rattle.recovery.specs.StoreOfDisk.{frames_in, tree_by_log, wrong_in};
@@ -85,7 +85,7 @@ fn build_pages(
 ) -> Result<(), Fault>
     requires { AreRisingPids (keys_of table.old.places ++ log_pids (map held_log logs.items)) }
     ensures ok { OnOk result
-        (table.new ≡ filled table.old (pages_told work.now.format (map held_log logs.items))) }
+        (table.new ≡ filled table.old (pages_of_logs work.now.format (map held_log logs.items))) }
     ensures err { IfErr result (λ fault. fault ≡ NoMemory) }
 {
     match run_round(rt, crew, &NoGate, work, logs) {
@@ -106,7 +106,7 @@ fn table_of(
 ) -> Result<Table<Page<Global>, Global>, Fault>
     ensures ok { IfOk result (λ table.
         table ≡ record {
-          places = in_places (pages_told work.now.format (map log_under by_pid.entries));
+          places = in_places (pages_of_logs work.now.format (map log_under by_pid.entries));
           logged = [];
         }) }
     ensures err { IfErr result (λ fault. fault ≡ NoMemory) }

@@ -3,7 +3,7 @@
 //! Whoever wrote a disk chose its page ids. So they are looked up by their order and not by a hash, which ids could be chosen to share.
 ghost use Rattle.std.specs.Prelude.{◌≡◌, ◌++◌, ◌∷◌, [], List, IfOk, OnOk};
 ghost use Rattle.flush_log.specs.Reading.{Found};
-ghost use Rattle.recovery.specs.Gathered.{AreLive, is_wanted_in, told_with, with_base, with_run, kept_with, is_unfit};
+ghost use Rattle.recovery.specs.Gathered.{AreLive, is_wanted_in, state_after, with_base, with_run, kept_with, is_unfit};
 ghost use Rattle.recovery.specs.LogPages.{broken_in};
 ghost use Rattle.recovery.specs.Scan.{held_frame, said_of_frame};
 ghost use Rattle.recovery.specs.StoreOfDisk.{frames_in};
@@ -29,7 +29,7 @@ pub enum Wanted {
 
 /// The state of a page after its frames so far. What stands before a base or a free frame no longer counts.
 #[derive(Clone, Copy, Debug, PartialEq, Eq)]
-pub enum Told {
+pub enum PageState {
     /// There is neither a base nor a free frame yet.
     Nothing,
     /// There is a leaf.
@@ -46,7 +46,7 @@ pub enum Told {
 #[derive(Drop)]
 pub struct Kept {
     /// The state after its frames.
-    pub told: Told,
+    pub state: PageState,
     /// Its frames from its last base on, back to back, where they are wanted; else none, and then they take no memory.
     pub frames: Vec<u8>,
 }
@@ -65,40 +65,40 @@ pub struct Gathering {
 }
 
 // The page's state after one more frame of this kind.
-fn told_with(told: Told, kind: FrameKind) -> Told
-    ensures { result ≡ told_with told kind }
+fn state_after(state: PageState, kind: FrameKind) -> PageState
+    ensures { result ≡ state_after state kind }
 {
     match kind {
-        FrameKind::FullLeaf => Told::Leaf,
-        FrameKind::DeltaLeaf => match told {
-            Told::Nothing => Told::Nothing,
-            Told::Leaf => Told::Leaf,
-            Told::Index => Told::Unfit,
-            Told::Free => Told::Unfit,
-            Told::Unfit => Told::Unfit,
+        FrameKind::FullLeaf => PageState::Leaf,
+        FrameKind::DeltaLeaf => match state {
+            PageState::Nothing => PageState::Nothing,
+            PageState::Leaf => PageState::Leaf,
+            PageState::Index => PageState::Unfit,
+            PageState::Free => PageState::Unfit,
+            PageState::Unfit => PageState::Unfit,
         },
-        FrameKind::FullIndex => Told::Index,
-        FrameKind::DeltaIndex => match told {
-            Told::Nothing => Told::Nothing,
-            Told::Leaf => Told::Unfit,
-            Told::Index => Told::Index,
-            Told::Free => Told::Unfit,
-            Told::Unfit => Told::Unfit,
+        FrameKind::FullIndex => PageState::Index,
+        FrameKind::DeltaIndex => match state {
+            PageState::Nothing => PageState::Nothing,
+            PageState::Leaf => PageState::Unfit,
+            PageState::Index => PageState::Index,
+            PageState::Free => PageState::Unfit,
+            PageState::Unfit => PageState::Unfit,
         },
-        FrameKind::Free => Told::Free,
+        FrameKind::Free => PageState::Free,
     }
 }
 
 // Whether this is the state after frames that fit no page.
-fn is_unfit(told: Told) -> bool
-    ensures { result ≡ is_unfit told }
+fn is_unfit(state: PageState) -> bool
+    ensures { result ≡ is_unfit state }
 {
-    match told {
-        Told::Nothing => false,
-        Told::Leaf => false,
-        Told::Index => false,
-        Told::Free => false,
-        Told::Unfit => true,
+    match state {
+        PageState::Nothing => false,
+        PageState::Leaf => false,
+        PageState::Index => false,
+        PageState::Free => false,
+        PageState::Unfit => true,
     }
 }
 
@@ -177,13 +177,13 @@ impl Gathering {
         let before = match self.by_pid.remove(&pid) {
             Some(kept) => kept,
             None => Kept {
-                told: Told::Nothing,
+                state: PageState::Nothing,
                 frames: Vec::new(self.alloc),
             },
         };
-        let Kept { told, frames } = before;
+        let Kept { state, frames } = before;
         let kept = Kept {
-            told: told_with(told, kind),
+            state: state_after(state, kind),
             frames: frames_with(self.alloc, frames, kind, is_wanted, bytes)?,
         };
         self.by_pid.insert(pid, kept)?;
@@ -198,7 +198,7 @@ impl Gathering {
     {
         for entry in self.by_pid.iter() {
             let (pid, kept) = entry;
-            if is_unfit(kept.told) {
+            if is_unfit(kept.state) {
                 return Some(Finding {
                     rule: UNFIT_FRAMES,
                     pid: Pid(*pid),

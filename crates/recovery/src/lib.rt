@@ -22,7 +22,7 @@ mod recovered;
 mod scan_segment;
 pub mod table_laws;
 
-pub use crate::gather::{Gathering, Kept, Told, Wanted};
+pub use crate::gather::{Gathering, Kept, PageState, Wanted};
 pub use crate::log_reading::read_log;
 pub use crate::read_bytes::read;
 pub use crate::recovered::{Recovered, recover};

@@ -1,16 +1,15 @@
 //! The reading of a log: its segments, from the head to the tail, are read, some at a time, and their frames are gathered by page.
-ghost use Rattle.std.specs.Prelude.{◌≡◌, ◌≢◌, ◌⊎◌, ℕ, ◌+◌, ◌-◌, ◌*◌, ◌^◌, ◌<◌, ◌≤◌, [], IsTrue, List, map, length, take, None, Ok, Err, MatchResult, IfOk, IfErr, OnOk};
+ghost use Rattle.std.specs.Prelude.{◌≡◌, ◌⊎◌, ℕ, ◌+◌, ◌-◌, ◌*◌, ◌^◌, ◌<◌, ◌≤◌, [], List, map, length, take, None, Ok, Err, MatchResult, IfOk, IfErr, OnOk};
 ghost use Rattle.std.specs.List.{All};
 ghost use Rattle.keys.specs.Bytes.{Bytes};
 ghost use Rattle.keys.specs.Limits.{first_bad_field};
-ghost use Rattle.keys.specs.declared.fault.Fault.TheVariants.{Device};
-ghost use Rattle.flush_log.specs.Disk.{Kept, Same};
+ghost use Rattle.flush_log.specs.Disk.{Kept, OnlyRead, CountsNoOther};
 ghost use Rattle.flush_log.specs.Ends.{AreEnds};
 ghost use Rattle.flush_log.specs.Reading.{Found, read_earlier as earlier_segments, log_between};
 ghost use Rattle.flush_log.specs.Segments.{segments_begin, disk_size, last_segment, bytes_in_use};
 ghost use Rattle.recovery.specs.Gathered.{AreGathered, IsSoFar};
 ghost use Rattle.recovery.specs.Recovered.{IsReadOf, IsLate};
-ghost use Rattle.recovery.specs.Scan.{held_segment, scanned_behind};
+ghost use Rattle.recovery.specs.Scan.{held_segment, scanned_after};
 ghost use Rattle.recovery.specs.declared.gather.Wanted as declared;
 
 use crate::gather::{Gathering, Wanted};
@@ -68,29 +67,28 @@ fn read_whole<'b, D: Disk>(
         first + count ≤ head + format.now.settings.segments →
         (now : Bytes) × IsReadOf (D.view disk.new) now
         × (take segments_begin now ≡ take segments_begin file)
-        × IfOk result (λ segments. scanned_behind format.now
+        × IfOk result (λ segments. scanned_after format.now
         (earlier_segments format.now file head (first - head)) (map held_segment segments.items)
         ≡ earlier_segments format.now now head (first + count - head)) }
     ensures short { IfOk result
         (λ segments. All (λ g. length (held_segment g).bytes < 2 ^ 32) segments.items) }
     ensures err { IfErr result (IsLate (D.failed disk.old) (D.failed disk.new)) }
     ensures kept { Kept (D.view disk.old) (D.view disk.new) }
-    ensures same { IsTrue (D.view disk.old).is_honest → Same (D.view disk.old) (D.view disk.new) }
+    ensures same { OnlyRead (D.view disk.old) (D.view disk.new) }
     ensures counted { OnOk result (D.failed disk.new ≡ D.failed disk.old) }
-    ensures uncounted { IfErr result
-        (λ fault. fault ≢ Device → D.failed disk.new ≡ D.failed disk.old) }
+    ensures uncounted { CountsNoOther result (D.failed disk.old) (D.failed disk.new) }
 {
     let mut segments = Vec::with_capacity(alloc, count)?;
     let mut rest = buf;
     for number in first..first + count as u64 {
-        let (bytes, behind) = rest.split_at_mut(format.settings.seg_size as usize);
+        let (bytes, following) = rest.split_at_mut(format.settings.seg_size as usize);
         read(disk, place_of_segment(&format.settings, number), bytes)?;
         segments.push_reserved(Segment {
             number,
             end: End::Padding,
             bytes,
         });
-        rest = behind;
+        rest = following;
     }
     Ok(segments)
 }
@@ -110,7 +108,7 @@ fn read_last<'b, D: Disk>(
     ensures read { (file : Bytes) → IsReadOf (D.view disk.old) file →
         (now : Bytes) × IsReadOf (D.view disk.new) now
         × (take segments_begin now ≡ take segments_begin file)
-        × IfOk result (λ segments. scanned_behind format.now (earlier_segments format.now file
+        × IfOk result (λ segments. scanned_after format.now (earlier_segments format.now file
         ends.now.head (last_segment format.now.settings ends.now.tail - ends.now.head))
         (map held_segment segments.items)
         ≡ log_between format.now now ends.now.head ends.now.tail) }
@@ -118,10 +116,9 @@ fn read_last<'b, D: Disk>(
         (λ segments. All (λ g. length (held_segment g).bytes < 2 ^ 32) segments.items) }
     ensures err { IfErr result (IsLate (D.failed disk.old) (D.failed disk.new)) }
     ensures kept { Kept (D.view disk.old) (D.view disk.new) }
-    ensures same { IsTrue (D.view disk.old).is_honest → Same (D.view disk.old) (D.view disk.new) }
+    ensures same { OnlyRead (D.view disk.old) (D.view disk.new) }
     ensures counted { OnOk result (D.failed disk.new ≡ D.failed disk.old) }
-    ensures uncounted { IfErr result
-        (λ fault. fault ≢ Device → D.failed disk.new ≡ D.failed disk.old) }
+    ensures uncounted { CountsNoOther result (D.failed disk.old) (D.failed disk.new) }
 {
     let number = last_segment(&format.settings, ends.tail);
     let bytes = &mut buf[..bytes_in_use(format, ends)];
@@ -158,10 +155,9 @@ fn read_earlier<D: Disk>(
     ensures room { length buffer.new.items ≡ length buffer.old.items }
     ensures err { IfErr result (IsLate (D.failed disk.old) (D.failed disk.new)) }
     ensures kept { Kept (D.view disk.old) (D.view disk.new) }
-    ensures same { IsTrue (D.view disk.old).is_honest → Same (D.view disk.old) (D.view disk.new) }
+    ensures same { OnlyRead (D.view disk.old) (D.view disk.new) }
     ensures counted { OnOk result (D.failed disk.new ≡ D.failed disk.old) }
-    ensures uncounted { IfErr result
-        (λ fault. fault ≢ Device → D.failed disk.new ≡ D.failed disk.old) }
+    ensures uncounted { CountsNoOther result (D.failed disk.old) (D.failed disk.new) }
 {
     let alloc = *buffer.allocator();
     let size = format.settings.seg_size as usize;
@@ -200,10 +196,9 @@ fn read_segments<D: Disk>(
         (log_between format.now now ends.now.head ends.now.tail)) }
     ensures err { IfErr result (IsLate (D.failed disk.old) (D.failed disk.new)) }
     ensures kept { Kept (D.view disk.old) (D.view disk.new) }
-    ensures same { IsTrue (D.view disk.old).is_honest → Same (D.view disk.old) (D.view disk.new) }
+    ensures same { OnlyRead (D.view disk.old) (D.view disk.new) }
     ensures counted { OnOk result (D.failed disk.new ≡ D.failed disk.old) }
-    ensures uncounted { IfErr result
-        (λ fault. fault ≢ Device → D.failed disk.new ≡ D.failed disk.old) }
+    ensures uncounted { CountsNoOther result (D.failed disk.old) (D.failed disk.new) }
 {
     let alloc = *buffer.allocator();
     read_earlier(rt, crew, disk, format, ends, buffer, so_far)?;
@@ -241,10 +236,9 @@ pub fn read_log<D: Disk>(
         (λ fault. (log_between format.now now ends.now.head ends.now.tail ≡ Err fault)
         ⊎ IsLate (D.failed disk.old) (D.failed disk.new) fault) }
     ensures kept { Kept (D.view disk.old) (D.view disk.new) }
-    ensures same { IsTrue (D.view disk.old).is_honest → Same (D.view disk.old) (D.view disk.new) }
+    ensures same { OnlyRead (D.view disk.old) (D.view disk.new) }
     ensures counted { OnOk result (D.failed disk.new ≡ D.failed disk.old) }
-    ensures uncounted { IfErr result
-        (λ fault. fault ≢ Device → D.failed disk.new ≡ D.failed disk.old) }
+    ensures uncounted { CountsNoOther result (D.failed disk.old) (D.failed disk.new) }
 {
     let mut so_far = LogSoFar::new(alloc, wanted);
     let at_once = segments_at_once(format, ends);

@@ -6,7 +6,7 @@ ghost use Rattle.keys.specs.declared.fault.Fault as faults;
 ghost use Rattle.keys.specs.declared.fault.Fault.TheVariants.{NoMemory};
 ghost use Rattle.flush_log.specs.Reading.{Found, followed_by};
 ghost use Rattle.recovery.specs.Gathered.{AreLive, IsSoFar};
-ghost use Rattle.recovery.specs.Scan.{held_frame, held_segment, said_of_frame, said_of, said_by_scan, scanned_behind};
+ghost use Rattle.recovery.specs.Scan.{held_frame, held_segment, said_of_frame, said_of, said_by_scan, scanned_after};
 ghost use Rattle.recovery.specs.declared.gather.Wanted as declared;
 
 use crate::gather::{Gathering, Wanted};
@@ -58,11 +58,11 @@ impl LogSoFar {
 
     /// The frames, or the first fault.
     pub(crate) fn into_gathering(self) -> Result<Gathering, Fault>
-        ensures { (w : declared.Wanted) (told : Result (List Found) faults.Fault) →
-            IsSoFar w self.gathering self.fault told →
+        ensures { (w : declared.Wanted) (state : Result (List Found) faults.Fault) →
+            IsSoFar w self.gathering self.fault state →
             MatchResult result
-            (λ g. (found : List Found) × (told ≡ Ok found) × AreLive w g found)
-            (λ fault. told ≡ Err fault) }
+            (λ g. (found : List Found) × (state ≡ Ok found) × AreLive w g found)
+            (λ fault. state ≡ Err fault) }
     {
         let LogSoFar {
             alloc: _alloc,
@@ -78,11 +78,12 @@ impl LogSoFar {
     // Takes what scans of segments gave, in their order, up to the first fault.
     fn gather(&mut self, scans: Vec<ScanDone<'_>>) -> Result<(), Fault>
         requires { self.old.fault ≡ None }
-        ensures ok { (w : declared.Wanted) (told : Result (List Found) faults.Fault)
+        ensures ok { (w : declared.Wanted) (state : Result (List Found) faults.Fault)
             (read : List (Result (List Found) faults.Fault)) →
             map said_of read ≡ map said_by_scan scans.entry.items →
-            IsSoFar w self.old.gathering self.old.fault told →
-            OnOk result (IsSoFar w self.new.gathering self.new.fault (fold followed_by told read)) }
+            IsSoFar w self.old.gathering self.old.fault state →
+            OnOk result
+            (IsSoFar w self.new.gathering self.new.fault (fold followed_by state read)) }
         ensures err { IfErr result (λ fault. fault ≡ NoMemory) }
     {
         for done in scans {
@@ -109,10 +110,10 @@ impl LogSoFar {
     ) -> Result<(), Fault>
         requires sync { IsSync R.row }
         requires short { All (λ g. length (held_segment g).bytes < 2 ^ 32) segments.items }
-        ensures ok { (w : declared.Wanted) (told : Result (List Found) faults.Fault) →
-            IsSoFar w self.old.gathering self.old.fault told →
+        ensures ok { (w : declared.Wanted) (state : Result (List Found) faults.Fault) →
+            IsSoFar w self.old.gathering self.old.fault state →
             OnOk result (IsSoFar w self.new.gathering self.new.fault
-            (scanned_behind format.now told (map held_segment segments.entry.items))) }
+            (scanned_after format.now state (map held_segment segments.entry.items))) }
         ensures err { IfErr result (λ fault. fault ≡ NoMemory) }
     {
         if self.fault.is_some() {

@@ -1,9 +1,8 @@
 //! The reading of a disk: its settings, and the slot of its store.
-ghost use Rattle.std.specs.Prelude.{◌≡◌, ◌≢◌, ◌⊎◌, ◌≤◌, IsTrue, true, length, take, drop, None, Ok, Err, MatchResult, IfOk, IfErr, OnOk};
+ghost use Rattle.std.specs.Prelude.{◌≡◌, ◌⊎◌, ◌≤◌, true, length, take, drop, None, Ok, Err, MatchResult, IfOk, OnOk};
 ghost use Rattle.keys.specs.Bytes.{Bytes};
 ghost use Rattle.keys.specs.Limits.{first_bad_field};
-ghost use Rattle.keys.specs.declared.fault.Fault.TheVariants.{Device};
-ghost use Rattle.flush_log.specs.Disk.{Kept, Same};
+ghost use Rattle.flush_log.specs.Disk.{Kept, OnlyRead, CountsNoOther};
 ghost use Rattle.flush_log.specs.Segments.{disk_size};
 ghost use Rattle.flush_log.specs.SettingsBlock.{settings_block_size, store_settings};
 ghost use Rattle.flush_log.specs.Slot.{slots_begin, is_slot, store_slot};
@@ -44,10 +43,9 @@ pub(crate) fn read_settings<D: Disk>(disk: &mut D) -> Result<Settings, Fault>
     ensures good { IfOk result
         (λ s. (first_bad_field s ≡ None) × (disk_size s ≤ (D.view disk.old).size)) }
     ensures kept { Kept (D.view disk.old) (D.view disk.new) }
-    ensures same { IsTrue (D.view disk.old).is_honest → Same (D.view disk.old) (D.view disk.new) }
+    ensures same { OnlyRead (D.view disk.old) (D.view disk.new) }
     ensures counted { OnOk result (D.failed disk.new ≡ D.failed disk.old) }
-    ensures uncounted { IfErr result
-        (λ fault. fault ≢ Device → D.failed disk.new ≡ D.failed disk.old) }
+    ensures uncounted { CountsNoOther result (D.failed disk.old) (D.failed disk.new) }
 {
     let len = disk.len();
     if len < BLOCK_SIZE as u64 {
@@ -85,10 +83,9 @@ pub(crate) fn read_store_slot<D: Disk>(disk: &mut D, settings: &Settings) -> Res
         ⊎ IsLate (D.failed disk.old) (D.failed disk.new) fault) }
     ensures slot { IfOk result (λ t. is_slot settings.now t.sequence t ≡ true) }
     ensures kept { Kept (D.view disk.old) (D.view disk.new) }
-    ensures same { IsTrue (D.view disk.old).is_honest → Same (D.view disk.old) (D.view disk.new) }
+    ensures same { OnlyRead (D.view disk.old) (D.view disk.new) }
     ensures counted { OnOk result (D.failed disk.new ≡ D.failed disk.old) }
-    ensures uncounted { IfErr result
-        (λ fault. fault ≢ Device → D.failed disk.new ≡ D.failed disk.old) }
+    ensures uncounted { CountsNoOther result (D.failed disk.old) (D.failed disk.new) }
 {
     let mut slots = [0; 2 * SLOT_SIZE];
     read(disk, SLOTS_BEGIN, &mut slots)?;

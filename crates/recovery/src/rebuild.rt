@@ -1,7 +1,7 @@
 //! Builds a page again from its frames, as they stand in the log.
 ghost use Rattle.std.specs.Prelude.{◌≡◌, IfOk};
 ghost use Rattle.recovery.specs.PageByLog.{page_in};
-ghost use Rattle.recovery.specs.Rebuild.{told_in};
+ghost use Rattle.recovery.specs.Rebuild.{page_of_frames};
 
 use crate::page_parts::PageParts;
 use crew::{Turn, Work};
@@ -35,7 +35,7 @@ pub fn rebuild(
     format: &Format,
     frames: &[u8],
 ) -> Result<Option<Page<Global>>, AllocError>
-    ensures { IfOk result (λ page. page ≡ page_in (told_in format.now frames.now)) }
+    ensures { IfOk result (λ page. page ≡ page_in (page_of_frames format.now frames.now)) }
 {
     let Some((base, size)) = read_frame(alloc, frames, format)? else {
         return Ok(None);
@@ -71,7 +71,7 @@ impl Work for RebuildWork {
     ghost use Rattle.std.specs.Prelude.{⊤, Option};
     ghost use Rattle.index_page.specs.Page.{PageOfKind};
     ghost use Rattle.recovery.specs.PageByLog.{page_in};
-    ghost use Rattle.recovery.specs.Rebuild.{HeldLog, held_log, told_in};
+    ghost use Rattle.recovery.specs.Rebuild.{HeldLog, held_log, page_of_frames};
 
     type Job = PageLog;
 
@@ -89,7 +89,7 @@ impl Work for RebuildWork {
 
     ghost outcome = { λ d. d.page };
 
-    ghost made = { λ w h. page_in (told_in w.format h.frames) };
+    ghost made = { λ w h. page_in (page_of_frames w.format h.frames) };
 
     fn work(&self, job: PageLog) -> Turn<PageLog, Rebuilt> {
         match rebuild(self.alloc, &self.format, &job.frames) {

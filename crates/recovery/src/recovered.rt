@@ -1,10 +1,9 @@
 //! Recovery: the bytes of a disk become a store again, or are refused with the one fault that they have.
-ghost use Rattle.std.specs.Prelude.{◌≡◌, ◌≢◌, ◌⊎◌, None, Ok, Err, IsTrue, IfOk, IfErr, MatchResult, OnOk};
+ghost use Rattle.std.specs.Prelude.{◌≡◌, ◌⊎◌, None, Ok, Err, IfOk, MatchResult, OnOk};
 ghost use Rattle.keys.specs.Bytes.{Bytes};
 ghost use Rattle.keys.specs.Limits.{first_bad_field};
-ghost use Rattle.keys.specs.declared.fault.Fault.TheVariants.{Device};
 ghost use Rattle.mapping.specs.TreeInMemory.{AreAllHome};
-ghost use Rattle.flush_log.specs.Disk.{Kept, Same};
+ghost use Rattle.flush_log.specs.Disk.{Kept, OnlyRead, CountsNoOther};
 ghost use Rattle.recovery.specs.Recovered.{IsReadOf, IsLate, IsLogRead, store_recovered};
 ghost use Rattle.recovery.specs.StoreOfDisk.{store_of_disk};
 
@@ -52,11 +51,10 @@ fn read_parts<D: Disk>(
         (λ fault. (store_of_disk file ≡ Err fault)
         ⊎ IsLate (D.failed disk.old) (D.failed disk.new) fault) }
     ensures good { IfOk result (λ read. first_bad_field read.format.settings ≡ None) }
-    ensures same { IsTrue (D.view disk.old).is_honest → Same (D.view disk.old) (D.view disk.new) }
+    ensures same { OnlyRead (D.view disk.old) (D.view disk.new) }
     ensures kept { Kept (D.view disk.old) (D.view disk.new) }
     ensures counted { OnOk result (D.failed disk.new ≡ D.failed disk.old) }
-    ensures uncounted { IfErr result
-        (λ fault. fault ≢ Device → D.failed disk.new ≡ D.failed disk.old) }
+    ensures uncounted { CountsNoOther result (D.failed disk.old) (D.failed disk.new) }
 {
     let settings = read_settings(disk)?;
     let slot = read_store_slot(disk, &settings)?;
@@ -94,11 +92,10 @@ pub fn recover<D: Disk>(
         (λ fault. (store_of_disk file ≡ Err fault)
         ⊎ IsLate (D.failed disk.old) (D.failed disk.new) fault) }
     // No byte changed, and nothing of what a crash may leave.
-    ensures same { IsTrue (D.view disk.old).is_honest → Same (D.view disk.old) (D.view disk.new) }
+    ensures same { OnlyRead (D.view disk.old) (D.view disk.new) }
     ensures kept { Kept (D.view disk.old) (D.view disk.new) }
     ensures counted { OnOk result (D.failed disk.new ≡ D.failed disk.old) }
-    ensures uncounted { IfErr result
-        (λ fault. fault ≢ Device → D.failed disk.new ≡ D.failed disk.old) }
+    ensures uncounted { CountsNoOther result (D.failed disk.old) (D.failed disk.new) }
 {
     let LogRead {
         format,

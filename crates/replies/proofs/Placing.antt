@@ -441,19 +441,19 @@ module _ {A : Type 0} where
   HasPieces cs rs p = is_ranged_at cs p.place ≡ false → slice_get rs p.place ≡ Some p.reply
 
   read_lone : (cs : List (Command A)) (rs : List (Reply A)) (qs : List (Piece A)) (i : ℕ) → length qs ≡ 1 → is_ranged_at cs i ≡ false → All (λ q. (q.place == i) ≡ true) qs → All (HasPieces cs rs) qs → lone (replies_of qs) ≡ slice_get rs i
-  read_lone cs rs [] i h plain at told = absurd (omega arith)
-  read_lone cs rs (p ∷ []) i h plain at told =
+  read_lone cs rs [] i h plain at reported = absurd (omega arith)
+  read_lone cs rs (p ∷ []) i h plain at reported =
       let here : p.place ≡ i = eqb-true p.place i (All-head (λ q. (q.place == i) ≡ true) p [] at) in
-      sym (All-head (HasPieces cs rs) p [] told (ap (is_ranged_at cs) here ∙ plain)) ∙ ap (slice_get rs) here
-  read_lone cs rs (p ∷ (q ∷ qs)) i h plain at told = absurd (omega arith)
+      sym (All-head (HasPieces cs rs) p [] reported (ap (is_ranged_at cs) here ∙ plain)) ∙ ap (slice_get rs) here
+  read_lone cs rs (p ∷ (q ∷ qs)) i h plain at reported = absurd (omega arith)
 
-  module _ (cs : List (Command A)) (ps : List (Piece A)) (rs : List (Reply A)) (answers : AreAnswers cs ps) (told : All (HasPieces cs rs) ps)
+  module _ (cs : List (Command A)) (ps : List (Piece A)) (rs : List (Reply A)) (answers : AreAnswers cs ps) (reported : All (HasPieces cs rs) ps)
       (scans : (place : ℕ) (lo : List ℕ) (hi : Option (List ℕ)) (limit : ℕ) → slice_get cs place ≡ Some (Scan lo hi limit) → slice_get rs place ≡ Some (Rows (take limit (rows_at ps place))))
       (wipes : (place : ℕ) (lo : List ℕ) (hi : Option (List ℕ)) → slice_get cs place ≡ Some (Wipe lo hi) → slice_get rs place ≡ Some (Wiped (min (sum_by (λ p. count_of p.reply) (pieces_at ps place)) most_counted))) where
     plain_there : (i : ℕ) → i < length cs → is_ranged_at cs i ≡ false → reply_at cs ps i ≡ slice_get rs i
     plain_there i h plain =
         let one = one_piece cs ps i answers h plain in
-        one.1 ∙ read_lone cs rs (pieces_at ps i) i one.0 plain (filter_passes (λ q. q.place == i) ps) (All-filter (λ q. q.place == i) (HasPieces cs rs) ps told)
+        one.1 ∙ read_lone cs rs (pieces_at ps i) i one.0 plain (filter_passes (λ q. q.place == i) ps) (All-filter (λ q. q.place == i) (HasPieces cs rs) ps reported)
 
     there : (i : ℕ) (c : Command A) → i < length cs → slice_get cs i ≡ Some c → reply_at cs ps i ≡ slice_get rs i
     there i (Scan lo hi limit) h is = reply_at-scan cs ps i lo hi limit is ∙ sym (scans i lo hi limit is)

@@ -14,14 +14,14 @@ use Rattle.routing.specs.BatchKeys.{key_at}
 use Rattle.routing.specs.Idle.{gives, gives_at, empties, empties_at}
 use Rattle.routing.specs.SortedPlaces.{reaches, reaches_at}
 
-first_behind : {X : Type 0} (end_of : X → Option (List ℕ)) (xs : List X) (place : ℕ) (x : X) → slice_get xs place ≡ Some x → end_of x ≡ first_end (drop place (map end_of xs))
-first_behind end_of [] place x h = absurd (cc)
-first_behind end_of (y ∷ ys) zero x h = ap end_of (sym (same_Some y x h))
-first_behind end_of (y ∷ ys) (suc place) x h = first_behind end_of ys place x h
+first_after : {X : Type 0} (end_of : X → Option (List ℕ)) (xs : List X) (place : ℕ) (x : X) → slice_get xs place ≡ Some x → end_of x ≡ first_end (drop place (map end_of xs))
+first_after end_of [] place x h = absurd (cc)
+first_after end_of (y ∷ ys) zero x h = ap end_of (sym (same_Some y x h))
+first_after end_of (y ∷ ys) (suc place) x h = first_after end_of ys place x h
 
 -- the end at a place, where the list has one there
 pub end_there : {X : Type 0} (end_of : X → Option (List ℕ)) (xs : List X) (place : ℕ) (x : X) → place < length xs → x ≡ get_or xs place x → end_of x ≡ first_end (drop place (map end_of xs))
-end_there end_of xs place x h e = first_behind end_of xs place x (slice_get_read xs (length xs) place x refl h e)
+end_there end_of xs place x h e = first_after end_of xs place x (slice_get_read xs (length xs) place x refl h e)
 
 any_with_ends : {A : Type 0} (cs : List (Command A)) (ends : List (Option (List ℕ))) → list_any is_ranged cs ≡ list_any is_ranged (with_ends cs ends)
 any_with_ends [] ends = refl

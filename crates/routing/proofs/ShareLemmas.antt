@@ -16,7 +16,7 @@ use Rattle.index_page.specs.Range.{is_below, is_before, is_within}
 use Rattle.index_page.specs.Children.{Place, children, is_place_for, child_entries, child_with_end, HasChildFor}
 use Rattle.index_page.proofs.ListLemmas.{all-append, all_weaker, all_apart}
 use Rattle.index_page.proofs.RangeLemmas.{below_is_less, less_is_below}
-use Rattle.index_page.proofs.ChildLemmas.{next_key, children-cons, within, not_within_below, not_within_behind}
+use Rattle.index_page.proofs.ChildLemmas.{next_key, children-cons, within, not_within_below, not_within_after}
 use Rattle.routing.specs.BatchKeys.{key_at}
 use Rattle.routing.specs.Routes.{Route, has_some, has_places}
 use Rattle.routing.specs.SortedPlaces.{order_of_places, AreInKeyOrder, reaches_page, reaches, reaches_at}
@@ -251,9 +251,9 @@ module _ {A : Type 0} (cs : List (Command A)) where
   all_in low end [] a b = tt
   all_in low end (q ∷ qs) a b = (within low end (key_at cs q) a.0 b.0, all_in low end qs a.1 b.1)
 
-  all_behind_end : (low : List ℕ) (end : Option (List ℕ)) (qs : List ℕ) → AllByRecursion (λ q. is_before end (key_at cs q) ≡ false) qs → AllByRecursion (λ q. is_in_range cs low end q ≡ false) qs
-  all_behind_end low end [] a = tt
-  all_behind_end low end (q ∷ qs) a = (not_within_behind low end (key_at cs q) a.0, all_behind_end low end qs a.1)
+  all_after_end : (low : List ℕ) (end : Option (List ℕ)) (qs : List ℕ) → AllByRecursion (λ q. is_before end (key_at cs q) ≡ false) qs → AllByRecursion (λ q. is_in_range cs low end q ≡ false) qs
+  all_after_end low end [] a = tt
+  all_after_end low end (q ∷ qs) a = (not_within_after low end (key_at cs q) a.0, all_after_end low end qs a.1)
 
   all_below_low : (low : List ℕ) (end : Option (List ℕ)) (qs : List ℕ) → AllByRecursion (λ q. is_below (key_at cs q) low ≡ true) qs → AllByRecursion (λ q. is_in_range cs low end q ≡ false) qs
   all_below_low low end [] a = tt
@@ -266,26 +266,26 @@ module _ {A : Type 0} (cs : List (Command A)) where
   next_below e f qs l a = all_weaker (λ q. is_below (key_at cs q) e.0 ≡ true) (λ q. is_below (key_at cs q) f.0 ≡ true) (λ q h. less_is_below (key_at cs q) f.0 (total.trans (key_at cs q) e.0 f.0 (below_is_less (key_at cs q) e.0 h) l)) qs a
 
   -- places below the first of some children aren't of any of these
-  behind_by : (e : List ℕ × ℕ) (es : List (List ℕ × ℕ)) (xs ys : List ℕ) → IsRising (e ∷ es) → AllByRecursion (λ q. is_below (key_at cs q) e.0 ≡ true) xs
+  after_by : (e : List ℕ × ℕ) (es : List (List ℕ × ℕ)) (xs ys : List ℕ) → IsRising (e ∷ es) → AllByRecursion (λ q. is_below (key_at cs q) e.0 ≡ true) xs
       → begun cs (xs ++ ys) (children (e ∷ es) None) ≡ begun cs ys (children (e ∷ es) None)
   unfolding IsStrictlySortedBy
-  behind_by e [] xs ys r a =
+  after_by e [] xs ys r a =
       same_first e.1 (filter (is_in_range cs e.0 None) (xs ++ ys)) (filter (is_in_range cs e.0 None) ys) [] []
       (filter-append (is_in_range cs e.0 None) xs ys ∙ ap (λ (zs : List ℕ). zs ++ filter (is_in_range cs e.0 None) ys) (filter_none (is_in_range cs e.0 None) xs (all_below_low e.0 None xs a))) refl
-  behind_by e (f ∷ es) xs ys r a =
+  after_by e (f ∷ es) xs ys r a =
       let end : Option (List ℕ) = Some f.0 in
       same_first e.1 (filter (is_in_range cs e.0 end) (xs ++ ys)) (filter (is_in_range cs e.0 end) ys) (begun cs (xs ++ ys) (children (f ∷ es) None)) (begun cs ys (children (f ∷ es) None))
       (filter-append (is_in_range cs e.0 end) xs ys ∙ ap (λ (zs : List ℕ). zs ++ filter (is_in_range cs e.0 end) ys) (filter_none (is_in_range cs e.0 end) xs (all_below_low e.0 end xs a)))
-      (behind_by f es xs ys r.1 (next_below e f xs r.0.0 a))
+      (after_by f es xs ys r.1 (next_below e f xs r.0.0 a))
 
-  shares_behind : (es : List (List ℕ × ℕ)) (xs ys : List ℕ) → IsRising es → AreBelowKeys es xs → begun cs (xs ++ ys) (children es None) ≡ begun cs ys (children es None)
-  shares_behind [] xs ys r a = refl
-  shares_behind (e ∷ es) xs ys r a = behind_by e es xs ys r a
+  shares_after : (es : List (List ℕ × ℕ)) (xs ys : List ℕ) → IsRising es → AreBelowKeys es xs → begun cs (xs ++ ys) (children es None) ≡ begun cs ys (children es None)
+  shares_after [] xs ys r a = refl
+  shares_after (e ∷ es) xs ys r a = after_by e es xs ys r a
 
   -- where a list is cut at an end: what stands before the cut is before the end, and what stands after it isn't
   pub record IsCutAt (end : Option (List ℕ)) (xs ys : List ℕ) : Type 0 where
     pub before : AllByRecursion (λ q. is_before end (key_at cs q) ≡ true) xs
-    pub behind : AllByRecursion (λ q. is_before end (key_at cs q) ≡ false) ys
+    pub following : AllByRecursion (λ q. is_before end (key_at cs q) ≡ false) ys
 
   -- the first child has the places before its end, and the others get those after
   here : (e : List ℕ × ℕ) (es : List (List ℕ × ℕ)) (xs ys : List ℕ) → IsRising (e ∷ es) → AllByRecursion (λ q. is_below (key_at cs q) e.0 ≡ false) (xs ++ ys) → has_some xs ≡ true → IsCutAt (next_key es None) xs ys
@@ -294,13 +294,13 @@ module _ {A : Type 0} (cs : List (Command A)) where
   here e es xs ys r a s c =
       let end : Option (List ℕ) = next_key es None in
       let low = all_apart (λ q. is_below (key_at cs q) e.0 ≡ false) xs ys a in
-      let none : filter (is_in_range cs e.0 end) ys ≡ [] = filter_none (is_in_range cs e.0 end) ys (all_behind_end e.0 end ys c.behind) in
+      let none : filter (is_in_range cs e.0 end) ys ≡ [] = filter_none (is_in_range cs e.0 end) ys (all_after_end e.0 end ys c.following) in
       let own : filter (is_in_range cs e.0 end) (xs ++ ys) ≡ xs =
       filter-append (is_in_range cs e.0 end) xs ys
       ∙ ap (λ (zs : List ℕ). zs ++ filter (is_in_range cs e.0 end) ys) (filter_all (is_in_range cs e.0 end) xs (all_in e.0 end xs low.0 c.before))
       ∙ ap (λ (zs : List ℕ). xs ++ zs) none ∙ append-nil xs in
       let rest : begun cs (xs ++ ys) (children es None) ≡ begun cs ys (children (e ∷ es) None) =
-      shares_behind es xs ys r.1 c.before
+      shares_after es xs ys r.1 c.before
       ∙ sym (ap (λ (ats : List Place). begun cs ys ats) (children-cons e es None) ∙ no_first e.1 (filter (is_in_range cs e.0 end) ys) (begun cs ys (children es None)) (begun cs ys (children es None)) none refl) in
       ap (λ (ats : List Place). begun cs (xs ++ ys) ats) (children-cons e es None)
       ∙ some_first e.1 (filter (is_in_range cs e.0 end) (xs ++ ys)) xs (begun cs (xs ++ ys) (children es None)) (begun cs ys (children (e ∷ es) None)) own s rest
@@ -308,7 +308,7 @@ module _ {A : Type 0} (cs : List (Command A)) where
   -- a child that lies before all of these places gets none
   skipped : (e f : List ℕ × ℕ) (es : List (List ℕ × ℕ)) (qs : List ℕ) → AllByRecursion (λ q. is_below (key_at cs q) f.0 ≡ false) qs → begun cs qs (children (e ∷ f ∷ es) None) ≡ begun cs qs (children (f ∷ es) None)
   skipped e f es qs a =
-      no_first e.1 (filter (is_in_range cs e.0 (Some f.0)) qs) (begun cs qs (children (f ∷ es) None)) (begun cs qs (children (f ∷ es) None)) (filter_none (is_in_range cs e.0 (Some f.0)) qs (all_behind_end e.0 (Some f.0) qs a)) refl
+      no_first e.1 (filter (is_in_range cs e.0 (Some f.0)) qs) (begun cs qs (children (f ∷ es) None)) (begun cs qs (children (f ∷ es) None)) (filter_none (is_in_range cs e.0 (Some f.0)) qs (all_after_end e.0 (Some f.0) qs a)) refl
 
   abbrev IsFirst : List (List ℕ × ℕ) → ℕ × Option (List ℕ) → List ℕ → List ℕ → Type 0
   IsFirst es child xs ys = (let r : Route = record { pid = child.0; places = xs } in begun cs (xs ++ ys) (children es None) ≡ r ∷ begun cs ys (children es None))
@@ -348,7 +348,7 @@ module _ {A : Type 0} (cs : List (Command A)) where
 
   -- so its place stands before the cut
   pub some_before : (es : List (List ℕ × ℕ)) (p : ℕ) (qs : List ℕ) (n : ℕ) → IsCutAt (child_with_end (key_at cs p) es).1 (take n (p ∷ qs)) (drop n (p ∷ qs)) → (0 < n) × (has_some (take n (p ∷ qs)) ≡ true)
-  some_before es p qs zero c = absurd (let b = before_end (key_at cs p) es in let d = c.behind.0 in cc)
+  some_before es p qs zero c = absurd (let b = before_end (key_at cs p) es in let d = c.following.0 in cc)
   some_before es p qs (suc n) c = (omega arith, refl)
 
   pub first_share : (page : PageOfKind) (p : ℕ) (qs : List ℕ) (n : ℕ) → CanHandDown cs page (p ∷ qs) → IsCutAt (child_with_end (key_at cs p) (child_entries page)).1 (take n (p ∷ qs)) (drop n (p ∷ qs))
@@ -384,11 +384,11 @@ module _ {A : Type 0} (cs : List (Command A)) where
   -- where entries are cut at an end
   pub record AreCutAt (end : Option (List ℕ)) (xs ys : List Keyed) : Type 0 where
     pub before : AllByRecursion (λ entry. is_before end entry.0 ≡ true) xs
-    pub behind : AllByRecursion (λ entry. is_before end entry.0 ≡ false) ys
+    pub following : AllByRecursion (λ entry. is_before end entry.0 ≡ false) ys
 
   -- they are cut at no end after all of them
   pub none_cut : (es : List Keyed) → AreCutAt None (take (length es) es) (drop (length es) es)
-  none_cut es = record { before = all_true (take (length es) es); behind = rw (drop_all (length es) es (omega arith)) tt }
+  none_cut es = record { before = all_true (take (length es) es); following = rw (drop_all (length es) es (omega arith)) tt }
     where
       all_true : (xs : List Keyed) → AllByRecursion (λ entry. is_before None entry.0 ≡ true) xs
       all_true [] = tt
@@ -420,10 +420,10 @@ module _ {A : Type 0} (cs : List (Command A)) where
       let pid_is : pid ≡ (child_with_end k (child_entries page)).0 = ap (λ (r : ℕ × Option (List ℕ)). r.0) found in
       let end_is : end ≡ (child_with_end k (child_entries page)).1 = ap (λ (r : ℕ × Option (List ℕ)). r.1) found in
       let before : AllByRecursion (λ q. is_before end (key_at cs q) ≡ true) (places_of (take n (e ∷ es))) = all_places_of (λ x. is_before end x ≡ true) (take n (e ∷ es)) (keyed_take n (e ∷ es) h.keys) c.before in
-      let behind : AllByRecursion (λ q. is_before end (key_at cs q) ≡ false) (places_of (drop n (e ∷ es))) = all_places_of (λ x. is_before end x ≡ false) (drop n (e ∷ es)) (keyed_drop n (e ∷ es) h.keys) c.behind in
+      let following : AllByRecursion (λ q. is_before end (key_at cs q) ≡ false) (places_of (drop n (e ∷ es))) = all_places_of (λ x. is_before end x ≡ false) (drop n (e ∷ es)) (keyed_drop n (e ∷ es) h.keys) c.following in
       let cut : IsCutAt end (take n (places_of (e ∷ es))) (drop n (places_of (e ∷ es))) = record {
         before = subst (λ (xs : List ℕ). AllByRecursion (λ q. is_before end (key_at cs q) ≡ true) xs) (sym (take-map place n (e ∷ es))) before;
-        behind = subst (λ (xs : List ℕ). AllByRecursion (λ q. is_before end (key_at cs q) ≡ false) xs) (sym (drop-map place n (e ∷ es))) behind;
+        following = subst (λ (xs : List ℕ). AllByRecursion (λ q. is_before end (key_at cs q) ≡ false) xs) (sym (drop-map place n (e ∷ es))) following;
       } in
       let own = subst (λ (x : Option (List ℕ)). IsCutAt x (take n (places_of (e ∷ es))) (drop n (places_of (e ∷ es)))) end_is cut in
       let route : ℕ → List ℕ → Route = λ p ps. record { pid = p; places = ps } in

@@ -312,8 +312,8 @@ module _ {X : Type 0} (P Q : X → Type 0) where
       let r : k < n = omega (arith, length-take n ps) in
       rw (get_or-take n ps k d r) (h.0 k d (omega arith) r))
 
-  pub all_behind : (ps : List X) (n : ℕ) → IsPartitionPoint P Q ps n → n ≤ length ps → AllByRecursion Q (drop n ps)
-  all_behind ps n h l =
+  pub all_after : (ps : List X) (n : ℕ) → IsPartitionPoint P Q ps n → n ≤ length ps → AllByRecursion Q (drop n ps)
+  all_after ps n h l =
       recursion_from_All Q (drop n ps) (λ k d b.
       let r : n + k < length ps = omega (arith, length-drop n ps) in
       rw (get_or-drop n ps k d) (h.1 (n + k) d (omega arith) r))
@@ -360,10 +360,10 @@ module _ {X : Type 0} (f : X → Bool) where
   cut_within [] ds (suc n) l a b e = absurd (omega arith)
   cut_within (s ∷ ss) ds (suc n) l a b e = let m : n ≤ length ss = omega arith in let r = cut_within ss ds n m a.1 b e in ((a.0, r.0), r.1)
 
-  cut_behind : (front ys : List X) (m n : ℕ) → m ≡ length front + n → AllPass front → AllPass (take n ys) × NonePass (drop n ys) → AllPass (take m (front ++ ys)) × NonePass (drop m (front ++ ys))
-  cut_behind [] ys m n e a h = let same : m ≡ n = omega arith in rw same h
-  cut_behind (x ∷ front) ys zero n e a h = absurd (omega arith)
-  cut_behind (x ∷ front) ys (suc m) n e a h = let less : m ≡ length front + n = omega arith in let r = cut_behind front ys m n less a.1 h in ((a.0, r.0), r.1)
+  cut_after : (front ys : List X) (m n : ℕ) → m ≡ length front + n → AllPass front → AllPass (take n ys) × NonePass (drop n ys) → AllPass (take m (front ++ ys)) × NonePass (drop m (front ++ ys))
+  cut_after [] ys m n e a h = let same : m ≡ n = omega arith in rw same h
+  cut_after (x ∷ front) ys zero n e a h = absurd (omega arith)
+  cut_after (x ∷ front) ys (suc m) n e a h = let less : m ≡ length front + n = omega arith in let r = cut_after front ys m n less a.1 h in ((a.0, r.0), r.1)
 
   pub cut_at : (xs : List X) (low high n : ℕ) → low ≤ high → high ≤ length xs → AllPass (take low xs) → NonePass (drop high xs) → n ≤ length (slice_range xs low high)
       → IsPartitionPoint (λ x. f x ≡ true) (λ x. f x ≡ false) (slice_range xs low high) n → AllPass (take (low + n) xs) × NonePass (drop (low + n) xs)
@@ -371,5 +371,5 @@ module _ {X : Type 0} (f : X → Bool) where
       let ss = slice_range xs low high in
       let parts : take low xs ++ (ss ++ drop high xs) ≡ xs = ap (λ (ys : List X). take low xs ++ ys) (sym (drop_split xs low high l)) ∙ take-append-drop low xs in
       let many : low + n ≡ length (take low xs) + n = omega (arith, length-take low xs) in
-      let cut = cut_behind (take low xs) (ss ++ drop high xs) (low + n) n many a (cut_within ss (drop high xs) n m (all_before (λ x. f x ≡ true) (λ x. f x ≡ false) ss n p m) (all_behind (λ x. f x ≡ true) (λ x. f x ≡ false) ss n p m) b) in
+      let cut = cut_after (take low xs) (ss ++ drop high xs) (low + n) n many a (cut_within ss (drop high xs) n m (all_before (λ x. f x ≡ true) (λ x. f x ≡ false) ss n p m) (all_after (λ x. f x ≡ true) (λ x. f x ≡ false) ss n p m) b) in
       rw parts at cut

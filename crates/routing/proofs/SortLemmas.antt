@@ -61,12 +61,12 @@ among-permutation n ms ns p = among-any n ms ∙ list_any-IsPermutation (nat_eq 
 -- ---- sorted lists with the same elements
 
 module _ (R : ℕ → ℕ → Ordering) (o : IsTotalOrder R) (exact : (m n : ℕ) → R m n ≡ Equal → m ≡ n) where
-  not_behind_by : (b : Bool) (n : ℕ) (ms : List ℕ) → is_among n ms ≡ b → AllByRecursion (λ m. R n m ≡ Less) ms → b ≡ false
-  not_behind_by true n ms e a = absurd (let l = holds_among (λ m. R n m ≡ Less) n ms a e in let t = tied_itself o n in cc)
-  not_behind_by false n ms e a = refl
+  not_after_by : (b : Bool) (n : ℕ) (ms : List ℕ) → is_among n ms ≡ b → AllByRecursion (λ m. R n m ≡ Less) ms → b ≡ false
+  not_after_by true n ms e a = absurd (let l = holds_among (λ m. R n m ≡ Less) n ms a e in let t = tied_itself o n in cc)
+  not_after_by false n ms e a = refl
 
-  not_behind : (n : ℕ) (ms : List ℕ) → AllByRecursion (λ m. R n m ≡ Less) ms → is_among n ms ≡ false
-  not_behind n ms a = not_behind_by (is_among n ms) n ms refl a
+  not_after : (n : ℕ) (ms : List ℕ) → AllByRecursion (λ m. R n m ≡ Less) ms → is_among n ms ≡ false
+  not_after n ms a = not_after_by (is_among n ms) n ms refl a
 
   less_all : (m n : ℕ) (ns : List ℕ) → R m n ≡ Less → AllByRecursion (λ i. R n i ≡ Less) ns → AllByRecursion (λ i. R m i ≡ Less) ns
   less_all m n [] l a = tt
@@ -75,7 +75,7 @@ module _ (R : ℕ → ℕ → Ordering) (o : IsTotalOrder R) (exact : (m n : ℕ
   -- what is among the one list can't come before all of the other
   not_first : (m n : ℕ) (ms ns : List ℕ) → ((i : ℕ) → is_among i (m ∷ ms) ≡ is_among i (n ∷ ns)) → AllByRecursion (λ i. R n i ≡ Less) ns → R m n ≡ Less → ⊥
   not_first m n ms ns e a l =
-      let none = not_behind m (n ∷ ns) (l, less_all m n ns l a) in
+      let none = not_after m (n ∷ ns) (l, less_all m n ns l a) in
       let some = among_itself m ms in
       let same = e m in
       cc
@@ -100,7 +100,7 @@ module _ (R : ℕ → ℕ → Ordering) (o : IsTotalOrder R) (exact : (m n : ℕ
       let t : m ≡ n = heads_by (R m n) m n ms ns refl e r.0 s.0 in
       let f : AllByRecursion (λ i. R m i ≡ Less) ns = subst (λ (x : ℕ). AllByRecursion (λ i. R x i ≡ Less) ns) (sym t) s.0 in
       let g : (i : ℕ) → is_among i (m ∷ ms) ≡ is_among i (m ∷ ns) = subst (λ (x : ℕ). (i : ℕ) → is_among i (m ∷ ms) ≡ is_among i (x ∷ ns)) (sym t) e in
-      let tails = same_sorted ms ns (λ i. tail_by (nat_eq i m) i m ms ns refl (g i) (not_behind m ms r.0) (not_behind m ns f)) r.1 s.1 in
+      let tails = same_sorted ms ns (λ i. tail_by (nat_eq i m) i m ms ns refl (g i) (not_after m ms r.0) (not_after m ns f)) r.1 s.1 in
       subst (λ (x : ℕ). m ∷ ms ≡ x ∷ ns) t (ap (λ (xs : List ℕ). m ∷ xs) tails)
 
 -- the sorted places are determined

@@ -13,7 +13,7 @@ use Rattle.index_page.specs.Range.{is_below, is_before}
 use Rattle.index_page.specs.Children.{Place, children, child_with_end, child_entries, HasChildFor}
 use Rattle.index_page.proofs.ListLemmas.{all-append, all_apart, all_weaker}
 use Rattle.index_page.proofs.RangeLemmas.{below_is_less, less_is_below, less_through, not_below_lower, not_below_itself, from_first}
-use Rattle.index_page.proofs.ChildLemmas.{within, not_within_below, not_within_behind}
+use Rattle.index_page.proofs.ChildLemmas.{within, not_within_below, not_within_after}
 use Rattle.mapping.proofs.TileLemmas.{Names}
 use Rattle.routing.specs.BatchKeys.{key_at}
 use Rattle.routing.specs.Routes.{has_some}
@@ -84,8 +84,8 @@ child_by : (b : Bool) (k low : List ℕ) (e f : List ℕ × ℕ) (es : Names) �
     → (IsEntry (f ∷ es) low → child_with_end k (f ∷ es) ≡ child_with_end k (from_low low (f ∷ es))) → child_with_end k (e ∷ f ∷ es) ≡ child_with_end k (cond b (from_low low (f ∷ es)) (e ∷ f ∷ es))
 child_by true k low e f es b n h ih =
     let later = entry_later e (f ∷ es) low b h in
-    let behind : is_below k f.0 ≡ false = from_higher (is_below k f.0) k low f.0 refl (first_by (is_below f.0 low) f es low refl later) n in
-    rw behind (ih later)
+    let following : is_below k f.0 ≡ false = from_higher (is_below k f.0) k low f.0 refl (first_by (is_below f.0 low) f es low refl later) n in
+    rw following (ih later)
 child_by false k low e f es b n h ih = refl
 
 lone_by : (b : Bool) (k low : List ℕ) (e : List ℕ × ℕ) → is_below e.0 low ≡ b → IsEntry (e ∷ []) low → child_with_end k (e ∷ []) ≡ child_with_end k (cond b [] (e ∷ []))
@@ -151,7 +151,7 @@ module _ {A : Type 0} (cs : List (Command A)) where
   -- where places are cut at the end of a range
   pub record AreParted (end : Option (List ℕ)) (xs ys : List ℕ) : Type 0 where
     pub before : AllByRecursion (λ q. is_before end (key_at cs q) ≡ true) xs
-    pub behind : AllByRecursion (λ q. is_before end (key_at cs q) ≡ false) ys
+    pub following : AllByRecursion (λ q. is_before end (key_at cs q) ≡ false) ys
 
   -- what a child gets: of what begins from its low key on, what lies before its end; and what reaches it
   own_is : (low : List ℕ) (end : Option (List ℕ)) (rs xs ys : List ℕ) → AllByRecursion (λ q. reaches_at cs low q ≡ true) rs → AllByRecursion (IsFromKey cs low) (xs ++ ys) → AreParted end xs ys
@@ -163,7 +163,7 @@ module _ {A : Type 0} (cs : List (Command A)) where
       ∙ ap (λ (zs : List ℕ). zs ++ filter f (xs ++ ys)) (none_within low end rs (all_below low rs r))
       ∙ filter-append f xs ys
       ∙ ap (λ (zs : List ℕ). zs ++ filter f ys) (filter_all f xs (all_in xs two.0 p.before))
-      ∙ ap (λ (zs : List ℕ). xs ++ zs) (filter_none f ys (all_weaker (λ q. is_before end (key_at cs q) ≡ false) (λ q. is_in_range cs low end q ≡ false) (λ q h. not_within_behind low end (key_at cs q) h) ys p.behind))
+      ∙ ap (λ (zs : List ℕ). xs ++ zs) (filter_none f ys (all_weaker (λ q. is_before end (key_at cs q) ≡ false) (λ q. is_in_range cs low end q ≡ false) (λ q h. not_within_after low end (key_at cs q) h) ys p.following))
       ∙ append-nil xs
     where
       all_in : (qs : List ℕ) → AllByRecursion (IsFromKey cs low) qs → AllByRecursion (λ q. is_before end (key_at cs q) ≡ true) qs → AllByRecursion (λ q. is_in_range cs low end q ≡ true) qs
@@ -214,7 +214,7 @@ module _ {A : Type 0} (cs : List (Command A)) where
       shares-narrowed cs f.0 (f ∷ es) all (from_first (f ∷ es) i.1)
       ∙ ap (λ (qs : List ℕ). shares cs qs (children (f ∷ es) None)) (
       ap (λ (qs : List ℕ). filter (gets cs f.0 None) qs) (sym (append_assoc rs xs ys))
-      ∙ gets_on f.0 (rs ++ xs) ys (below_end e f rs xs i.0.0 r p.before) p.behind) in
+      ∙ gets_on f.0 (rs ++ xs) ys (below_end e f rs xs i.0.0 r p.before) p.following) in
       let own = own_is e.0 (Some f.0) rs xs ys r a p in
       let begun = filter (is_in_range cs e.0 (Some f.0)) all in
       let reaching = filter (reaches_at cs e.0) all in
@@ -237,7 +237,7 @@ module _ {A : Type 0} (cs : List (Command A)) where
       let begun = filter (is_in_range cs e.0 (Some f.0)) qs in
       let reaching = filter (reaches_at cs e.0) qs in
       no_share e.1 begun (without_idle cs (Some f.0) begun reaching) (shares cs qs (children (f ∷ es) None)) (shares cs qs (children (f ∷ es) None))
-      (filter_none (is_in_range cs e.0 (Some f.0)) qs (all_weaker (IsFromKey cs f.0) (λ q. is_in_range cs e.0 (Some f.0) q ≡ false) (λ q h. not_within_behind e.0 (Some f.0) (key_at cs q) h) qs a))
+      (filter_none (is_in_range cs e.0 (Some f.0)) qs (all_weaker (IsFromKey cs f.0) (λ q. is_in_range cs e.0 (Some f.0) q ≡ false) (λ q h. not_within_after e.0 (Some f.0) (key_at cs q) h) qs a))
       (without_idle-nothing cs (Some f.0) begun reaching (none_of e.0 qs (all_weaker (IsFromKey cs f.0) (IsFromKey cs e.0) (λ q h. from_through (is_below (key_at cs q) e.0) (key_at cs q) f.0 e.0 refl h (less_is_below e.0 f.0 l)) qs a)))
       refl
 
@@ -340,7 +340,7 @@ module _ {A : Type 0} (cs : List (Command A)) where
       let at = end_from left es k low end refl (rising_from low es r) a.entry end_is in
       let same : from_low end es ≡ from_low end left = from_twice low end es at.0 in
       let entry : IsEntry es end = record { some = rw same at.2.some; first = rw same at.2.first } in
-      (record { entry = entry; reach = all_passed (reaches_at cs end) (rs ++ xs); from = p.behind }, rw same at.1)
+      (record { entry = entry; reach = all_passed (reaches_at cs end) (rs ++ xs); from = p.following }, rw same at.1)
 
   -- ---- the next key
 
@@ -353,7 +353,7 @@ module _ {A : Type 0} (cs : List (Command A)) where
     some : (end : Option (List ℕ)) (n : ℕ) → is_before end k ≡ true → AreParted end (take n ps) (drop n ps) → (has_some (take n ps) || has_some rs) ≡ true
 
   key_before : (n : ℕ) (end : Option (List ℕ)) (p : ℕ) (ps : List ℕ) → is_before end (key_at cs p) ≡ true → AreParted end (take n (p ∷ ps)) (drop n (p ∷ ps)) → (has_some (take n (p ∷ ps)) || false) ≡ true
-  key_before zero end p ps b c = absurd (let d = c.behind.0 in cc)
+  key_before zero end p ps b c = absurd (let d = c.following.0 in cc)
   key_before (suc n) end p ps b c = refl
 
   next_key_is : (low k : List ℕ) (rs : List ℕ) (es : List Keyed) → AreKeyed cs es → AreInKeyOrder cs (places_of es) → AllByRecursion (IsFromKey cs low) (places_of es) → next_key low rs es ≡ Some k → IsNextKey low rs (places_of es) k
@@ -381,7 +381,7 @@ module _ {A : Type 0} (cs : List (Command A)) where
   parted_of : (end : Option (List ℕ)) (es : List Keyed) (n : ℕ) → AreKeyed cs es → AreCutAt cs end (take n es) (drop n es) → AreParted end (places_of (take n es)) (places_of (drop n es))
   parted_of end es n k c = record {
     before = all_places_of cs (λ x. is_before end x ≡ true) (take n es) (keyed_take cs n es k) c.before;
-    behind = all_places_of cs (λ x. is_before end x ≡ false) (drop n es) (keyed_drop cs n es k) c.behind;
+    following = all_places_of cs (λ x. is_before end x ≡ false) (drop n es) (keyed_drop cs n es k) c.following;
   }
 
   two_parts : (es : List Keyed) (n : ℕ) → places_of es ≡ places_of (take n es) ++ places_of (drop n es)

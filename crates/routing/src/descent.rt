@@ -7,7 +7,7 @@ ghost use Rattle.keys.specs.CommandKey.{is_ranged};
 ghost use Rattle.keys.specs.declared.command.Command.{Command};
 ghost use Rattle.keys.specs.declared.fault.Fault.TheVariants.{NoMemory};
 ghost use Rattle.mapping.specs.Levels.{levels_of};
-ghost use Rattle.mapping.specs.Proper.{AreLevels, HoldsLevels};
+ghost use Rattle.mapping.specs.Proper.{AreLevels, HoldsItsLevels};
 ghost use Rattle.mapping.specs.TreeInMemory.{AreAllHome, tree_of};
 ghost use Rattle.routing.specs.Keyed.{places_of, AreKeyed};
 ghost use Rattle.routing.specs.Routes.{ranges};
@@ -43,7 +43,7 @@ pub fn route(
     batch: &BatchWithEnds<'_>,
 ) -> Result<Vec<PageRun>, Fault>
     requires home { AreAllHome tree.now }
-    requires held { HoldsLevels (tree_of tree.now).pages (levels_of (tree_of tree.now)) }
+    requires held { HoldsItsLevels (tree_of tree.now) }
     requires levels { AreLevels (levels_of (tree_of tree.now)) }
     ensures ok { IfOk result (λ runs.
         AreRunsOf batch.now (ranges (levels_of (tree_of tree.now)).level) runs.items) }
@@ -65,7 +65,7 @@ fn route_sorted(
     keyed: &[Keyed<'_>],
 ) -> Result<Vec<PageRun>, AllocError>
     requires home { AreAllHome tree.now }
-    requires held { HoldsLevels (tree_of tree.now).pages (levels_of (tree_of tree.now)) }
+    requires held { HoldsItsLevels (tree_of tree.now) }
     requires levels { AreLevels (levels_of (tree_of tree.now)) }
     requires sorted { AreSortedPlaces batch.now (places_of keyed.now) }
     requires keys { AreKeyed batch.now keyed.now }

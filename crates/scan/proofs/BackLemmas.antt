@@ -15,7 +15,7 @@ use Rattle.keys.proofs.Basics.{less_by}
 use Rattle.keys.proofs.MapLemmas.{total, IsBelowAll, same_key, order_itself, flipped_less, flipped_greater}
 use Rattle.index_page.proofs.ListLemmas.{all_keys_apart}
 use Rattle.scan.specs.Back.{before, count_before, children_before}
-use Rattle.scan.specs.Leaf.{from, behind}
+use Rattle.scan.specs.Leaf.{from, pairs_after}
 use Rattle.scan.proofs.LeafLemmas.{itself, above_not_below, passed_by, from-there}
 
 -- ---- what passes a test
@@ -65,16 +65,16 @@ not_before (Some end) i j n l = passed_by (is_below j end) j i end refl (rw l re
 module _ {V : Type 0} where
   -- ---- a key above which there is none
 
-  pub each_not_above : (k : List ℕ) (es : List (List ℕ × V)) → behind k es ≡ [] → AllByRecursion (λ e. is_below k e.0 ≡ false) es
+  pub each_not_above : (k : List ℕ) (es : List (List ℕ × V)) → pairs_after k es ≡ [] → AllByRecursion (λ e. is_below k e.0 ≡ false) es
   each_not_above k es h = none_passes (λ e. is_below k e.0) es h
 
   -- nor is there one above a greater key
-  pub none_above_greater : (j k : List ℕ) (es : List (List ℕ × V)) → is_below k j ≡ false → behind j es ≡ [] → behind k es ≡ []
+  pub none_above_greater : (j k : List ℕ) (es : List (List ℕ × V)) → is_below k j ≡ false → pairs_after j es ≡ [] → pairs_after k es ≡ []
   none_above_greater j k es n h =
       passes_none (λ e. is_below k e.0) es (each (λ (e : List ℕ × V) (q : is_below j e.0 ≡ false). not_above_by (is_below k e.0) j k e.0 refl n q) es (each_not_above j es h))
 
   -- or from there on
-  pub none_from_greater : (k j : List ℕ) (es : List (List ℕ × V)) → is_below k j ≡ true → behind k es ≡ [] → from j es ≡ []
+  pub none_from_greater : (k j : List ℕ) (es : List (List ℕ × V)) → is_below k j ≡ true → pairs_after k es ≡ [] → from j es ≡ []
   none_from_greater k j es l h =
       passes_none (λ e. not (is_below e.0 j)) es (each (λ (e : List ℕ × V) (q : is_below k e.0 ≡ false). ap not (below_greater (order e.0 k) e.0 refl q)) es (each_not_above k es h))
     where
@@ -96,11 +96,11 @@ module _ {V : Type 0} where
       ∙ ap (λ (b : Bool). xs ++ cond b ((k, v) ∷ []) []) (itself k)
       ∙ append-nil xs
 
-  pub none_above_last : (xs : List (List ℕ × V)) (k : List ℕ) (v : V) → IsRising (xs ++ (k, v) ∷ []) → behind k (xs ++ (k, v) ∷ []) ≡ []
+  pub none_above_last : (xs : List (List ℕ × V)) (k : List ℕ) (v : V) → IsRising (xs ++ (k, v) ∷ []) → pairs_after k (xs ++ (k, v) ∷ []) ≡ []
   none_above_last xs k v r =
       let above : List ℕ × V → Bool = λ e. is_below k e.0 in
       filter-append above xs ((k, v) ∷ [])
-      ∙ ap (λ (ys : List (List ℕ × V)). ys ++ behind k ((k, v) ∷ [])) (passes_none above xs (each (λ (e : List ℕ × V) (l : order e.0 k ≡ Less). above_not_below e.0 k l) xs (last_above xs k v r)))
+      ∙ ap (λ (ys : List (List ℕ × V)). ys ++ pairs_after k ((k, v) ∷ [])) (passes_none above xs (each (λ (e : List ℕ × V) (l : order e.0 k ≡ Less). above_not_below e.0 k l) xs (last_above xs k v r)))
       ∙ ap (λ (b : Bool). cond b ((k, v) ∷ []) []) (itself k)
 
   value_at_end : (xs : List (List ℕ × V)) (k : List ℕ) (v : V) → AllByRecursion (λ e. order e.0 k ≡ Less) xs → value_at k (xs ++ (k, v) ∷ []) ≡ Some v
@@ -111,7 +111,7 @@ module _ {V : Type 0} where
   value_at_last xs k v r = value_at_end xs k v (last_above xs k v r)
 
   -- a pair that is there, above which there is none, is all from its key on
-  pub from_greatest : (k : List ℕ) (v : V) (es : List (List ℕ × V)) → IsRising es → value_at k es ≡ Some v → behind k es ≡ [] → from k es ≡ (k, v) ∷ []
+  pub from_greatest : (k : List ℕ) (v : V) (es : List (List ℕ × V)) → IsRising es → value_at k es ≡ Some v → pairs_after k es ≡ [] → from k es ≡ (k, v) ∷ []
   from_greatest k v es r h n = from-there k v es r h ∙ ap (λ (x : List (List ℕ × V)). (k, v) ∷ x) n
 
   pub from_last : (xs : List (List ℕ × V)) (k : List ℕ) (v : V) → IsRising (xs ++ (k, v) ∷ []) → from k (xs ++ (k, v) ∷ []) ≡ (k, v) ∷ []

@@ -13,18 +13,18 @@ use Rattle.keys.specs.OrderedMap.{value_at}
 use Rattle.keys.specs.Range.{is_below, is_before}
 use Rattle.keys.proofs.Basics.{less_by}
 use Rattle.keys.proofs.MapLemmas.{total, order_itself, same_key, flipped_greater}
-use Rattle.delta_chain.specs.Layers.{Layers, said_or, with_run, entries_of, IsInOrder}
-use Rattle.delta_chain.specs.Merging.{pair_if, asserted, said_by}
+use Rattle.delta_chain.specs.Layers.{Layers, change_or, with_run, entries_of, IsInOrder}
+use Rattle.delta_chain.specs.Merging.{pair_if, asserted, joined_changes}
 use Rattle.delta_chain.proofs.LayerLemmas.{value_at-with_run, rising-with_run}
 use Rattle.delta_chain.proofs.Overlays.{rising-asserted}
 use Rattle.index_page.proofs.RangeLemmas.{less_through}
-use Rattle.scan.specs.Back.{before, count_before, changes_before, EndsWith, IsLastSaid, HasBehind, ArePairsLast}
-use Rattle.scan.specs.Leaf.{from, behind}
+use Rattle.scan.specs.Back.{before, count_before, changes_before, EndsWith, IsLastSaid, HasAfter, ArePairsLast}
+use Rattle.scan.specs.Leaf.{from, pairs_after}
 use Rattle.scan.proofs.BackLemmas.{each, passes_all, last_above, none_above_greater, none_from_greater, before_last, none_above_last, value_at_last, from_greatest, from_last, parted, place_before, last_place, no_place, none_taken}
 use Rattle.scan.proofs.LeafLemmas.{above_not_below, from-none}
 use Rattle.scan.proofs.MergeLemmas.{value_at-asserted}
-use Rattle.scan.proofs.MergeSteps.{front_item, all_behind}
-use Rattle.scan.proofs.PassingLemmas.{passing-with_run, passing-said_by, said_by-rises, rising-passing, value_at-passing, rising-base_of, passing-entries, rising-passing_all}
+use Rattle.scan.proofs.MergeSteps.{front_item, all_after}
+use Rattle.scan.proofs.PassingLemmas.{passing-with_run, passing-joined_changes, joined_changes-rises, rising-passing, value_at-passing, rising-base_of, passing-entries, rising-passing_all}
 
 abbrev Changes : Type 0 → Type 0
 Changes V = List (List ℕ × Option V)
@@ -45,8 +45,8 @@ module _ {V : Type 0} where
   ended : (e : List ℕ × V) (es : List (List ℕ × V)) (n : EndsWith e es) → IsRising es → IsRising (n.rest ++ (e.0, e.1) ∷ [])
   ended e es n r = subst (λ (x : List (List ℕ × V)). IsRising x) n.parts r
 
-  pub none_above_end : (e : List ℕ × V) (es : List (List ℕ × V)) → EndsWith e es → IsRising es → behind e.0 es ≡ []
-  none_above_end e es n r = ap (λ (x : List (List ℕ × V)). behind e.0 x) n.parts ∙ none_above_last n.rest e.0 e.1 (ended e es n r)
+  pub none_above_end : (e : List ℕ × V) (es : List (List ℕ × V)) → EndsWith e es → IsRising es → pairs_after e.0 es ≡ []
+  none_above_end e es n r = ap (λ (x : List (List ℕ × V)). pairs_after e.0 x) n.parts ∙ none_above_last n.rest e.0 e.1 (ended e es n r)
 
   pub value_at_end : (e : List ℕ × V) (es : List (List ℕ × V)) → EndsWith e es → IsRising es → value_at e.0 es ≡ Some e.1
   value_at_end e es n r = ap (λ (x : List (List ℕ × V)). value_at e.0 x) n.parts ∙ value_at_last n.rest e.0 e.1 (ended e es n r)
@@ -63,17 +63,17 @@ module _ {V : Type 0} where
       equal_as Equal e t = sym e
       equal_as Greater e t = absurd (cc)
 
-  not_above_by : (b : Bool) (k j : List ℕ) (v : V) (es : List (List ℕ × V)) → is_below k j ≡ b → behind k es ≡ [] → value_at j es ≡ Some v → b ≡ false
+  not_above_by : (b : Bool) (k j : List ℕ) (v : V) (es : List (List ℕ × V)) → is_below k j ≡ b → pairs_after k es ≡ [] → value_at j es ≡ Some v → b ≡ false
   not_above_by true k j v es b n h =
       absurd (let none : value_at j es ≡ None = sym (ap (λ (c : Bool). cond c (value_at j es) None) b) ∙ sym (value_at-passing (λ i. is_below k i) es j) ∙ ap (λ (x : List (List ℕ × V)). value_at j x) n in let wrong : ◌≡◌ {A = Option V} (Some v) None = sym h ∙ none in cc)
   not_above_by false k j v es b n h = refl
 
   -- a pair that is there isn't above k, where none is
-  pub not_above : (k j : List ℕ) (v : V) (es : List (List ℕ × V)) → behind k es ≡ [] → value_at j es ≡ Some v → is_below k j ≡ false
+  pub not_above : (k j : List ℕ) (v : V) (es : List (List ℕ × V)) → pairs_after k es ≡ [] → value_at j es ≡ Some v → is_below k j ≡ false
   not_above k j v es n h = not_above_by (is_below k j) k j v es refl n h
 
   -- and else
-  pub kept_back : (k j : List ℕ) (v : V) (rest old : List (List ℕ × V)) (o : Ordering) → rest ++ (j, v) ∷ [] ≡ old → IsRising old → behind k old ≡ [] → o ≡ order j k → false ≡ is_eq o → old ≡ before (Some k) old
+  pub kept_back : (k j : List ℕ) (v : V) (rest old : List (List ℕ × V)) (o : Ordering) → rest ++ (j, v) ∷ [] ≡ old → IsRising old → pairs_after k old ≡ [] → o ≡ order j k → false ≡ is_eq o → old ≡ before (Some k) old
   kept_back k j v rest old o h r n e f =
       let ends : EndsWith (j, v) old = record { rest = rest; parts = sym h } in
       let lower : is_below j k ≡ true = below_by (order j k) k j refl (ap is_eq (sym e) ∙ sym f) (not_above k j v old n (value_at_end (j, v) old ends r)) in
@@ -92,7 +92,7 @@ module _ {V : Type 0} where
       ∙ ap (λ (x : List (List ℕ × V)). x ++ from k (with_run m run)) (passing-with_run (λ j. is_below j k) m run r s)
       ∙ ap (λ (x : List (List ℕ × V)). with_run (before (Some k) m) (before (Some k) run) ++ x) (passing-with_run (λ j. not (is_below j k)) m run r s)
 
-  alone_by : (o : Option V) (k : List ℕ) (c : Option V) (es : List (List ℕ × V)) → value_at k es ≡ o → IsRising es → behind k es ≡ [] → with_run (from k es) ((k, c) ∷ []) ≡ pair_if k c
+  alone_by : (o : Option V) (k : List ℕ) (c : Option V) (es : List (List ℕ × V)) → value_at k es ≡ o → IsRising es → pairs_after k es ≡ [] → with_run (from k es) ((k, c) ∷ []) ≡ pair_if k c
   alone_by None k c es h r n = ap (λ (x : List (List ℕ × V)). with_run x ((k, c) ∷ [])) (from-none k es h ∙ n) ∙ on_nothing c
     where
       on_nothing : (c : Option V) → with_run [] ((k, c) ∷ []) ≡ pair_if k c
@@ -105,7 +105,7 @@ module _ {V : Type 0} where
       on_own (Some v) = rw (order_itself k) refl
 
   -- a last change comes last, where no pair is above it, and the pair that has its key goes
-  pub change_last : (k : List ℕ) (c : Option V) (es : List (List ℕ × V)) (cs : Changes V) → IsRising es → IsRising (cs ++ (k, c) ∷ []) → behind k es ≡ [] → with_run es (cs ++ (k, c) ∷ []) ≡ with_run (before (Some k) es) cs ++ pair_if k c
+  pub change_last : (k : List ℕ) (c : Option V) (es : List (List ℕ × V)) (cs : Changes V) → IsRising es → IsRising (cs ++ (k, c) ∷ []) → pairs_after k es ≡ [] → with_run es (cs ++ (k, c) ∷ []) ≡ with_run (before (Some k) es) cs ++ pair_if k c
   change_last k c es cs r s n =
       parted-merge k es (cs ++ (k, c) ∷ []) r s
       ∙ ap (λ (x : Changes V). with_run (before (Some k) es) x ++ with_run (from k es) (from k (cs ++ (k, c) ∷ []))) (before_last cs k c s)
@@ -128,26 +128,26 @@ module _ {V : Type 0} where
 module _ {V : Type 0} where
   -- ---- the last of what runs say
 
-  said_at : (q : List ℕ) (l : Changes V) (ls : List (Changes V)) → IsRising l → AllByRecursion IsRising ls → value_at q (said_by (l ∷ ls)) ≡ said_or (option_map Some (value_at q l)) (value_at q (said_by ls))
+  said_at : (q : List ℕ) (l : Changes V) (ls : List (Changes V)) → IsRising l → AllByRecursion IsRising ls → value_at q (joined_changes (l ∷ ls)) ≡ change_or (option_map Some (value_at q l)) (value_at q (joined_changes ls))
   said_at q l ls r a =
-      value_at-with_run (said_by ls) (asserted l) q (said_by-rises ls a) (rising-asserted l r)
-      ∙ ap (λ (o : Option (Option (Option V))). said_or o (value_at q (said_by ls))) (value_at-asserted q l)
+      value_at-with_run (joined_changes ls) (asserted l) q (joined_changes-rises ls a) (rising-asserted l r)
+      ∙ ap (λ (o : Option (Option (Option V))). change_or o (value_at q (joined_changes ls))) (value_at-asserted q l)
 
   -- that of a newer run
-  last_newest : (c : List ℕ × Option V) (l : Changes V) (ls : List (Changes V)) → IsRising l → AllByRecursion IsRising ls → EndsWith c l → AllByRecursion (λ run. behind c.0 run ≡ []) ls → IsLastSaid c (l ∷ ls)
+  last_newest : (c : List ℕ × Option V) (l : Changes V) (ls : List (Changes V)) → IsRising l → AllByRecursion IsRising ls → EndsWith c l → AllByRecursion (λ run. pairs_after c.0 run ≡ []) ls → IsLastSaid c (l ∷ ls)
   last_newest c l ls r a n others = record {
-    said = said_at c.0 l ls r a ∙ ap (λ (o : Option (Option V)). said_or (option_map Some o) (value_at c.0 (said_by ls))) (value_at_end c l n r);
+    said = said_at c.0 l ls r a ∙ ap (λ (o : Option (Option V)). change_or (option_map Some o) (value_at c.0 (joined_changes ls))) (value_at_end c l n r);
     none_above = (none_above_end c l n r, others);
   }
 
   -- that of an older one
   last_older : (c d : List ℕ × Option V) (l : Changes V) (ls : List (Changes V)) → IsRising l → AllByRecursion IsRising ls → EndsWith d l → IsLastSaid c ls → order d.0 c.0 ≡ Less → IsLastSaid c (l ∷ ls)
   last_older c d l ls r a n i less =
-      let none : behind d.0 l ≡ [] = none_above_end d l n r in
+      let none : pairs_after d.0 l ≡ [] = none_above_end d l n r in
       let absent : value_at c.0 l ≡ None =
       sym (ap (λ (b : Bool). cond b (value_at c.0 l) None) (ap is_lt less)) ∙ sym (value_at-passing (λ j. is_below d.0 j) l c.0) ∙ ap (λ (x : Changes V). value_at c.0 x) none in
       record {
-        said = said_at c.0 l ls r a ∙ ap (λ (o : Option (Option V)). said_or (option_map Some o) (value_at c.0 (said_by ls))) absent ∙ i.said;
+        said = said_at c.0 l ls r a ∙ ap (λ (o : Option (Option V)). change_or (option_map Some o) (value_at c.0 (joined_changes ls))) absent ∙ i.said;
         none_above = (none_above_greater d.0 c.0 l (above_not_below d.0 c.0 less) none, i.none_above);
       }
 
@@ -161,25 +161,25 @@ module _ {V : Type 0} where
     found_same f (Some c) e i =
         subst (λ (ls : List (Changes V)). IsLastSaid (f c) ls) (sym (front_item runs at l p w is))
         (record {
-          said = ap (λ (x : Changes V). value_at (f c).0 (said_by (x ∷ drop at runs))) e ∙ i.said;
-          none_above = (ap (λ (x : Changes V). behind (f c).0 x) e, i.none_above);
+          said = ap (λ (x : Changes V). value_at (f c).0 (joined_changes (x ∷ drop at runs))) e ∙ i.said;
+          none_above = (ap (λ (x : Changes V). pairs_after (f c).0 x) e, i.none_above);
         })
 
     parts_rise : AllByRecursion IsRising runs → AllByRecursion IsRising (l ∷ drop at runs)
-    parts_rise a = subst (λ (ls : List (Changes V)). AllByRecursion IsRising ls) (front_item runs at l p w is) (all_behind IsRising (at - 1) runs a)
+    parts_rise a = subst (λ (ls : List (Changes V)). AllByRecursion IsRising ls) (front_item runs at l p w is) (all_after IsRising (at - 1) runs a)
 
     pub found_only : (c : List ℕ × Option V) → AllByRecursion IsRising runs → EndsWith c l → AreEmpty (drop at runs) → IsLastSaid c (drop (at - 1) runs)
     found_only c a n e =
         let rise = parts_rise a in
         subst (λ (ls : List (Changes V)). IsLastSaid c ls) (sym (front_item runs at l p w is))
-        (last_newest c l (drop at runs) rise.0 rise.1 n (each (λ (run : Changes V) (q : run ≡ []). ap (λ (x : Changes V). behind c.0 x) q) (drop at runs) e))
+        (last_newest c l (drop at runs) rise.0 rise.1 n (each (λ (run : Changes V) (q : run ≡ []). ap (λ (x : Changes V). pairs_after c.0 x) q) (drop at runs) e))
 
     pub found_newer : (c d : List ℕ × Option V) (o : Ordering) → AllByRecursion IsRising runs → EndsWith d l → IsLastSaid c (drop at runs) → o ≡ order d.0 c.0 → false ≡ is_lt o → IsLastSaid d (drop (at - 1) runs)
     found_newer c d o a n i e b =
         let rise = parts_rise a in
         let not_below : is_below d.0 c.0 ≡ false = ap is_lt (sym e) ∙ sym b in
         subst (λ (ls : List (Changes V)). IsLastSaid d ls) (sym (front_item runs at l p w is))
-        (last_newest d l (drop at runs) rise.0 rise.1 n (each (λ (run : Changes V) (q : behind c.0 run ≡ []). none_above_greater c.0 d.0 run not_below q) (drop at runs) i.none_above))
+        (last_newest d l (drop at runs) rise.0 rise.1 n (each (λ (run : Changes V) (q : pairs_after c.0 run ≡ []). none_above_greater c.0 d.0 run not_below q) (drop at runs) i.none_above))
 
     pub found_older : (c d : List ℕ × Option V) (o : Ordering) → AllByRecursion IsRising runs → EndsWith d l → IsLastSaid c (drop at runs) → o ≡ order d.0 c.0 → true ≡ is_lt o → IsLastSaid c (drop (at - 1) runs)
     found_older c d o a n i e b =
@@ -189,22 +189,22 @@ module _ {V : Type 0} where
 
   -- ---- and before that
 
-  pub nothing_said : (runs : List (Changes V)) → AreEmpty runs → said_by runs ≡ []
+  pub nothing_said : (runs : List (Changes V)) → AreEmpty runs → joined_changes runs ≡ []
   nothing_said [] a = refl
-  nothing_said (run ∷ runs) a = ap (λ (x : Changes V). said_by (x ∷ runs)) a.0 ∙ nothing_said runs a.1
+  nothing_said (run ∷ runs) a = ap (λ (x : Changes V). joined_changes (x ∷ runs)) a.0 ∙ nothing_said runs a.1
 
   pub all_empty : (f : Changes V → Changes V) (runs : List (Changes V)) → AllByRecursion (λ run. f run ≡ []) runs → AreEmpty (map f runs)
   all_empty f [] a = tt
   all_empty f (run ∷ runs) a = (a.0, all_empty f runs a.1)
 
-  pub said_last : (c : List ℕ × Option V) (runs later : List (Changes V)) → AllByRecursion IsRising runs → IsLastSaid c runs → later ≡ map (before (Some c.0)) runs → said_by runs ≡ said_by later ++ c ∷ []
+  pub said_last : (c : List ℕ × Option V) (runs later : List (Changes V)) → AllByRecursion IsRising runs → IsLastSaid c runs → later ≡ map (before (Some c.0)) runs → joined_changes runs ≡ joined_changes later ++ c ∷ []
   said_last c runs later a i m =
-      let rises = said_by-rises runs a in
-      let none : behind c.0 (said_by runs) ≡ [] =
-      passing-said_by (λ j. is_below c.0 j) runs a ∙ nothing_said (map (behind c.0) runs) (all_empty (behind c.0) runs i.none_above) in
-      parted (Some c.0) (said_by runs) rises
-      ∙ ap (λ (x : Changes V). x ++ from c.0 (said_by runs)) (passing-said_by (λ j. is_below j c.0) runs a ∙ ap (λ (x : List (Changes V)). said_by x) (sym m))
-      ∙ ap (λ (x : Changes V). said_by later ++ x) (from_greatest c.0 c.1 (said_by runs) rises i.said none)
+      let rises = joined_changes-rises runs a in
+      let none : pairs_after c.0 (joined_changes runs) ≡ [] =
+      passing-joined_changes (λ j. is_below c.0 j) runs a ∙ nothing_said (map (pairs_after c.0) runs) (all_empty (pairs_after c.0) runs i.none_above) in
+      parted (Some c.0) (joined_changes runs) rises
+      ∙ ap (λ (x : Changes V). x ++ from c.0 (joined_changes runs)) (passing-joined_changes (λ j. is_below j c.0) runs a ∙ ap (λ (x : List (Changes V)). joined_changes x) (sym m))
+      ∙ ap (λ (x : Changes V). joined_changes later ++ x) (from_greatest c.0 c.1 (joined_changes runs) rises i.said none)
 
   pub later_rise_back : (k : List ℕ) (runs later : List (Changes V)) → AllByRecursion IsRising runs → later ≡ map (before (Some k)) runs → AllByRecursion IsRising later
   later_rise_back k runs later a m = subst (λ (x : List (Changes V)). AllByRecursion IsRising x) (sym m) (rising-passing (λ j. is_below j k) runs a)
@@ -215,21 +215,21 @@ module _ {V : Type 0} where
   runs_rise_back hi p items a m = subst (λ (x : List (Changes V)). AllByRecursion IsRising x) (sym m) (rising-passing_all (λ j. is_before hi j) p a)
 
   -- where the walk begins, what is left of all lists is what is left of the leaf
-  pub merge_starts_back : (hi : Option (List ℕ)) (p : Layers V) (base : List (List ℕ × V)) (left : ℕ) (items : List (Changes V)) (changes : Changes V) → IsInOrder p → base ≡ p.base → left ≡ count_before hi (keys_of base) → items ≡ map (before hi) p.runs → said_by items ≡ changes
+  pub merge_starts_back : (hi : Option (List ℕ)) (p : Layers V) (base : List (List ℕ × V)) (left : ℕ) (items : List (Changes V)) (changes : Changes V) → IsInOrder p → base ≡ p.base → left ≡ count_before hi (keys_of base) → items ≡ map (before hi) p.runs → joined_changes items ≡ changes
       → with_run (take left base) changes ≡ before hi (entries_of p)
   merge_starts_back hi p base left items changes a b n m h =
       let rising : IsRising base = subst (λ (x : List (List ℕ × V)). IsRising x) (sym b) (rising-base_of p a) in
       ap (λ (x : List (List ℕ × V)). with_run x changes) (place_before hi base left rising n ∙ ap (λ (x : List (List ℕ × V)). before hi x) b)
-      ∙ ap (λ (x : Changes V). with_run (before hi p.base) x) (sym h ∙ ap (λ (x : List (Changes V)). said_by x) m)
+      ∙ ap (λ (x : Changes V). with_run (before hi p.base) x) (sym h ∙ ap (λ (x : List (Changes V)). joined_changes x) m)
       ∙ passing-entries (λ j. is_before hi j) p a
 
   -- a change taken
-  pub change_taken_back : (k : List ℕ) (o : Option V) (es later : List (List ℕ × V)) (cs changes : Changes V) (runs : List (Changes V)) → IsRising es → IsRising cs → cs ≡ said_by runs ++ (k, o) ∷ [] → said_by runs ≡ changes → behind k es ≡ [] → later ≡ before (Some k) es
+  pub change_taken_back : (k : List ℕ) (o : Option V) (es later : List (List ℕ × V)) (cs changes : Changes V) (runs : List (Changes V)) → IsRising es → IsRising cs → cs ≡ joined_changes runs ++ (k, o) ∷ [] → joined_changes runs ≡ changes → pairs_after k es ≡ [] → later ≡ before (Some k) es
       → (with_run es cs ≡ with_run later changes ++ pair_if k o) × (length changes < length cs)
   change_taken_back k o es later cs changes runs r s h g n b =
-      let s' : IsRising (said_by runs ++ (k, o) ∷ []) = subst (λ (x : Changes V). IsRising x) h s in
-      let count : length cs ≡ length changes + 1 = ap length h ∙ length-append (said_by runs) ((k, o) ∷ []) ∙ ap (λ (x : Changes V). length x + 1) g in (
-        ap (λ (x : Changes V). with_run es x) h ∙ change_last k o es (said_by runs) r s' n
+      let s' : IsRising (joined_changes runs ++ (k, o) ∷ []) = subst (λ (x : Changes V). IsRising x) h s in
+      let count : length cs ≡ length changes + 1 = ap length h ∙ length-append (joined_changes runs) ((k, o) ∷ []) ∙ ap (λ (x : Changes V). length x + 1) g in (
+        ap (λ (x : Changes V). with_run es x) h ∙ change_last k o es (joined_changes runs) r s' n
             ∙ ap (λ (x : Changes V). with_run (before (Some k) es) x ++ pair_if k o) g ∙ ap (λ (x : List (List ℕ × V)). with_run x changes ++ pair_if k o) (sym b),
         omega arith,
       )
@@ -245,10 +245,10 @@ module _ {V : Type 0} where
   nothing_taken_back es left cs e n = let none = no_place es left e in ap (λ (x : List (List ℕ × V)). with_run x cs) none ∙ ap (λ (x : Changes V). with_run [] x) (n.none none)
 
   -- where nothing is left, all of it is below a key, and nothing above
-  pub nothing_there : (es : List (List ℕ × V)) (left : ℕ) (k : List ℕ) → min left (length es) ≡ 0 → (behind k (take left es) ≡ []) × (take 0 es ≡ before (Some k) (take left es))
+  pub nothing_there : (es : List (List ℕ × V)) (left : ℕ) (k : List ℕ) → min left (length es) ≡ 0 → (pairs_after k (take left es) ≡ []) × (take 0 es ≡ before (Some k) (take left es))
   nothing_there es left k e =
       let none = no_place es left e in (
-        ap (λ (x : List (List ℕ × V)). behind k x) none,
+        ap (λ (x : List (List ℕ × V)). pairs_after k x) none,
         none_taken es ∙ sym (ap (λ (x : List (List ℕ × V)). before (Some k) x) none),
       )
 
@@ -279,20 +279,20 @@ module _ {V : Type 0} where
     front_rises : IsRising (take (count - 1) es ++ (j, item.0) ∷ [])
     front_rises = subst (λ (x : List (List ℕ × V)). IsRising x) (sym parts_there) (rising-take left es rising)
 
-    none_above_there : behind j (take left es) ≡ []
-    none_above_there = ap (λ (x : List (List ℕ × V)). behind j x) (sym parts_there) ∙ none_above_last (take (count - 1) es) j item.0 front_rises
+    none_above_there : pairs_after j (take left es) ≡ []
+    none_above_there = ap (λ (x : List (List ℕ × V)). pairs_after j x) (sym parts_there) ∙ none_above_last (take (count - 1) es) j item.0 front_rises
 
-    pub last_greater : Greater ≡ order j k → HasBehind k (take left es)
+    pub last_greater : Greater ≡ order j k → HasAfter k (take left es)
     last_greater g = record { last = (j, item.0); ends = record { rest = take (count - 1) es; parts = sym parts_there }; above = ap is_lt (flipped_greater j k (sym g)) }
 
-    pub last_equal : Equal ≡ order j k → (behind k (take left es) ≡ []) × (take (count - 1) es ≡ before (Some k) (take left es))
+    pub last_equal : Equal ≡ order j k → (pairs_after k (take left es) ≡ []) × (take (count - 1) es ≡ before (Some k) (take left es))
     last_equal g =
         let same : j ≡ k = same_key j k (sym g) in (
-          ap (λ (i : List ℕ). behind i (take left es)) (sym same) ∙ none_above_there,
+          ap (λ (i : List ℕ). pairs_after i (take left es)) (sym same) ∙ none_above_there,
           sym (before_last (take (count - 1) es) j item.0 front_rises) ∙ ap (λ (x : List (List ℕ × V)). before (Some j) x) parts_there ∙ ap (λ (i : List ℕ). before (Some i) (take left es)) same,
         )
 
-    pub last_less : Less ≡ order j k → (behind k (take left es) ≡ []) × (take count es ≡ before (Some k) (take left es))
+    pub last_less : Less ≡ order j k → (pairs_after k (take left es) ≡ []) × (take count es ≡ before (Some k) (take left es))
     last_less g =
         let none = none_above_greater j k (take left es) (above_not_below j k (sym g)) none_above_there in (
           none,
@@ -302,13 +302,13 @@ module _ {V : Type 0} where
 -- ---- the next of all changes, as an option
 
 -- what runs say is the last change, where there is one, and what they say before it
-pub said_before : {V X : Type 0} (f : X → List ℕ × Option V) (x : Option X) (runs later : List (Changes V)) → MatchOption x (said_by runs ≡ []) (λ c. said_by runs ≡ said_by later ++ f c ∷ []) → said_by runs ≡ changes_before (option_map f x) (said_by later)
+pub said_before : {V X : Type 0} (f : X → List ℕ × Option V) (x : Option X) (runs later : List (Changes V)) → MatchOption x (joined_changes runs ≡ []) (λ c. joined_changes runs ≡ joined_changes later ++ f c ∷ []) → joined_changes runs ≡ changes_before (option_map f x) (joined_changes later)
 said_before f None runs later h = h
 said_before f (Some c) runs later h = h
 
 -- where a pair stands above the last change, no change stands at the last pair or after it
 module _ {V : Type 0} (k : List ℕ) (cs : Changes V) (es : List (List ℕ × V)) where
-  pub pairs_are_last : IsRising es → behind k cs ≡ [] → HasBehind k es → ArePairsLast cs es
+  pub pairs_are_last : IsRising es → pairs_after k cs ≡ [] → HasAfter k es → ArePairsLast cs es
   pairs_are_last r n b = record {
     none = λ e. absurd (let parts : [] ≡ b.ends.rest ++ b.last ∷ [] = sym e ∙ b.ends.parts in not_empty b.ends.rest b.last parts);
     none_from = λ e ends. none_from_greater k e.0 cs (above_both e ends) n;

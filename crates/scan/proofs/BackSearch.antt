@@ -13,11 +13,11 @@ use Rattle.keys.proofs.Basics.{less_by}
 use Rattle.keys.proofs.RangeLemmas.{rising-filtered}
 use Rattle.index_page.proofs.ListLemmas.{all_apart}
 use Rattle.delta_chain.specs.Layers.{Layers, with_run, entries_of, IsInOrder}
-use Rattle.delta_chain.specs.Merging.{said_by}
+use Rattle.delta_chain.specs.Merging.{joined_changes}
 use Rattle.delta_chain.proofs.LayerLemmas.{rising-entries_of}
 use Rattle.page_search.specs.Floor.{floor}
 use Rattle.scan.specs.Back.{before, count_before, until_last, EndsWith, NamesNone, AreNamedUpTo}
-use Rattle.scan.specs.Leaf.{behind}
+use Rattle.scan.specs.Leaf.{pairs_after}
 use Rattle.scan.proofs.BackLemmas.{each, none_passes, passes_none, passes_alike, none_before, above_through, before_pass, none_above_greater, place_before, one_more}
 use Rattle.scan.proofs.BackMerge.{nothing_said, all_empty, none_above_end, item_at}
 use Rattle.scan.proofs.LeafLemmas.{itself, above_not_below}
@@ -55,18 +55,18 @@ module _ {V : Type 0} where
   none_of_lists : (test : List ℕ → Bool) (p : Layers V) → IsInOrder p → AllByRecursion (λ run. passing test run ≡ []) p.runs → passing test p.base ≡ [] → passing test (entries_of p) ≡ []
   none_of_lists test p a r b =
       sym (passing-entries test p a)
-      ∙ ap (λ (x : List (List ℕ × V)). with_run x (said_by (map (passing test) p.runs))) b
+      ∙ ap (λ (x : List (List ℕ × V)). with_run x (joined_changes (map (passing test) p.runs))) b
       ∙ ap (λ (x : List (List ℕ × Option V)). with_run [] x) (nothing_said (map (passing test) p.runs) (all_empty (passing test) p.runs r))
 
   pub nothing_named : (hi : Option (List ℕ)) (p : Layers V) → IsInOrder p → NamesNone hi p → before hi (entries_of p) ≡ []
   nothing_named hi p a n = none_of_lists (λ j. is_before hi j) p a n.runs n.base
 
-  none_past : (k : List ℕ) (hi : Option (List ℕ)) (p : Layers V) → IsInOrder p → AreNamedUpTo k hi p → behind k (before hi (entries_of p)) ≡ []
+  none_past : (k : List ℕ) (hi : Option (List ℕ)) (p : Layers V) → IsInOrder p → AreNamedUpTo k hi p → pairs_after k (before hi (entries_of p)) ≡ []
   none_past k hi p a n =
       let both : List ℕ → Bool = λ j. is_before hi j && is_below k j in
       filter-both (λ e. is_before hi e.0) (λ e. is_below k e.0) (entries_of p)
       ∙ none_of_lists both p a
-      (each (λ (run : List (List ℕ × Option V)) (e : behind k (before hi run) ≡ []). sym (filter-both (λ c. is_before hi c.0) (λ c. is_below k c.0) run) ∙ e) p.runs n.runs)
+      (each (λ (run : List (List ℕ × Option V)) (e : pairs_after k (before hi run) ≡ []). sym (filter-both (λ c. is_before hi c.0) (λ c. is_below k c.0) run) ∙ e) p.runs n.runs)
       (sym (filter-both (λ e. is_before hi e.0) (λ e. is_below k e.0) p.base) ∙ n.base)
 
   -- ---- up to a key
@@ -74,7 +74,7 @@ module _ {V : Type 0} where
   abbrev Upto : List ℕ → List (List ℕ × V) → List (List ℕ × V)
   Upto k es = filter (λ e. not (is_below k e.0)) es
 
-  upto-before : (k : List ℕ) (hi : Option (List ℕ)) (es : List (List ℕ × V)) → is_before hi k ≡ true → behind k (before hi es) ≡ [] → before hi es ≡ Upto k es
+  upto-before : (k : List ℕ) (hi : Option (List ℕ)) (es : List (List ℕ × V)) → is_before hi k ≡ true → pairs_after k (before hi es) ≡ [] → before hi es ≡ Upto k es
   upto-before k hi es o n =
       let fail = none_passes (λ e. is_before hi e.0 && is_below k e.0) es (sym (filter-both (λ e. is_before hi e.0) (λ e. is_below k e.0) es) ∙ n) in
       passes_alike (λ e. is_before hi e.0) (λ e. not (is_below k e.0)) es
@@ -151,8 +151,8 @@ module _ {V : Type 0} where
         let ends : EndsWith (k, i.0) (before hi base) = record { rest = take at base; parts = sym (one_more base at k i.0 h i.1 ∙ ap (λ (m : ℕ). take m base) (sym next) ∙ place_before hi base n r c) } in
         record {
           own = own_by hi (k, i.0) base ends;
-          runs = subst (λ (x : List (Run V)). AllByRecursion (λ run. behind k (before hi run) ≡ []) x) (sym e) tt;
-          base = ap (λ (x : List (List ℕ × V)). behind k (before hi x)) (sym b) ∙ none_above_end (k, i.0) (before hi base) ends (rising-before hi base r);
+          runs = subst (λ (x : List (Run V)). AllByRecursion (λ run. pairs_after k (before hi run) ≡ []) x) (sym e) tt;
+          base = ap (λ (x : List (List ℕ × V)). pairs_after k (before hi x)) (sym b) ∙ none_above_end (k, i.0) (before hi base) ends (rising-before hi base r);
         }
 
     abbrev With : Run V → Layers V → Layers V
@@ -162,7 +162,7 @@ module _ {V : Type 0} where
     pub run_names_none : (p below : Layers V) (run : Run V) (X : Type 0) (f : X → List ℕ) (o : Option X) → p ≡ With run below → before hi run ≡ [] → MatchOption o (NamesNone hi below) (λ x. AreNamedUpTo (f x) hi below) → MatchOption o (NamesNone hi p) (λ x. AreNamedUpTo (f x) hi p)
     run_names_none p below run X f None e z n = subst (λ (q : Layers V). NamesNone hi q) (sym e) (record { runs = (z, n.runs); base = n.base })
     run_names_none p below run X f (Some x) e z n =
-        subst (λ (q : Layers V). AreNamedUpTo (f x) hi q) (sym e) (record { own = n.own; runs = (ap (λ (r : Run V). behind (f x) r) z, n.runs); base = n.base })
+        subst (λ (q : Layers V). AreNamedUpTo (f x) hi q) (sym e) (record { own = n.own; runs = (ap (λ (r : Run V). pairs_after (f x) r) z, n.runs); base = n.base })
 
     -- one that does, beside the others
     pub run_names_only : (p below : Layers V) (run : Run V) (c : List ℕ × Option V) → p ≡ With run below → IsRising run → EndsWith c (before hi run) → NamesNone hi below → AreNamedUpTo c.0 hi p
@@ -170,8 +170,8 @@ module _ {V : Type 0} where
         subst (λ (q : Layers V). AreNamedUpTo c.0 hi q) (sym e)
         (record {
           own = own_by hi c run ends;
-          runs = (none_above_end c (before hi run) ends (rising-before hi run r), each (λ (l : Run V) (z : before hi l ≡ []). ap (λ (x : Run V). behind c.0 x) z) below.runs n.runs);
-          base = ap (λ (x : List (List ℕ × V)). behind c.0 x) n.base;
+          runs = (none_above_end c (before hi run) ends (rising-before hi run r), each (λ (l : Run V) (z : before hi l ≡ []). ap (λ (x : Run V). pairs_after c.0 x) z) below.runs n.runs);
+          base = ap (λ (x : List (List ℕ × V)). pairs_after c.0 x) n.base;
         })
 
     pub run_names_greater : (p below : Layers V) (run : Run V) (c : List ℕ × Option V) (k : List ℕ) (o : Ordering) → p ≡ With run below → IsRising run → EndsWith c (before hi run) → AreNamedUpTo k hi below → o ≡ order c.0 k → false ≡ is_lt o → AreNamedUpTo c.0 hi p
@@ -180,7 +180,7 @@ module _ {V : Type 0} where
         subst (λ (x : Layers V). AreNamedUpTo c.0 hi x) (sym e)
         (record {
           own = own_by hi c run ends;
-          runs = (none_above_end c (before hi run) ends (rising-before hi run r), each (λ (l : Run V) (z : behind k (before hi l) ≡ []). none_above_greater k c.0 (before hi l) not_below z) below.runs n.runs);
+          runs = (none_above_end c (before hi run) ends (rising-before hi run r), each (λ (l : Run V) (z : pairs_after k (before hi l) ≡ []). none_above_greater k c.0 (before hi l) not_below z) below.runs n.runs);
           base = none_above_greater k c.0 (before hi below.base) not_below n.base;
         })
 

@@ -260,7 +260,7 @@ record IsCutBack (hi : Option (List ℕ)) (es : Names) : Type 0 where
   pub parts : es ≡ front ++ last ∷ rest
   pub kept : children_before hi es ≡ front ++ last ∷ []
   pub here : (front ≡ []) ⊎ (is_before hi last.0 ≡ true)
-  pub behind : AllByRecursion (λ (e : List ℕ × ℕ). is_before hi e.0 ≡ false) rest
+  pub pairs_after : AllByRecursion (λ (e : List ℕ × ℕ). is_before hi e.0 ≡ false) rest
 
 all_fail : (hi : Option (List ℕ)) (es : Names) → AllByRecursion (λ (e : List ℕ × ℕ). is_before hi e.0 ≡ false) (Rest hi es)
 all_fail hi [] = tt
@@ -291,7 +291,7 @@ cut_back hi (e ∷ es) r l =
           ∙ append_assoc end.1.rest (end.0 ∷ []) (Rest hi es);
       kept = end.1.parts;
       here = cut_here hi e (before hi es) end.1.rest end.0 end.1.parts (before_pass hi es);
-      behind = all_fail hi es;
+      pairs_after = all_fail hi es;
     }
 
 module _ (ps : List (ℕ × PageOfKind)) where
@@ -385,7 +385,7 @@ module _ (ps : List (ℕ × PageOfKind)) where
       ap (λ (x : Names). leaves_to_last (λ (e : List ℕ × ℕ). leaves_back ps n hi e.1) (leaves_under ps n) x) c.kept ∙ to_last-end ps n (λ (e : List ℕ × ℕ). leaves_back ps n hi e.1) c.front c.last in
       subst (λ (x : List ℕ). IsBefore hi (leaves_under ps (suc n) (at.pid ∷ [])) x) (sym found)
       (three_parts_back hi (under c.front) (leaves_under ps n (c.last.1 ∷ [])) (under c.rest) (leaves_under ps (suc n) (at.pid ∷ [])) (leaves_back ps n hi c.last.1) whole front
-      (dropped_rest n hi c.rest at.end others.1 c.behind) (way_back n hi (place_of c.last (next_key c.rest at.end)) others.0))
+      (dropped_rest n hi c.rest at.end others.1 c.pairs_after) (way_back n hi (place_of c.last (next_key c.rest at.end)) others.0))
 
 -- of a tree whose levels are in order, the pairs before an end are those of the leaf that a way down comes to, and all those of the leaves before it
 pub contents-before : (t : Tree) → HoldsLevels t.pages (levels_of t) → AreLevels (levels_of t) → (hi : Option (List ℕ)) (leaf : Page (List ℕ)) (others : List (Page (List ℕ)))

@@ -9,7 +9,7 @@ use Rattle.keys.proofs.MapLemmas.{IsBelowAll}
 use Rattle.index_page.specs.Range.{is_below, is_before}
 use Rattle.index_page.specs.Children.{children_within}
 use Rattle.index_page.proofs.RangeLemmas.{less_is_below}
-use Rattle.index_page.proofs.ChildLemmas.{next_key, within, not_within_behind}
+use Rattle.index_page.proofs.ChildLemmas.{next_key, within, not_within_after}
 use Rattle.page_search.specs.Places.{KeyGoesTo}
 use Rattle.page_search.proofs.PlaceLemmas.{rising-by_place, rising-or_same}
 use Rattle.scan.proofs.CutLemmas.{Names, kept-cons, meets_at, meets_not, kept-all}
@@ -52,7 +52,7 @@ module _ (key : List ℕ) where
   kept_from (suc n) (e ∷ []) r u = let w = u.within in absurd (omega (arith, w))
   kept_from (suc n) (e ∷ f ∷ es) r u =
       kept_from n (f ∷ es) r.1 (tail_upto e.0 (keys_of (f ∷ es)) (suc n) u)
-      ∙ sym (kept-cons key false e (f ∷ es) (meets_not key e (Some f.0) (u.upto zero e.0 (omega arith) refl) (not_within_behind e.0 (Some f.0) key (u.upto 1 f.0 (omega arith) refl))))
+      ∙ sym (kept-cons key false e (f ∷ es) (meets_not key e (Some f.0) (u.upto zero e.0 (omega arith) refl) (not_within_after e.0 (Some f.0) key (u.upto 1 f.0 (omega arith) refl))))
 
   up_to_there : (ks : List (List ℕ)) (at : ℕ) → AreRisingKeys ks → slice_get ks at ≡ Some key → IsUpTo ks (suc at)
   up_to_there ks at r h =

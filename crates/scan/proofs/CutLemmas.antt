@@ -10,7 +10,7 @@ use Rattle.index_page.specs.Range.{is_below, is_within}
 use Rattle.index_page.specs.Children.{Place, children, meets, children_within}
 use Rattle.index_page.proofs.ListLemmas.{all-filter, all_keys_apart}
 use Rattle.index_page.proofs.RangeLemmas.{below_is_less, less_is_below}
-use Rattle.index_page.proofs.ChildLemmas.{next_key, place_of, children-cons, pids-children, within, not_within_below, not_within_behind}
+use Rattle.index_page.proofs.ChildLemmas.{next_key, place_of, children-cons, pids-children, within, not_within_below, not_within_after}
 
 abbrev pub Names : Type 0
 Names = List (List ℕ × ℕ)
@@ -23,7 +23,7 @@ pub record IsCut (key : List ℕ) (es : Names) : Type 0 where
   pub rest : Names
   pub parts : es ≡ before ++ first ∷ rest
   pub kept : children_within key None es ≡ first ∷ rest
-  pub behind : IsBelowAll key (keys_of rest)
+  pub pairs_after : IsBelowAll key (keys_of rest)
   pub here : (before ≡ []) ⊎ (is_below key first.0 ≡ false)
 
 module _ (key : List ℕ) where
@@ -37,8 +37,8 @@ module _ (key : List ℕ) where
       ∙ ap (λ (c : Bool). map {B = List ℕ × ℕ} (λ (p : Place). (p.low, p.pid)) (cond c (place_of e (next_key es None) ∷ filter (meets key None) (children es None)) (filter (meets key None) (children es None)))) h
       ∙ mapped b (place_of e (next_key es None)) (filter (meets key None) (children es None))
 
-  meets_behind : (e : List ℕ × ℕ) (end : Option (List ℕ)) → is_below key e.0 ≡ true → meets key None (place_of e end) ≡ true
-  meets_behind e end h = rw (not_within_below e.0 end key h, h) refl
+  meets_after : (e : List ℕ × ℕ) (end : Option (List ℕ)) → is_below key e.0 ≡ true → meets key None (place_of e end) ≡ true
+  meets_after e end h = rw (not_within_below e.0 end key h, h) refl
 
   pub meets_at : (e : List ℕ × ℕ) (end : Option (List ℕ)) → is_within e.0 end key ≡ true → meets key None (place_of e end) ≡ true
   meets_at e end h = rw h refl
@@ -50,20 +50,20 @@ module _ (key : List ℕ) where
   pub kept-all : (es : Names) → IsBelowAll key (keys_of es) → children_within key None es ≡ es
   kept-all [] a = refl
   kept-all (e ∷ es) a =
-      kept-cons true e es (meets_behind e (next_key es None) (less_is_below key e.0 a.0)) ∙ ap (λ (x : Names). e ∷ x) (kept-all es a.1)
+      kept-cons true e es (meets_after e (next_key es None) (less_is_below key e.0 a.0)) ∙ ap (λ (x : Names). e ∷ x) (kept-all es a.1)
 
   cut_by : (b : Bool) (e f : List ℕ × ℕ) (es : Names) → is_below key f.0 ≡ b → is_below key e.0 ≡ false → IsRising (f ∷ es) → (is_below key f.0 ≡ false → IsCut key (f ∷ es)) → IsCut key (e ∷ f ∷ es)
   unfolding IsStrictlySortedBy
   cut_by true e f es b h r ih =
       let l = below_is_less key f.0 b in
-      let behind : IsBelowAll key (keys_of (f ∷ es)) = (l, below_all key f.0 (keys_of es) l r.0) in
+      let pairs_after : IsBelowAll key (keys_of (f ∷ es)) = (l, below_all key f.0 (keys_of es) l r.0) in
       record {
         before = [];
         first = e;
         rest = f ∷ es;
         parts = refl;
-        kept = kept-cons true e (f ∷ es) (meets_at e (Some f.0) (within e.0 (Some f.0) key h b)) ∙ ap (λ (x : Names). e ∷ x) (kept-all (f ∷ es) behind);
-        behind = behind;
+        kept = kept-cons true e (f ∷ es) (meets_at e (Some f.0) (within e.0 (Some f.0) key h b)) ∙ ap (λ (x : Names). e ∷ x) (kept-all (f ∷ es) pairs_after);
+        pairs_after = pairs_after;
         here = inr h;
       }
   cut_by false e f es b h r ih =
@@ -77,8 +77,8 @@ module _ (key : List ℕ) where
         first = c.first;
         rest = c.rest;
         parts = ap (λ (x : Names). e ∷ x) c.parts;
-        kept = kept-cons false e (f ∷ es) (meets_not e (Some f.0) h (not_within_behind e.0 (Some f.0) key b)) ∙ c.kept;
-        behind = c.behind;
+        kept = kept-cons false e (f ∷ es) (meets_not e (Some f.0) h (not_within_after e.0 (Some f.0) key b)) ∙ c.kept;
+        pairs_after = c.pairs_after;
         here = inr here;
       }
 
@@ -90,7 +90,7 @@ module _ (key : List ℕ) where
     rest = [];
     parts = refl;
     kept = kept-cons true e [] (meets_at e None (within e.0 None key h refl));
-    behind = tt;
+    pairs_after = tt;
     here = inr h;
   }
   cut_from e (f ∷ es) r h = cut_by (is_below key f.0) e f es refl h r.1 (λ c. cut_from f es r.1 c)
@@ -99,8 +99,8 @@ module _ (key : List ℕ) where
   unfolding IsStrictlySortedBy
   cut_first true e es b r =
       let l = below_is_less key e.0 b in
-      let behind : IsBelowAll key (keys_of es) = below_all key e.0 (keys_of es) l r.0 in
-      record { before = []; first = e; rest = es; parts = refl; kept = kept-all (e ∷ es) (l, behind); behind = behind; here = inl refl }
+      let pairs_after : IsBelowAll key (keys_of es) = below_all key e.0 (keys_of es) l r.0 in
+      record { before = []; first = e; rest = es; parts = refl; kept = kept-all (e ∷ es) (l, pairs_after); pairs_after = pairs_after; here = inl refl }
   cut_first false e es b r = cut_from e es r b
 
   -- rising entries, one at least, are cut so
@@ -130,17 +130,17 @@ module _ (key : List ℕ) where
 
 -- ---- with the empty key, all are kept
 
-behind_nothing : (j k : List ℕ) → is_below j k ≡ true → is_below [] k ≡ true
-behind_nothing [] [] h = absurd (cc)
-behind_nothing (x ∷ xs) [] h = absurd (cc)
-behind_nothing j (x ∷ xs) h = refl
+after_nothing : (j k : List ℕ) → is_below j k ≡ true → is_below [] k ≡ true
+after_nothing [] [] h = absurd (cc)
+after_nothing (x ∷ xs) [] h = absurd (cc)
+after_nothing j (x ∷ xs) h = refl
 
 none_before : (before : Names) (first : List ℕ × ℕ) (rest : Names) → IsRising (before ++ first ∷ rest) → is_below [] first.0 ≡ false → before ≡ []
 unfolding IsStrictlySortedBy
 none_before [] first rest r h = refl
 none_before (x ∷ xs) first rest r h =
     let l = all_keys_apart (λ j. order x.0 j ≡ Less) xs (first ∷ rest) r.0 in
-    absurd (let wrong = behind_nothing x.0 first.0 (less_is_below x.0 first.0 l.1.0) in cc)
+    absurd (let wrong = after_nothing x.0 first.0 (less_is_below x.0 first.0 l.1.0) in cc)
 
 pub kept-from-nothing : (es : Names) → IsRising es → 0 < length es → children_within [] None es ≡ es
 kept-from-nothing es r n =

@@ -37,34 +37,34 @@ shown level = map (λ p. p.page) level
 -- ---- a walk along a level
 
 -- it is at this leaf, with these after it
-pub record IsPassing (level : Level) (leaf : Page (List ℕ)) (behind : Leaves) : Type 0 where
+pub record IsPassing (level : Level) (leaf : Page (List ℕ)) (pairs_after : Leaves) : Type 0 where
   pub passed : Leaves
-  pub whole : shown level ≡ passed ++ leaf ∷ behind
+  pub whole : shown level ≡ passed ++ leaf ∷ pairs_after
 
 -- a level whose pages are known, apart at one of them
-record IsApart (level : Level) (leaf : Page (List ℕ)) (behind : Leaves) : Type 0 where
+record IsApart (level : Level) (leaf : Page (List ℕ)) (pairs_after : Leaves) : Type 0 where
   pub xs : Level
   pub at : Placed (List ℕ)
   pub ys : Level
   pub whole : level ≡ xs ++ at ∷ ys
   pub page : at.page ≡ leaf
-  pub rest : shown ys ≡ behind
+  pub rest : shown ys ≡ pairs_after
 
-one_later : (l : Placed (List ℕ)) (ls : Level) (leaf : Page (List ℕ)) (behind : Leaves) → IsApart ls leaf behind → IsApart (l ∷ ls) leaf behind
-one_later l ls leaf behind a = record { xs = l ∷ a.xs; at = a.at; ys = a.ys; whole = ap (λ (x : Level). l ∷ x) a.whole; page = a.page; rest = a.rest }
+one_later : (l : Placed (List ℕ)) (ls : Level) (leaf : Page (List ℕ)) (pairs_after : Leaves) → IsApart ls leaf pairs_after → IsApart (l ∷ ls) leaf pairs_after
+one_later l ls leaf pairs_after a = record { xs = l ∷ a.xs; at = a.at; ys = a.ys; whole = ap (λ (x : Level). l ∷ x) a.whole; page = a.page; rest = a.rest }
 
-apart : (level : Level) (passed : Leaves) (leaf : Page (List ℕ)) (behind : Leaves) → shown level ≡ passed ++ leaf ∷ behind → IsApart level leaf behind
-apart [] [] leaf behind e = absurd (cc)
-apart [] (p ∷ passed) leaf behind e = absurd (cc)
-apart (l ∷ ls) [] leaf behind e =
+apart : (level : Level) (passed : Leaves) (leaf : Page (List ℕ)) (pairs_after : Leaves) → shown level ≡ passed ++ leaf ∷ pairs_after → IsApart level leaf pairs_after
+apart [] [] leaf pairs_after e = absurd (cc)
+apart [] (p ∷ passed) leaf pairs_after e = absurd (cc)
+apart (l ∷ ls) [] leaf pairs_after e =
     let first : l.page ≡ leaf = cc in
-    let rest : shown ls ≡ behind = cc in
+    let rest : shown ls ≡ pairs_after = cc in
     record { xs = []; at = l; ys = ls; whole = refl; page = first; rest = rest }
-apart (l ∷ ls) (p ∷ passed) leaf behind e = let later : shown ls ≡ passed ++ leaf ∷ behind = cc in one_later l ls leaf behind (apart ls passed leaf behind later)
+apart (l ∷ ls) (p ∷ passed) leaf pairs_after e = let later : shown ls ≡ passed ++ leaf ∷ pairs_after = cc in one_later l ls leaf pairs_after (apart ls passed leaf pairs_after later)
 
-begins_with : (ys : Level) (next : Page (List ℕ)) (behind : Leaves) → shown ys ≡ next ∷ behind → next_low ys None ≡ Some next.low
-begins_with [] next behind e = absurd (cc)
-begins_with (y ∷ ys) next behind e = let f : y.page ≡ next = cc in ap (λ (p : Page (List ℕ)). Some p.low) f
+begins_with : (ys : Level) (next : Page (List ℕ)) (pairs_after : Leaves) → shown ys ≡ next ∷ pairs_after → next_low ys None ≡ Some next.low
+begins_with [] next pairs_after e = absurd (cc)
+begins_with (y ∷ ys) next pairs_after e = let f : y.page ≡ next = cc in ap (λ (p : Page (List ℕ)). Some p.low) f
 
 -- a leaf's pairs, and where it ends, are known by the next
 pub record IsLeafUpto (m : List (List ℕ × List ℕ)) (leaf : Page (List ℕ)) (end : List ℕ) : Type 0 where
@@ -79,33 +79,33 @@ leaf_upto_by xs ys at end t e =
       part = part_of_level xs ys at t ∙ ap (λ (x : Option (List ℕ)). in_range at.page.low x (joined (xs ++ at ∷ ys))) e;
     }
 
-pub leaf_upto : (level : Level) (leaf next : Page (List ℕ)) (behind : Leaves) → Tiled level None → IsPassing level leaf (next ∷ behind) → IsLeafUpto (joined level) leaf next.low
-leaf_upto level leaf next behind t p =
-    let a = apart level p.passed leaf (next ∷ behind) p.whole in
-    let here = leaf_upto_by a.xs a.ys a.at next.low (subst (λ (x : Level). Tiled x None) a.whole t) (begins_with a.ys next behind a.rest) in
+pub leaf_upto : (level : Level) (leaf next : Page (List ℕ)) (pairs_after : Leaves) → Tiled level None → IsPassing level leaf (next ∷ pairs_after) → IsLeafUpto (joined level) leaf next.low
+leaf_upto level leaf next pairs_after t p =
+    let a = apart level p.passed leaf (next ∷ pairs_after) p.whole in
+    let here = leaf_upto_by a.xs a.ys a.at next.low (subst (λ (x : Level). Tiled x None) a.whole t) (begins_with a.ys next pairs_after a.rest) in
     subst (λ (x : Page (List ℕ)). IsLeafUpto (joined level) x next.low) a.page (subst (λ (x : Level). IsLeafUpto (joined x) a.at.page next.low) (sym a.whole) here)
 
 -- the walk goes on to the next leaf
-pub pass_on : (level : Level) (leaf next : Page (List ℕ)) (behind : Leaves) → IsPassing level leaf (next ∷ behind) → IsPassing level next behind
-pass_on level leaf next behind p = record {
+pub pass_on : (level : Level) (leaf next : Page (List ℕ)) (pairs_after : Leaves) → IsPassing level leaf (next ∷ pairs_after) → IsPassing level next pairs_after
+pass_on level leaf next pairs_after p = record {
   passed = p.passed ++ leaf ∷ [];
-  whole = p.whole ∙ sym (append_assoc p.passed (leaf ∷ []) (next ∷ behind));
+  whole = p.whole ∙ sym (append_assoc p.passed (leaf ∷ []) (next ∷ pairs_after));
 }
 
 -- the low key of each leaf is one of the level's
 abbrev IsLowOf : Level → List ℕ → Type 0
 IsLowOf level low = (at : ℕ) × (slice_get (keys_of (names level)) at ≡ Some low)
 
-low_among : (level : Level) (passed : Leaves) (leaf : Page (List ℕ)) (behind : Leaves) → shown level ≡ passed ++ leaf ∷ behind → IsLowOf level leaf.low
-low_among [] [] leaf behind e = absurd (cc)
-low_among [] (p ∷ passed) leaf behind e = absurd (cc)
-low_among (l ∷ ls) [] leaf behind e = let f : l.page ≡ leaf = cc in (0, ap (λ (p : Page (List ℕ)). Some p.low) f)
-low_among (l ∷ ls) (p ∷ passed) leaf behind e = let later : shown ls ≡ passed ++ leaf ∷ behind = cc in let a = low_among ls passed leaf behind later in (suc a.0, a.1)
+low_among : (level : Level) (passed : Leaves) (leaf : Page (List ℕ)) (pairs_after : Leaves) → shown level ≡ passed ++ leaf ∷ pairs_after → IsLowOf level leaf.low
+low_among [] [] leaf pairs_after e = absurd (cc)
+low_among [] (p ∷ passed) leaf pairs_after e = absurd (cc)
+low_among (l ∷ ls) [] leaf pairs_after e = let f : l.page ≡ leaf = cc in (0, ap (λ (p : Page (List ℕ)). Some p.low) f)
+low_among (l ∷ ls) (p ∷ passed) leaf pairs_after e = let later : shown ls ≡ passed ++ leaf ∷ pairs_after = cc in let a = low_among ls passed leaf pairs_after later in (suc a.0, a.1)
 
 -- the walk begins on the level
 module _ (t : TreeInMemory) (held : HoldsLevels (tree_of t).pages (levels_of (tree_of t))) (levels : AreLevels (levels_of (tree_of t))) where
-  pub passing_first : (lo : List ℕ) (leaf : Page (List ℕ)) (behind : Leaves) → walk_from t 0 lo t.root ≡ leaf ∷ behind → IsPassing (levels_of (tree_of t)).level leaf behind
-  passing_first lo leaf behind w =
+  pub passing_first : (lo : List ℕ) (leaf : Page (List ℕ)) (pairs_after : Leaves) → walk_from t 0 lo t.root ≡ leaf ∷ pairs_after → IsPassing (levels_of (tree_of t)).level leaf pairs_after
+  passing_first lo leaf pairs_after w =
       let at_top : pred t.height - 0 ≡ pred t.height = omega arith in
       let l = last-from (tree_of t) held levels lo in
       record {
@@ -125,17 +125,17 @@ abbrev pub SharesOf : Taken → List ℕ → List ℕ → Page (List ℕ) → �
 SharesOf taken lo end leaf n =
     (m l : List (List ℕ × List ℕ)) → LacksAtMost taken m l → is_below leaf.low end ≡ true → page.entries leaf ≡ in_range leaf.low (Some end) m → AreCertain lo l leaf.low end n
 
-module _ (taken : Taken) (level : Level) (lo : List ℕ) (leaf next : Page (List ℕ)) (leaves behind : Leaves) (passing : IsPassing level leaf leaves) (steps : leaves ≡ next ∷ behind) where
-  at_next : IsPassing level leaf (next ∷ behind)
+module _ (taken : Taken) (level : Level) (lo : List ℕ) (leaf next : Page (List ℕ)) (leaves pairs_after : Leaves) (passing : IsPassing level leaf leaves) (steps : leaves ≡ next ∷ pairs_after) where
+  at_next : IsPassing level leaf (next ∷ pairs_after)
   at_next = subst (λ (x : Leaves). IsPassing level leaf x) steps passing
 
-  pub passing_on : IsPassing level next behind
-  passing_on = pass_on level leaf next behind at_next
+  pub passing_on : IsPassing level next pairs_after
+  passing_on = pass_on level leaf next pairs_after at_next
 
   pub certain_on : (certain share sum : ℕ) → Tiled level None → AreCertainBefore taken (joined level) lo leaf.low certain → SharesOf taken lo next.low leaf share → sum ≤ certain + share → AreCertainBefore taken (joined level) lo next.low sum
   certain_on certain share sum t c s l = record {
     each = λ n lack.
-        let upto = leaf_upto level leaf next behind t at_next in
+        let upto = leaf_upto level leaf next pairs_after t at_next in
         let before = c.each n lack in
         let here = s (joined level) n lack upto.below upto.part in
         omega (arith, l, before, here);
@@ -146,7 +146,7 @@ module _ (taken : Taken) (level : Level) (lo : List ℕ) (leaf next : Page (List
   enough hi limit certain c b h l = λ n lack.
       let on = passing_on in
       let each = c.each n lack in
-      record { known = low_among level on.passed next behind on.whole; behind = b; before = h; rows = omega (arith, l, each) }
+      record { known = low_among level on.passed next pairs_after on.whole; following = b; before = h; rows = omega (arith, l, each) }
 
   -- both at once: what is certain before the next leaf is enough
   pub enough_on : (hi : Option (List ℕ)) (limit certain share sum : ℕ) → Tiled level None → AreCertainBefore taken (joined level) lo leaf.low certain → SharesOf taken lo next.low leaf share → sum ≤ certain + share

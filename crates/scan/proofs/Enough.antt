@@ -311,9 +311,9 @@ module _ (lo : List ℕ) where
       parted_by (is_within low (Some end) e.0) (is_below e.0 lo) (is_below e.0 end) e (in_range low (Some end) m) (in_range lo (Some end) m) refl (before_by (is_below e.0 low) (is_below e.0 end)) (parted_range low end m)
 
 -- a scan that begins within the leaf has what the leaf has at least, less what it names below the scan, and what is deleted
-pub behind_certain : (lo low end : List ℕ) (taken : Taken) (m n : Pairs) (p : Layers (List ℕ)) (fewest most named gone left : ℕ) → is_below low lo ≡ true → IsUntouched lo end taken.1 → LacksAtMost taken m n → entries_of p ≡ in_range low (Some end) m
+pub after_certain : (lo low end : List ℕ) (taken : Taken) (m n : Pairs) (p : Layers (List ℕ)) (fewest most named gone left : ℕ) → is_below low lo ≡ true → IsUntouched lo end taken.1 → LacksAtMost taken m n → entries_of p ≡ in_range low (Some end) m
     → fewest ≤ length (entries_of p) → fewest ≤ most → named ≡ min (named_below lo p) most → count_within lo end taken.0 ≤ gone → left ≡ (fewest - named) - gone → AreCertain lo n low end left
-behind_certain lo low end taken m n p fewest most named gone left b w l e f u s g r =
+after_certain lo low end taken m n p fewest most named gone left b w l e f u s g r =
     let lack = l lo end w in
     let parts = parted_range lo low end m in
     let below = entries_below lo p.runs p.base in
@@ -323,14 +323,14 @@ behind_certain lo low end taken m n p fewest most named gone left b w l e f u s 
     omega (arith, lack, parts, below, whole, named_there, nothing, f, u, s, g, r)
 
 -- and certainly none, at least
-none_behind : (lo low end : List ℕ) (n : Pairs) → is_below low lo ≡ true → AreCertain lo n low end 0
-none_behind lo low end n b =
+none_after : (lo low end : List ℕ) (n : Pairs) → is_below low lo ≡ true → AreCertain lo n low end 0
+none_after lo low end n b =
     let nothing : length (in_range lo (Some low) n) ≡ 0 = ap (λ (x : Pairs). length x) (none_in_range n lo low (not_below_lower low lo (below_is_less low lo b))) in
     omega (arith, nothing)
 
 -- so of a leaf wherever the scan begins
 pub none_certain : (b : Bool) (lo low end : List ℕ) (n : Pairs) → is_below low lo ≡ b → is_below low end ≡ true → AreCertain lo n low end 0
-none_certain true lo low end n b h = none_behind lo low end n b
+none_certain true lo low end n b h = none_after lo low end n b
 none_certain false lo low end n b h = none_here lo low end n b h
 
 -- where the scan's share of a leaf begins

@@ -15,7 +15,7 @@ use Rattle.delta_chain.proofs.LayerLemmas.{rising-entries_of, value_at-entries_o
 use Rattle.page_search.specs.Above.{above}
 use Rattle.page_search.specs.Floor.{floor}
 use Rattle.page_search.proofs.FloorLemmas.{floor-nearest}
-use Rattle.scan.specs.Leaf.{from, behind, left_after}
+use Rattle.scan.specs.Leaf.{from, pairs_after, left_after}
 
 -- ---- keys
 
@@ -37,16 +37,16 @@ passed_by false g k e b p n = refl
 module _ {V : Type 0} where
   -- ---- pairs after a key
 
-  pub behind-all : (k : List ℕ) (es : List (List ℕ × V)) → IsBelowAll k (keys_of es) → behind k es ≡ es
-  behind-all k [] a = refl
-  behind-all k (e ∷ es) a = rw a.0 (ap (λ (x : List (List ℕ × V)). e ∷ x) (behind-all k es a.1))
+  pub pairs_after-all : (k : List ℕ) (es : List (List ℕ × V)) → IsBelowAll k (keys_of es) → pairs_after k es ≡ es
+  pairs_after-all k [] a = refl
+  pairs_after-all k (e ∷ es) a = rw a.0 (ap (λ (x : List (List ℕ × V)). e ∷ x) (pairs_after-all k es a.1))
 
   pub from-all : (k : List ℕ) (es : List (List ℕ × V)) → IsBelowAll k (keys_of es) → from k es ≡ es
   from-all k [] a = refl
   from-all k (e ∷ es) a = rw (above_not_below k e.0 a.0) (ap (λ (x : List (List ℕ × V)). e ∷ x) (from-all k es a.1))
 
-  pub behind-skips : (k : List ℕ) (e : List ℕ × V) (es : List (List ℕ × V)) → is_below k e.0 ≡ false → behind k (e ∷ es) ≡ behind k es
-  behind-skips k e es h = rw h refl
+  pub pairs_after-skips : (k : List ℕ) (e : List ℕ × V) (es : List (List ℕ × V)) → is_below k e.0 ≡ false → pairs_after k (e ∷ es) ≡ pairs_after k es
+  pairs_after-skips k e es h = rw h refl
 
   found_by : (b : Bool) (k : List ℕ) (e g : List ℕ × V) (o : Option (List ℕ × V)) → is_below k e.0 ≡ b → (o ≡ Some g → is_below k g.0 ≡ true) → cond b (Some e) o ≡ Some g → is_below k g.0 ≡ true
   found_by true k e g o b ih h = let same : e ≡ g = cc in rw (← same) b
@@ -58,23 +58,23 @@ module _ {V : Type 0} where
 
   rest_by : (o : Option (List ℕ × V)) (e : List ℕ × V) (es : List (List ℕ × V)) → ((g : List ℕ × V) → o ≡ Some g → is_below g.0 e.0 ≡ false) → left_after o es ≡ left_after o (e ∷ es)
   rest_by None e es n = refl
-  rest_by (Some g) e es n = ap (λ (x : List (List ℕ × V)). g ∷ x) (sym (behind-skips g.0 e es (n g refl)))
+  rest_by (Some g) e es n = ap (λ (x : List (List ℕ × V)). g ∷ x) (sym (pairs_after-skips g.0 e es (n g refl)))
 
-  step_by : (b : Bool) (k : List ℕ) (e : List ℕ × V) (es : List (List ℕ × V)) → is_below k e.0 ≡ b → IsRising (e ∷ es) → behind k es ≡ left_after (above k es) es
-      → behind k (e ∷ es) ≡ left_after (cond b (Some e) (above k es)) (e ∷ es)
+  step_by : (b : Bool) (k : List ℕ) (e : List ℕ × V) (es : List (List ℕ × V)) → is_below k e.0 ≡ b → IsRising (e ∷ es) → pairs_after k es ≡ left_after (above k es) es
+      → pairs_after k (e ∷ es) ≡ left_after (cond b (Some e) (above k es)) (e ∷ es)
   unfolding IsStrictlySortedBy
   step_by true k e es b r ih =
       let l : order k e.0 ≡ Less = less_by (order k e.0) b in
-      behind-all k (e ∷ es) (l, below_all k e.0 (keys_of es) l r.0)
-      ∙ ap (λ (x : List (List ℕ × V)). e ∷ x) (sym (behind-skips e.0 e es (itself e.0) ∙ behind-all e.0 es r.0))
+      pairs_after-all k (e ∷ es) (l, below_all k e.0 (keys_of es) l r.0)
+      ∙ ap (λ (x : List (List ℕ × V)). e ∷ x) (sym (pairs_after-skips e.0 e es (itself e.0) ∙ pairs_after-all e.0 es r.0))
   step_by false k e es b r ih =
-      behind-skips k e es b ∙ ih ∙ rest_by (above k es) e es (λ g p. passed_by (is_below g.0 e.0) g.0 k e.0 refl (found_above k es g p) b)
+      pairs_after-skips k e es b ∙ ih ∙ rest_by (above k es) e es (λ g p. passed_by (is_below g.0 e.0) g.0 k e.0 refl (found_above k es g p) b)
 
   -- the pairs after k are the first one after it, and those after that
-  pub behind-step : (k : List ℕ) (es : List (List ℕ × V)) → IsRising es → behind k es ≡ left_after (above k es) es
+  pub pairs_after-step : (k : List ℕ) (es : List (List ℕ × V)) → IsRising es → pairs_after k es ≡ left_after (above k es) es
   unfolding IsStrictlySortedBy
-  behind-step k [] r = refl
-  behind-step k (e ∷ es) r = step_by (is_below k e.0) k e es refl r (behind-step k es r.1)
+  pairs_after-step k [] r = refl
+  pairs_after-step k (e ∷ es) r = step_by (is_below k e.0) k e es refl r (pairs_after-step k es r.1)
 
   -- ---- where a walk begins
 
@@ -83,27 +83,27 @@ module _ {V : Type 0} where
   none_by false e o h = (refl, h)
 
   -- where the key isn't there, the pairs from it on are those after it
-  pub from-none : (k : List ℕ) (es : List (List ℕ × V)) → value_at k es ≡ None → from k es ≡ behind k es
+  pub from-none : (k : List ℕ) (es : List (List ℕ × V)) → value_at k es ≡ None → from k es ≡ pairs_after k es
   from-none k [] h = refl
   from-none k (e ∷ es) h =
       let n = none_by (is_eq (order k e.0)) e (value_at k es) h in
       rw (apart_by (order k e.0) k e.0 refl n.0) (ap (λ (x : List (List ℕ × V)). cond (is_below k e.0) (e ∷ x) x) (from-none k es n.1))
 
   there_by : (b : Bool) (k : List ℕ) (v : V) (e : List ℕ × V) (es : List (List ℕ × V)) → is_eq (order k e.0) ≡ b → IsRising (e ∷ es) → cond b (Some e.1) (value_at k es) ≡ Some v
-      → (value_at k es ≡ Some v → from k es ≡ (k, v) ∷ behind k es) → from k (e ∷ es) ≡ (k, v) ∷ behind k (e ∷ es)
+      → (value_at k es ≡ Some v → from k es ≡ (k, v) ∷ pairs_after k es) → from k (e ∷ es) ≡ (k, v) ∷ pairs_after k (e ∷ es)
   unfolding IsStrictlySortedBy
   there_by true k v e es b r h ih =
       let same : k ≡ e.0 = passes_same k e.0 b in
       let value : e.1 ≡ v = cc in
-      let here : from e.0 (e ∷ es) ≡ (e.0, e.1) ∷ behind e.0 (e ∷ es) =
-      rw (itself e.0) (ap (λ (x : List (List ℕ × V)). e ∷ x) (from-all e.0 es r.0 ∙ sym (behind-all e.0 es r.0))) in
-      rw (← value) (subst (λ (j : List ℕ). from j (e ∷ es) ≡ (j, e.1) ∷ behind j (e ∷ es)) (sym same) here)
+      let here : from e.0 (e ∷ es) ≡ (e.0, e.1) ∷ pairs_after e.0 (e ∷ es) =
+      rw (itself e.0) (ap (λ (x : List (List ℕ × V)). e ∷ x) (from-all e.0 es r.0 ∙ sym (pairs_after-all e.0 es r.0))) in
+      rw (← value) (subst (λ (j : List ℕ). from j (e ∷ es) ≡ (j, e.1) ∷ pairs_after j (e ∷ es)) (sym same) here)
   there_by false k v e es b r h ih =
       let l : order e.0 k ≡ Less = all_below k es v e.0 r.0 h in
       rw (l, above_not_below e.0 k l) (ih h)
 
   -- where it is there, they are its pair and those after it
-  pub from-there : (k : List ℕ) (v : V) (es : List (List ℕ × V)) → IsRising es → value_at k es ≡ Some v → from k es ≡ (k, v) ∷ behind k es
+  pub from-there : (k : List ℕ) (v : V) (es : List (List ℕ × V)) → IsRising es → value_at k es ≡ Some v → from k es ≡ (k, v) ∷ pairs_after k es
   unfolding IsStrictlySortedBy
   from-there k v [] r h = absurd (cc)
   from-there k v (e ∷ es) r h = there_by (is_eq (order k e.0)) k v e es refl r h (λ p. from-there k v es r.1 p)
@@ -120,9 +120,9 @@ module _ {V : Type 0} where
         let rising = rising-entries_of p r in
         ap (λ (x : Option (List ℕ × V)). left_after x (entries_of p)) (f ∙ sym (floor-there k v (entries_of p) rising there)) ∙ sym (from-there k v (entries_of p) rising there)
 
-    pub start-none : (o : Option (List ℕ × V)) → None ≡ holds p k → left_after o (entries_of p) ≡ behind k (entries_of p) → left_after o (entries_of p) ≡ from k (entries_of p)
+    pub start-none : (o : Option (List ℕ × V)) → None ≡ holds p k → left_after o (entries_of p) ≡ pairs_after k (entries_of p) → left_after o (entries_of p) ≡ from k (entries_of p)
     start-none o h a = a ∙ sym (from-none k (entries_of p) (value_at-entries_of p k r ∙ sym h))
 
     -- the first pair after the key, and those after it
-    pub first-behind : (o : Option (List ℕ × V)) → o ≡ above k (entries_of p) → left_after o (entries_of p) ≡ behind k (entries_of p)
-    first-behind o a = ap (λ (x : Option (List ℕ × V)). left_after x (entries_of p)) a ∙ sym (behind-step k (entries_of p) (rising-entries_of p r))
+    pub first-pairs_after : (o : Option (List ℕ × V)) → o ≡ above k (entries_of p) → left_after o (entries_of p) ≡ pairs_after k (entries_of p)
+    first-pairs_after o a = ap (λ (x : Option (List ℕ × V)). left_after x (entries_of p)) a ∙ sym (pairs_after-step k (entries_of p) (rising-entries_of p r))

@@ -11,8 +11,8 @@ use Rattle.keys.specs.OrderedMap.{value_at}
 use Rattle.keys.specs.Range.{is_below}
 use Rattle.keys.proofs.Basics.{less_by}
 use Rattle.keys.proofs.MapLemmas.{IsBelowAll, below_all, same_key, flipped_less, flipped_greater}
-use Rattle.delta_chain.specs.Layers.{said_or, with_run}
-use Rattle.delta_chain.specs.Merging.{pair_if, first_order, asserted, said_by}
+use Rattle.delta_chain.specs.Layers.{change_or, with_run}
+use Rattle.delta_chain.specs.Merging.{pair_if, first_order, asserted, joined_changes}
 use Rattle.delta_chain.proofs.LayerLemmas.{value_at-with_run}
 use Rattle.delta_chain.proofs.Merges.{first_stays, first_goes, change_stays}
 use Rattle.delta_chain.proofs.Places.{drop_pair}
@@ -20,10 +20,10 @@ use Rattle.delta_chain.proofs.Overlays.{rising-asserted}
 use Rattle.page_search.specs.Places.{count_below}
 use Rattle.page_search.proofs.FloorLemmas.{held_not_none, below_first}
 use Rattle.page_search.proofs.PlaceLemmas.{count_below-cons, count_below-upto}
-use Rattle.scan.specs.Leaf.{from, behind}
+use Rattle.scan.specs.Leaf.{from, pairs_after}
 use Rattle.scan.specs.Merge.{StartsFrom}
-use Rattle.scan.proofs.LeafLemmas.{behind-all, from-all, behind-skips, itself}
-use Rattle.scan.proofs.PassingLemmas.{said_by-rises, behind-said_by}
+use Rattle.scan.proofs.LeafLemmas.{pairs_after-all, from-all, pairs_after-skips, itself}
+use Rattle.scan.proofs.PassingLemmas.{joined_changes-rises, pairs_after-joined_changes}
 
 pub none_below_empty : (j : List ℕ) → is_lt (order j []) ≡ false
 none_below_empty [] = refl
@@ -74,17 +74,17 @@ module _ {V : Type 0} where
 
   -- ---- past a key that is the first, or stands before it
 
-  pub past_first : (k : List ℕ) (e : List ℕ × V) (es : List (List ℕ × V)) → IsRising (e ∷ es) → order e.0 k ≡ Equal → behind k (e ∷ es) ≡ es
+  pub past_first : (k : List ℕ) (e : List ℕ × V) (es : List (List ℕ × V)) → IsRising (e ∷ es) → order e.0 k ≡ Equal → pairs_after k (e ∷ es) ≡ es
   unfolding IsStrictlySortedBy
   past_first k e es r h =
       let same : e.0 ≡ k = same_key e.0 k h in
-      ap (λ (j : List ℕ). behind j (e ∷ es)) (sym same) ∙ behind-skips e.0 e es (itself e.0) ∙ behind-all e.0 es r.0
+      ap (λ (j : List ℕ). pairs_after j (e ∷ es)) (sym same) ∙ pairs_after-skips e.0 e es (itself e.0) ∙ pairs_after-all e.0 es r.0
 
-  pub before_first : (k : List ℕ) (e : List ℕ × V) (es : List (List ℕ × V)) → IsRising (e ∷ es) → order e.0 k ≡ Greater → behind k (e ∷ es) ≡ e ∷ es
+  pub before_first : (k : List ℕ) (e : List ℕ × V) (es : List (List ℕ × V)) → IsRising (e ∷ es) → order e.0 k ≡ Greater → pairs_after k (e ∷ es) ≡ e ∷ es
   unfolding IsStrictlySortedBy
   before_first k e es r h =
       let l : order k e.0 ≡ Less = flipped_greater e.0 k h in
-      behind-all k (e ∷ es) (l, below_all k e.0 (keys_of es) l r.0)
+      pairs_after-all k (e ∷ es) (l, below_all k e.0 (keys_of es) l r.0)
 
   greater_first : (k : List ℕ) (e : List ℕ × V) (es : List (List ℕ × V)) → IsRising (e ∷ es) → order e.0 k ≡ Equal → first_order es k ≡ Greater
   unfolding IsStrictlySortedBy
@@ -94,7 +94,7 @@ module _ {V : Type 0} where
       flipped_less k f.0 (rw (sym same) r.0.0)
 
   next_by : (o : Ordering) (e : List ℕ × V) (es : List (List ℕ × V)) (c : List ℕ × Option V) (cs : List (List ℕ × Option V)) → order e.0 c.0 ≡ o → is_lt o ≡ false → IsRising (e ∷ es) → IsRising (c ∷ cs)
-      → with_run (e ∷ es) (c ∷ cs) ≡ pair_if c.0 c.1 ++ with_run (behind c.0 (e ∷ es)) cs
+      → with_run (e ∷ es) (c ∷ cs) ≡ pair_if c.0 c.1 ++ with_run (pairs_after c.0 (e ∷ es)) cs
   unfolding IsStrictlySortedBy
   next_by Less e es c cs h n r s = absurd (cc)
   next_by Equal e es c cs h n r s =
@@ -104,7 +104,7 @@ module _ {V : Type 0} where
       change_stays (e ∷ es) c cs r s h ∙ ap (λ (x : List (List ℕ × V)). pair_if c.0 c.1 ++ with_run x cs) (sym (before_first c.0 e es r h))
 
   -- a change before which no pair stands comes next, and the pair that has its key goes
-  pub change_next : (es : List (List ℕ × V)) (c : List ℕ × Option V) (cs : List (List ℕ × Option V)) → IsRising es → IsRising (c ∷ cs) → StartsFrom c.0 es → with_run es (c ∷ cs) ≡ pair_if c.0 c.1 ++ with_run (behind c.0 es) cs
+  pub change_next : (es : List (List ℕ × V)) (c : List ℕ × Option V) (cs : List (List ℕ × Option V)) → IsRising es → IsRising (c ∷ cs) → StartsFrom c.0 es → with_run es (c ∷ cs) ≡ pair_if c.0 c.1 ++ with_run (pairs_after c.0 es) cs
   change_next [] c cs r s n = change_stays [] c cs r s refl
   change_next (e ∷ es) c cs r s n = next_by (order e.0 c.0) e es c cs refl n r s
 
@@ -112,12 +112,12 @@ module _ {V : Type 0} where
   -- ---- what runs say together begins with the least of their first keys
 
   -- a newer run's first change, where no older one stands before it
-  pub newest_first : (c : List ℕ × Option V) (cs : List (List ℕ × Option V)) (ls : List (List (List ℕ × Option V))) → IsRising (c ∷ cs) → AllByRecursion IsRising ls → StartsFrom c.0 (said_by ls) → slice_get (said_by ((c ∷ cs) ∷ ls)) 0 ≡ Some c
+  pub newest_first : (c : List ℕ × Option V) (cs : List (List ℕ × Option V)) (ls : List (List (List ℕ × Option V))) → IsRising (c ∷ cs) → AllByRecursion IsRising ls → StartsFrom c.0 (joined_changes ls) → slice_get (joined_changes ((c ∷ cs) ∷ ls)) 0 ≡ Some c
   newest_first c cs ls r a n =
-      ap (λ (x : List (List ℕ × Option V)). slice_get x 0) (change_next (said_by ls) (c.0, Some c.1) (asserted cs) (said_by-rises ls a) (rising-asserted (c ∷ cs) r) n)
+      ap (λ (x : List (List ℕ × Option V)). slice_get x 0) (change_next (joined_changes ls) (c.0, Some c.1) (asserted cs) (joined_changes-rises ls a) (rising-asserted (c ∷ cs) r) n)
 
   -- an older one that stands before it
-  pub older_first : (c d : List ℕ × Option V) (cs ds : List (List ℕ × Option V)) (ls : List (List (List ℕ × Option V))) → IsRising (c ∷ cs) → said_by ls ≡ d ∷ ds → order d.0 c.0 ≡ Less → slice_get (said_by ((c ∷ cs) ∷ ls)) 0 ≡ Some d
+  pub older_first : (c d : List ℕ × Option V) (cs ds : List (List ℕ × Option V)) (ls : List (List (List ℕ × Option V))) → IsRising (c ∷ cs) → joined_changes ls ≡ d ∷ ds → order d.0 c.0 ≡ Less → slice_get (joined_changes ((c ∷ cs) ∷ ls)) 0 ≡ Some d
   older_first c d cs ds ls r h l =
       ap (λ (x : List (List ℕ × Option V)). slice_get (with_run x (asserted (c ∷ cs))) 0) h
       ∙ ap (λ (x : List (List ℕ × Option V)). slice_get x 0) (first_stays d ds (c.0, Some c.1) (asserted cs) (rising-asserted (c ∷ cs) r) l)
@@ -125,12 +125,12 @@ module _ {V : Type 0} where
   -- ---- after that key
 
   -- what is after the first change is what the runs say after its key
-  pub said_behind : (k : List ℕ) (o : Option V) (rest : List (List ℕ × Option V)) (runs : List (List (List ℕ × Option V))) → AllByRecursion IsRising runs → said_by runs ≡ (k, o) ∷ rest → said_by runs ≡ (k, o) ∷ said_by (map (behind k) runs)
+  pub said_after : (k : List ℕ) (o : Option V) (rest : List (List ℕ × Option V)) (runs : List (List (List ℕ × Option V))) → AllByRecursion IsRising runs → joined_changes runs ≡ (k, o) ∷ rest → joined_changes runs ≡ (k, o) ∷ joined_changes (map (pairs_after k) runs)
   unfolding IsStrictlySortedBy
-  said_behind k o rest runs a h =
-      let r : IsRising ((k, o) ∷ rest) = rw h at (said_by-rises runs a) in
-      let others : behind k (said_by runs) ≡ rest = ap (λ (x : List (List ℕ × Option V)). behind k x) h ∙ behind-skips k (k, o) rest (itself k) ∙ behind-all k rest r.0 in
-      h ∙ ap (λ (x : List (List ℕ × Option V)). (k, o) ∷ x) (sym others ∙ behind-said_by k runs a)
+  said_after k o rest runs a h =
+      let r : IsRising ((k, o) ∷ rest) = rw h at (joined_changes-rises runs a) in
+      let others : pairs_after k (joined_changes runs) ≡ rest = ap (λ (x : List (List ℕ × Option V)). pairs_after k x) h ∙ pairs_after-skips k (k, o) rest (itself k) ∙ pairs_after-all k rest r.0 in
+      h ∙ ap (λ (x : List (List ℕ × Option V)). (k, o) ∷ x) (sym others ∙ pairs_after-joined_changes k runs a)
 
   pub value_at-asserted : (q : List ℕ) (run : List (List ℕ × Option V)) → value_at q (asserted run) ≡ option_map Some (value_at q run)
   value_at-asserted q [] = refl
@@ -140,7 +140,7 @@ module _ {V : Type 0} where
       asserted_by true o rest others h = refl
       asserted_by false o rest others h = h
 
-  neither : (o : Option (Option V)) (older : Option (Option V)) → said_or (option_map Some o) older ≡ None → (o ≡ None) × (older ≡ None)
+  neither : (o : Option (Option V)) (older : Option (Option V)) → change_or (option_map Some o) older ≡ None → (o ≡ None) × (older ≡ None)
   neither None older h = (refl, h)
   neither (Some x) older h = absurd (cc)
 
@@ -156,17 +156,17 @@ module _ {V : Type 0} where
   starts k [] n = tt
   starts k (c ∷ cs) n = start_by (is_below c.0 k) k c cs refl (n c.0)
 
-  each_starts : (k : List ℕ) (runs : List (List (List ℕ × Option V))) → AllByRecursion IsRising runs → NamesNoneBelow k (said_by runs) → AllByRecursion (StartsFrom k) runs
+  each_starts : (k : List ℕ) (runs : List (List (List ℕ × Option V))) → AllByRecursion IsRising runs → NamesNoneBelow k (joined_changes runs) → AllByRecursion (StartsFrom k) runs
   each_starts k [] a n = tt
   each_starts k (run ∷ runs) a n =
-      let both : (q : List ℕ) → is_below q k ≡ true → (value_at q run ≡ None) × (value_at q (said_by runs) ≡ None) =
-      λ q b. neither (value_at q run) (value_at q (said_by runs))
-      (ap (λ (o : Option (Option (Option V))). said_or o (value_at q (said_by runs))) (sym (value_at-asserted q run))
-      ∙ sym (value_at-with_run (said_by runs) (asserted run) q (said_by-rises runs a.1) (rising-asserted run a.0)) ∙ n q b) in
+      let both : (q : List ℕ) → is_below q k ≡ true → (value_at q run ≡ None) × (value_at q (joined_changes runs) ≡ None) =
+      λ q b. neither (value_at q run) (value_at q (joined_changes runs))
+      (ap (λ (o : Option (Option (Option V))). change_or o (value_at q (joined_changes runs))) (sym (value_at-asserted q run))
+      ∙ sym (value_at-with_run (joined_changes runs) (asserted run) q (joined_changes-rises runs a.1) (rising-asserted run a.0)) ∙ n q b) in
       (starts k run (λ q b. (both q b).0), each_starts k runs a.1 (λ q b. (both q b).1))
 
   -- no run has a change before the first one of all
-  pub all_start : (k : List ℕ) (o : Option V) (rest : List (List ℕ × Option V)) (runs : List (List (List ℕ × Option V))) → AllByRecursion IsRising runs → said_by runs ≡ (k, o) ∷ rest → AllByRecursion (StartsFrom k) runs
+  pub all_start : (k : List ℕ) (o : Option V) (rest : List (List ℕ × Option V)) (runs : List (List (List ℕ × Option V))) → AllByRecursion IsRising runs → joined_changes runs ≡ (k, o) ∷ rest → AllByRecursion (StartsFrom k) runs
   all_start k o rest runs a h =
-      let r : IsRising ((k, o) ∷ rest) = rw h at (said_by-rises runs a) in
+      let r : IsRising ((k, o) ∷ rest) = rw h at (joined_changes-rises runs a) in
       each_starts k runs a (λ q b. rw h (below_first q (k, o) rest r (less_by (order q k) b)))

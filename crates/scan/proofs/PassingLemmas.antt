@@ -9,11 +9,11 @@ use Rattle.keys.specs.OrderedMap.{value_at}
 use Rattle.keys.specs.Range.{is_below}
 use Rattle.keys.proofs.MapLemmas.{passes_same, same_map}
 use Rattle.keys.proofs.RangeLemmas.{rising-filtered}
-use Rattle.delta_chain.specs.Layers.{Layers, said_or, with_run, entries_of, AllRise, IsInOrder}
-use Rattle.delta_chain.specs.Merging.{asserted, said_by}
+use Rattle.delta_chain.specs.Layers.{Layers, change_or, with_run, entries_of, AllRise, IsInOrder}
+use Rattle.delta_chain.specs.Merging.{asserted, joined_changes}
 use Rattle.delta_chain.proofs.LayerLemmas.{rising-with_run, value_at-with_run}
-use Rattle.delta_chain.proofs.Overlays.{rising-asserted, rising-said_by, entries-said_by}
-use Rattle.scan.specs.Leaf.{from, behind}
+use Rattle.delta_chain.proofs.Overlays.{rising-asserted, rising-joined_changes, entries-joined_changes}
+use Rattle.scan.specs.Leaf.{from, pairs_after}
 
 -- the pairs whose keys pass
 abbrev pub passing : {X : Type 0} → (List ℕ → Bool) → List (List ℕ × X) → List (List ℕ × X)
@@ -39,7 +39,7 @@ module _ {X : Type 0} (test : List ℕ → Bool) where
       passing_by (test e.0) (is_eq (order k e.0)) (test k) k e es (passing test es) refl (λ h. ap test (passes_same k e.0 h)) (value_at-passing es k)
 
 module _ {V : Type 0} (test : List ℕ → Bool) where
-  said_passing : (b : Bool) (o : Option (Option V)) (p : Option V) → cond b (said_or o p) None ≡ said_or (cond b o None) (cond b p None)
+  said_passing : (b : Bool) (o : Option (Option V)) (p : Option V) → cond b (change_or o p) None ≡ change_or (cond b o None) (cond b p None)
   said_passing true o p = refl
   said_passing false o p = refl
 
@@ -53,8 +53,8 @@ module _ {V : Type 0} (test : List ℕ → Bool) where
       value_at-passing test (with_run m run) q
       ∙ ap (λ (o : Option V). cond (test q) o None) (value_at-with_run m run q r s)
       ∙ said_passing (test q) (value_at q run) (value_at q m)
-      ∙ ap (λ (o : Option (Option V)). said_or o (cond (test q) (value_at q m) None)) (sym (value_at-passing test run q))
-      ∙ ap (λ (o : Option V). said_or (value_at q (passing test run)) o) (sym (value_at-passing test m q))
+      ∙ ap (λ (o : Option (Option V)). change_or o (cond (test q) (value_at q m) None)) (sym (value_at-passing test run q))
+      ∙ ap (λ (o : Option V). change_or (value_at q (passing test run)) o) (sym (value_at-passing test m q))
       ∙ sym (value_at-with_run (passing test m) (passing test run) q m_rises run_rises))
 
   asserted_by : (b : Bool) (c : List ℕ × Option V) (cs : List (List ℕ × Option V)) (rest : List (List ℕ × Option (Option V))) → rest ≡ asserted cs → cond b ((c.0, Some c.1) ∷ rest) rest ≡ asserted (cond b (c ∷ cs) cs)
@@ -74,17 +74,17 @@ each_rises [] base a = (tt, a)
 each_rises (run ∷ runs) base a = let rest = each_rises runs base a.1 in ((a.0, rest.0), rest.1)
 
 module _ {V : Type 0} where
-  pub said_by-rises : (runs : List (List (List ℕ × Option V))) → AllByRecursion IsRising runs → IsRising (said_by runs)
+  pub joined_changes-rises : (runs : List (List (List ℕ × Option V))) → AllByRecursion IsRising runs → IsRising (joined_changes runs)
   unfolding IsStrictlySortedBy
-  said_by-rises runs a = rising-said_by runs [] (all_rise runs [] a tt)
+  joined_changes-rises runs a = rising-joined_changes runs [] (all_rise runs [] a tt)
 
   -- what runs say together
-  pub passing-said_by : (test : List ℕ → Bool) (runs : List (List (List ℕ × Option V))) → AllByRecursion IsRising runs → passing test (said_by runs) ≡ said_by (map (passing test) runs)
-  passing-said_by test [] a = refl
-  passing-said_by test (run ∷ runs) a =
-      passing-with_run test (said_by runs) (asserted run) (said_by-rises runs a.1) (rising-asserted run a.0)
-      ∙ ap (λ (x : List (List ℕ × Option (Option V))). with_run (passing test (said_by runs)) x) (passing-asserted test run)
-      ∙ ap (λ (x : List (List ℕ × Option V)). with_run x (asserted (passing test run))) (passing-said_by test runs a.1)
+  pub passing-joined_changes : (test : List ℕ → Bool) (runs : List (List (List ℕ × Option V))) → AllByRecursion IsRising runs → passing test (joined_changes runs) ≡ joined_changes (map (passing test) runs)
+  passing-joined_changes test [] a = refl
+  passing-joined_changes test (run ∷ runs) a =
+      passing-with_run test (joined_changes runs) (asserted run) (joined_changes-rises runs a.1) (rising-asserted run a.0)
+      ∙ ap (λ (x : List (List ℕ × Option (Option V))). with_run (passing test (joined_changes runs)) x) (passing-asserted test run)
+      ∙ ap (λ (x : List (List ℕ × Option V)). with_run x (asserted (passing test run))) (passing-joined_changes test runs a.1)
 
   pub rising-passing : (test : List ℕ → Bool) (runs : List (List (List ℕ × Option V))) → AllByRecursion IsRising runs → AllByRecursion IsRising (map (passing test) runs)
   rising-passing test [] a = tt
@@ -92,11 +92,11 @@ module _ {V : Type 0} where
 
   -- ---- after a key, and from a key on
 
-  pub behind-said_by : (k : List ℕ) (runs : List (List (List ℕ × Option V))) → AllByRecursion IsRising runs → behind k (said_by runs) ≡ said_by (map (behind k) runs)
-  behind-said_by k runs a = passing-said_by (λ j. is_below k j) runs a
+  pub pairs_after-joined_changes : (k : List ℕ) (runs : List (List (List ℕ × Option V))) → AllByRecursion IsRising runs → pairs_after k (joined_changes runs) ≡ joined_changes (map (pairs_after k) runs)
+  pairs_after-joined_changes k runs a = passing-joined_changes (λ j. is_below k j) runs a
 
-  pub rising-behind_all : (k : List ℕ) (runs : List (List (List ℕ × Option V))) → AllByRecursion IsRising runs → AllByRecursion IsRising (map (behind k) runs)
-  rising-behind_all k runs a = rising-passing (λ j. is_below k j) runs a
+  pub rising-after_all : (k : List ℕ) (runs : List (List (List ℕ × Option V))) → AllByRecursion IsRising runs → AllByRecursion IsRising (map (pairs_after k) runs)
+  rising-after_all k runs a = rising-passing (λ j. is_below k j) runs a
 
   pub rising-passing_all : (test : List ℕ → Bool) (p : Layers V) → IsInOrder p → AllByRecursion IsRising (map (passing test) p.runs)
   rising-passing_all test p a = rising-passing test p.runs (each_rises p.runs p.base a).0
@@ -108,13 +108,13 @@ module _ {V : Type 0} where
   rising-base_of p a = (each_rises p.runs p.base a).1
 
   -- a page's entries that pass, from those that pass of its lists
-  pub passing-entries : (test : List ℕ → Bool) (p : Layers V) → IsInOrder p → with_run (passing test p.base) (said_by (map (passing test) p.runs)) ≡ passing test (entries_of p)
+  pub passing-entries : (test : List ℕ → Bool) (p : Layers V) → IsInOrder p → with_run (passing test p.base) (joined_changes (map (passing test) p.runs)) ≡ passing test (entries_of p)
   passing-entries test p a =
       let each = each_rises p.runs p.base a in
-      ap (λ (x : List (List ℕ × Option V)). with_run (passing test p.base) x) (sym (passing-said_by test p.runs each.0))
-      ∙ sym (passing-with_run test p.base (said_by p.runs) each.1 (said_by-rises p.runs each.0))
-      ∙ ap (λ (x : List (List ℕ × V)). passing test x) (entries-said_by p.runs p.base a)
+      ap (λ (x : List (List ℕ × Option V)). with_run (passing test p.base) x) (sym (passing-joined_changes test p.runs each.0))
+      ∙ sym (passing-with_run test p.base (joined_changes p.runs) each.1 (joined_changes-rises p.runs each.0))
+      ∙ ap (λ (x : List (List ℕ × V)). passing test x) (entries-joined_changes p.runs p.base a)
 
   -- those from a key on
-  pub from-entries : (k : List ℕ) (p : Layers V) → IsInOrder p → with_run (from k p.base) (said_by (map (from k) p.runs)) ≡ from k (entries_of p)
+  pub from-entries : (k : List ℕ) (p : Layers V) → IsInOrder p → with_run (from k p.base) (joined_changes (map (from k) p.runs)) ≡ from k (entries_of p)
   from-entries k p a = passing-entries (λ j. not (is_below j k)) p a

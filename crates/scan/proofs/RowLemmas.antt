@@ -27,22 +27,22 @@ use Rattle.scan.proofs.TreeLemmas.{root_is_known, contents-from, contents-rise}
 
 -- ---- a range of rising pairs, cut at its end
 
-behind_by : (b : Bool) (i j end : List ℕ) → is_below j end ≡ b → is_below i end ≡ false → order i j ≡ Less → b ≡ false
-behind_by true i j end c n l = absurd (let t : is_below i end ≡ true = rw (total.trans i j end l (less_by (order j end) c)) refl in cc)
-behind_by false i j end c n l = refl
+after_by : (b : Bool) (i j end : List ℕ) → is_below j end ≡ b → is_below i end ≡ false → order i j ≡ Less → b ≡ false
+after_by true i j end c n l = absurd (let t : is_below i end ≡ true = rw (total.trans i j end l (less_by (order j end) c)) refl in cc)
+after_by false i j end c n l = refl
 
-behind_end : (hi : Option (List ℕ)) (i j : List ℕ) → is_before hi i ≡ false → order i j ≡ Less → is_before hi j ≡ false
-behind_end None i j n l = absurd (cc)
-behind_end (Some end) i j n l = behind_by (is_below j end) i j end refl n l
+after_end : (hi : Option (List ℕ)) (i j : List ℕ) → is_before hi i ≡ false → order i j ≡ Less → is_before hi j ≡ false
+after_end None i j n l = absurd (cc)
+after_end (Some end) i j n l = after_by (is_below j end) i j end refl n l
 
 module _ {V : Type 0} (lo : List ℕ) (hi : Option (List ℕ)) where
   abbrev Until : List (List ℕ × V) → List (List ℕ × V)
   Until es = take_while (λ e. is_before hi e.0) es
 
-  none_behind : (k : List ℕ) (es : List (List ℕ × V)) → is_before hi k ≡ false → IsBelowAll k (keys_of es) → in_range lo hi es ≡ []
-  none_behind k [] h a = refl
-  none_behind k (e ∷ es) h a =
-      ap (λ (b : Bool). cond b (e ∷ in_range lo hi es) (in_range lo hi es)) (and_false (not (is_below e.0 lo)) (is_before hi e.0) (behind_end hi k e.0 h a.0)) ∙ none_behind k es h a.1
+  none_after : (k : List ℕ) (es : List (List ℕ × V)) → is_before hi k ≡ false → IsBelowAll k (keys_of es) → in_range lo hi es ≡ []
+  none_after k [] h a = refl
+  none_after k (e ∷ es) h a =
+      ap (λ (b : Bool). cond b (e ∷ in_range lo hi es) (in_range lo hi es)) (and_false (not (is_below e.0 lo)) (is_before hi e.0) (after_end hi k e.0 h a.0)) ∙ none_after k es h a.1
 
   cut_by : (b c : Bool) (e : List ℕ × V) (es : List (List ℕ × V)) → is_below e.0 lo ≡ b → is_before hi e.0 ≡ c → IsBelowAll e.0 (keys_of es) → Until (from lo es) ≡ in_range lo hi es → Until (from lo (e ∷ es)) ≡ in_range lo hi (e ∷ es)
   cut_by true c e es p q a ih =
@@ -58,7 +58,7 @@ module _ {V : Type 0} (lo : List ℕ) (hi : Option (List ℕ)) where
       ap (λ (b : Bool). Until (cond (not b) (e ∷ from lo es) (from lo es))) p
       ∙ take_while-cons (λ (f : List ℕ × V). is_before hi f.0) e (from lo es)
       ∙ ap (λ (b : Bool). cond b (e ∷ Until (from lo es)) []) q
-      ∙ sym (ap (λ (b : Bool). cond (not b && is_before hi e.0) (e ∷ in_range lo hi es) (in_range lo hi es)) p ∙ ap (λ (b : Bool). cond b (e ∷ in_range lo hi es) (in_range lo hi es)) q ∙ none_behind e.0 es q a)
+      ∙ sym (ap (λ (b : Bool). cond (not b && is_before hi e.0) (e ∷ in_range lo hi es) (in_range lo hi es)) p ∙ ap (λ (b : Bool). cond b (e ∷ in_range lo hi es) (in_range lo hi es)) q ∙ none_after e.0 es q a)
 
   pub cut-range : (es : List (List ℕ × V)) → IsRising es → Until (from lo es) ≡ in_range lo hi es
   unfolding IsStrictlySortedBy
@@ -161,7 +161,7 @@ all_below_end hi (e ∷ es) h = none_from_by (is_below e.0 hi) hi e es refl h (�
 -- what stands after a key that isn't below hi isn't below hi either
 neither_below : (hi k : List ℕ) (es : Pairs) → is_below k hi ≡ false → IsBelowAll k (keys_of es) → AllByRecursion (λ (e : List ℕ × List ℕ). is_below e.0 k ≡ is_below e.0 hi) es
 neither_below hi k [] n a = tt
-neither_below hi k (e ∷ es) n a = (above_not_below k e.0 a.0 ∙ sym (behind_by (is_below e.0 hi) k e.0 hi refl n a.0), neither_below hi k es n a.1)
+neither_below hi k (e ∷ es) n a = (above_not_below k e.0 a.0 ∙ sym (after_by (is_below e.0 hi) k e.0 hi refl n a.0), neither_below hi k es n a.1)
 
 first_from_by : (b : Bool) (hi k v : List ℕ) (e : List ℕ × List ℕ) (es : Pairs) → is_below e.0 hi ≡ b → Some (k, v) ≡ slice_get (cond (not b) (e ∷ from hi es) (from hi es)) 0
     → (Some (k, v) ≡ slice_get (from hi es) 0 → is_below k hi ≡ false) → is_below k hi ≡ false

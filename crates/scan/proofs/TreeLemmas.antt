@@ -296,7 +296,7 @@ module _ (ps : List (ℕ × PageOfKind)) where
       ap (λ (x : Names). leaves_from_first (λ (e : List ℕ × ℕ). leaves_from ps n key e.1) (leaves_under ps n) x) c.kept in
       subst (λ (x : List ℕ). IsFrom key (leaves_under ps (suc n) (at.pid ∷ [])) x) (sym found)
       (three_parts key (under (values_of c.before)) (under (c.first.1 ∷ [])) (under (values_of c.rest)) (leaves_under ps (suc n) (at.pid ∷ [])) (leaves_from ps n key c.first.1) whole below
-      (from-rest n key c.rest at.end others.1 c.behind) (way_down n key (place_of c.first (next_key c.rest at.end)) others.0))
+      (from-rest n key c.rest at.end others.1 c.pairs_after) (way_down n key (place_of c.first (next_key c.rest at.end)) others.0))
 
 -- ---- of a tree whose levels are in order
 

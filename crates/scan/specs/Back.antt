@@ -6,10 +6,10 @@ use Rattle.keys.specs.Bytes.{Bytes, Pairs, Changes, Names}
 use Rattle.keys.specs.OrderedMap.{value_at}
 use Rattle.keys.specs.Range.{is_below, is_before, in_range}
 use Rattle.delta_chain.specs.Layers.{Layers}
-use Rattle.delta_chain.specs.Merging.{said_by}
+use Rattle.delta_chain.specs.Merging.{joined_changes}
 use Rattle.index_page.specs.Page.{Page, PageOfKind}
 use Rattle.mapping.specs.TreeInMemory.{TreeInMemory, tree_of}
-use Rattle.scan.specs.Leaf.{from, behind}
+use Rattle.scan.specs.Leaf.{from, pairs_after}
 use Rattle.scan.specs.Path.{entries_at, leaves_under, leaf_pages, pairs}
 
 -- ---- rows
@@ -60,11 +60,11 @@ changes_before (Some c) cs = cs ++ c ∷ []
 
 -- of the changes of runs this is the last: they have it, and none has a change of a key above
 pub record IsLastSaid {V : Type 0} (c : Bytes × Option V) (runs : List (Changes V)) : Type 0 where
-  pub said : value_at c.0 (said_by runs) ≡ Some c.1
-  pub none_above : AllByRecursion (λ run. behind c.0 run ≡ []) runs
+  pub said : value_at c.0 (joined_changes runs) ≡ Some c.1
+  pub none_above : AllByRecursion (λ run. pairs_after c.0 run ≡ []) runs
 
 -- the pairs have one whose key is above k
-pub record HasBehind {V : Type 0} (k : Bytes) (es : Pairs V) : Type 0 where
+pub record HasAfter {V : Type 0} (k : Bytes) (es : Pairs V) : Type 0 where
   pub last : Bytes × V
   pub ends : EndsWith last es
   pub above : is_below k last.0 ≡ true
@@ -84,8 +84,8 @@ pub record NamesNone {V : Type 0} (hi : Option Bytes) (p : Layers V) : Type 0 wh
 -- this one is, and none between it and the end
 pub record AreNamedUpTo {V : Type 0} (k : Bytes) (hi : Option Bytes) (p : Layers V) : Type 0 where
   pub own : is_before hi k ≡ true
-  pub runs : AllByRecursion (λ run. behind k (before hi run) ≡ []) p.runs
-  pub base : behind k (before hi p.base) ≡ []
+  pub runs : AllByRecursion (λ run. pairs_after k (before hi run) ≡ []) p.runs
+  pub base : pairs_after k (before hi p.base) ≡ []
 
 -- ---- the way along a tree's leaves
 

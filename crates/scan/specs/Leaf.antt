@@ -9,10 +9,10 @@ abbrev pub from : {V : Type 0} → Bytes → Pairs V → Pairs V
 from k es = filter (λ e. not (is_below e.0 k)) es
 
 -- the pairs after a key
-abbrev pub behind : {V : Type 0} → Bytes → Pairs V → Pairs V
-behind k es = filter (λ e. is_below k e.0) es
+abbrev pub pairs_after : {V : Type 0} → Bytes → Pairs V → Pairs V
+pairs_after k es = filter (λ e. is_below k e.0) es
 
 -- the next pair, where there is one, and those after it
 abbrev pub left_after : {V : Type 0} → Option (Bytes × V) → Pairs V → Pairs V
 left_after None es = []
-left_after (Some e) es = e ∷ behind e.0 es
+left_after (Some e) es = e ∷ pairs_after e.0 es

@@ -3,7 +3,7 @@ ghost use Rattle.std.specs.Prelude.{◌≡◌, drop, slice_get};
 ghost use Rattle.std.specs.Option.{option_copied, option_map};
 ghost use Rattle.keys.specs.Order.{AreRisingKeys, IsRising};
 ghost use Rattle.page_search.specs.Places.{count_below};
-ghost use Rattle.scan.specs.Leaf.{from, behind};
+ghost use Rattle.scan.specs.Leaf.{from, pairs_after};
 ghost use Rattle.scan.specs.Ahead.{changes_of};
 ghost use Rattle.scan.specs.Merge.{StartsFrom};
 
@@ -75,7 +75,7 @@ impl<'a> Ahead<'a> {
     pub(crate) fn pass(&mut self, key: &KeyRef<'_>)
         requires starts { StartsFrom key.now self.old }
         requires rising { IsRising self.old }
-        ensures { self.new ≡ behind key.now self.old }
+        ensures { self.new ≡ pairs_after key.now self.old }
     {
         if let Some(head) = &self.head {
             if head.key.compare(key).is_eq() {

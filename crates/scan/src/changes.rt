@@ -4,8 +4,8 @@ ghost use Rattle.std.specs.List.{AllByRecursion};
 ghost use Rattle.std.specs.Option.{option_copied, option_map};
 ghost use Rattle.keys.specs.Order.{IsRising};
 ghost use Rattle.delta_chain.specs.Layers.{depth_of};
-ghost use Rattle.delta_chain.specs.Merging.{said_by};
-ghost use Rattle.scan.specs.Leaf.{from, behind};
+ghost use Rattle.delta_chain.specs.Merging.{joined_changes};
+ghost use Rattle.scan.specs.Leaf.{from, pairs_after};
 ghost use Rattle.scan.specs.Merge.{StartsFrom, StartsAt};
 
 use crate::ahead::{Ahead, Change};
@@ -36,8 +36,9 @@ pub(crate) fn fill<'a>(runs: &mut Runs<'a>, chain: &'a Chain<Value<Global>, Glob
 pub(crate) fn next_change<'a>(runs: &mut Runs<'a>) -> Option<Change<'a>>
     requires { AllByRecursion IsRising runs.old.items }
     ensures rising { AllByRecursion IsRising runs.new.items }
-    ensures changes { MatchOption result (said_by runs.old.items ≡ [])
-        (λ c. said_by runs.old.items ≡ (c.0, option_copied c.1) ∷ said_by runs.new.items) }
+    ensures changes { MatchOption result (joined_changes runs.old.items ≡ [])
+        (λ c. joined_changes runs.old.items
+        ≡ (c.0, option_copied c.1) ∷ joined_changes runs.new.items) }
 {
     let (at, (key, said)) = least(runs.as_slice())?;
     pass_all(runs.as_mut_slice(), at, &key);
@@ -48,7 +49,7 @@ pub(crate) fn next_change<'a>(runs: &mut Runs<'a>) -> Option<Change<'a>>
 fn least<'a>(runs: &[Ahead<'a>]) -> Option<(usize, Change<'a>)>
     requires { AllByRecursion IsRising runs.now }
     ensures change { option_map (λ f. (f.1.0, option_copied f.1.1)) result
-        ≡ slice_get (said_by runs.now) 0 }
+        ≡ slice_get (joined_changes runs.now) 0 }
     ensures place { IfSome result (λ f. StartsAt f.1.0 (slice_index_or runs.now f.0 [])) }
 {
     let mut least: Option<Change<'a>> = None;
@@ -84,7 +85,7 @@ fn pass_all<'a>(runs: &mut [Ahead<'a>], place: usize, key: &KeyRef<'_>)
     requires place { StartsAt key.now (slice_index_or runs.old place []) }
     requires starts { AllByRecursion (StartsFrom key.now) runs.old }
     requires rising { AllByRecursion IsRising runs.old }
-    ensures { runs.new ≡ map (behind key.now) runs.old }
+    ensures { runs.new ≡ map (pairs_after key.now) runs.old }
 {
     for (at, run) in runs.iter_mut().enumerate() {
         if at == place {

@@ -8,7 +8,7 @@ ghost use Rattle.keys.specs.Narrowed.{IsEnough, MayEndAt, MayEndAtAll};
 ghost use Rattle.keys.specs.Range.{is_below, in_range};
 ghost use Rattle.delta_chain.specs.Layers.{entries_of};
 ghost use Rattle.mapping.specs.Levels.{levels_of, names, contents};
-ghost use Rattle.mapping.specs.Proper.{AreLevels, HoldsLevels};
+ghost use Rattle.mapping.specs.Proper.{AreLevels, HoldsItsLevels};
 ghost use Rattle.mapping.specs.Tree.{most_levels};
 ghost use Rattle.mapping.specs.TreeInMemory.{AreAllHome, tree_of};
 ghost use Rattle.scan.specs.Ends.{LacksAtMost, AreCertain, later, named_below};
@@ -37,7 +37,7 @@ pub fn scan_ends<'a>(
 ) -> Result<Vec<Option<&'a [u8]>>, AllocError>
     requires home { AreAllHome tree.now }
     requires height { tree.now.height ≤ most_levels }
-    requires held { HoldsLevels (tree_of tree.now).pages (levels_of (tree_of tree.now)) }
+    requires held { HoldsItsLevels (tree_of tree.now) }
     requires levels { AreLevels (levels_of (tree_of tree.now)) }
     ensures { IfOk result
         (λ ends. MayEndAtAll (keys_of (names (levels_of (tree_of tree.now)).level))
@@ -74,7 +74,7 @@ fn end_of<'a>(
 ) -> Option<&'a [u8]>
     requires home { AreAllHome tree.now }
     requires height { tree.now.height ≤ most_levels }
-    requires held { HoldsLevels (tree_of tree.now).pages (levels_of (tree_of tree.now)) }
+    requires held { HoldsItsLevels (tree_of tree.now) }
     requires levels { AreLevels (levels_of (tree_of tree.now)) }
     ensures { (gone : ends.Taken) (m : Pairs Bytes) → IsTaken gone taken.now
         → LacksAtMost gone (contents (tree_of tree.now)) m
@@ -109,7 +109,7 @@ fn end_of_scan<'a>(
 ) -> Option<&'a [u8]>
     requires home { AreAllHome tree.now }
     requires height { tree.now.height ≤ most_levels }
-    requires held { HoldsLevels (tree_of tree.now).pages (levels_of (tree_of tree.now)) }
+    requires held { HoldsItsLevels (tree_of tree.now) }
     requires levels { AreLevels (levels_of (tree_of tree.now)) }
     ensures { (gone : ends.Taken) (m : Pairs Bytes) → IsTaken gone taken.now
         → LacksAtMost gone (contents (tree_of tree.now)) m

@@ -4,7 +4,7 @@ ghost use Rattle.std.specs.Option.{option_copied};
 ghost use Rattle.std.specs.declared.cmp.Ordering.TheVariants.{Less};
 ghost use Rattle.delta_chain.specs.Layers.{entries_of, depth_of};
 ghost use Rattle.delta_chain.specs.Merging.{first_order, pair_if};
-ghost use Rattle.scan.specs.Leaf.{from, behind};
+ghost use Rattle.scan.specs.Leaf.{from, pairs_after};
 ghost use Rattle.scan.specs.Merge.{merged, ArePairsNext, StartsFrom};
 
 use crate::ahead::{Change, place_from};
@@ -32,19 +32,20 @@ pub(crate) struct Merge<'a> {
 impl<'a> Model for Merge<'a> {
     ghost use Rattle.std.specs.Prelude.{drop};
     ghost use Rattle.std.specs.Option.{option_copied, option_map};
-    ghost use Rattle.delta_chain.specs.Merging.{said_by};
+    ghost use Rattle.delta_chain.specs.Merging.{joined_changes};
     ghost use Rattle.scan.specs.Merge.{Merged, changes_after, IsMerge};
 
     ghost Value = { Merged };
 
     ghost view = { λ m. record {
       changes = changes_after (option_map (λ c. (c.0, option_copied c.1)) m.change)
-          (said_by m.runs.items);
+          (joined_changes m.runs.items);
       pairs = drop m.at m.base.now;
     } };
 
     ghost invariant = { λ m. IsMerge
-        (changes_after (option_map (λ c. (c.0, option_copied c.1)) m.change) (said_by m.runs.items))
+        (changes_after (option_map (λ c. (c.0, option_copied c.1)) m.change)
+        (joined_changes m.runs.items))
         m.runs.items m.base.now };
 }
 
@@ -128,7 +129,7 @@ pub(crate) fn next_pair<'a>(merge: &mut Merge<'a>) -> Option<(&'a [u8], &'a Valu
 fn past(base: &Base<Value<Global>, Global>, at: usize, key: &KeyRef<'_>) -> Option<usize>
     ensures { MatchOption result (first_order (drop at base.now) key.now ≡ Less)
         (λ next. StartsFrom key.now (drop at base.now)
-        × (drop next base.now ≡ behind key.now (drop at base.now))) }
+        × (drop next base.now ≡ pairs_after key.now (drop at base.now))) }
 {
     if at >= base.len() {
         return Some(at);

@@ -6,7 +6,7 @@ ghost use Rattle.std.specs.Option.{option_copied, option_map};
 ghost use Rattle.keys.specs.Bytes.{Bytes, Pairs};
 ghost use Rattle.keys.specs.Range.{is_before, rows};
 ghost use Rattle.mapping.specs.Levels.{levels_of, contents};
-ghost use Rattle.mapping.specs.Proper.{AreLevels, HoldsLevels};
+ghost use Rattle.mapping.specs.Proper.{AreLevels, HoldsItsLevels};
 ghost use Rattle.mapping.specs.Tree.{most_levels};
 ghost use Rattle.mapping.specs.TreeInMemory.{AreAllHome, tree_of};
 ghost use Rattle.scan.specs.Leaf.{from};
@@ -64,7 +64,7 @@ impl<'a> Rows<'a> {
     ) -> Self
         requires home { AreAllHome tree.now }
         requires height { tree.now.height ≤ most_levels }
-        requires held { HoldsLevels (tree_of tree.now).pages (levels_of (tree_of tree.now)) }
+        requires held { HoldsItsLevels (tree_of tree.now) }
         requires levels { AreLevels (levels_of (tree_of tree.now)) }
         ensures { result
             ≡ rows lo.now (option_copied hi.entry) limit (contents (tree_of tree.now)) }
@@ -84,7 +84,7 @@ impl<'a> Rows<'a> {
     pub fn with_prefix(alloc: Global, tree: &'a Tree<Global>, prefix: &[u8]) -> Self
         requires home { AreAllHome tree.now }
         requires height { tree.now.height ≤ most_levels }
-        requires held { HoldsLevels (tree_of tree.now).pages (levels_of (tree_of tree.now)) }
+        requires held { HoldsItsLevels (tree_of tree.now) }
         requires levels { AreLevels (levels_of (tree_of tree.now)) }
         ensures { result ≡ with_prefix prefix.now (contents (tree_of tree.now)) }
     {
@@ -158,7 +158,7 @@ fn is_before_end(end: &End<'_>, key: &[u8]) -> bool
 fn end_at<'a>(alloc: Global, tree: &'a Tree<Global>, hi: Option<&[u8]>) -> End<'a>
     requires home { AreAllHome tree.now }
     requires height { tree.now.height ≤ most_levels }
-    requires held { HoldsLevels (tree_of tree.now).pages (levels_of (tree_of tree.now)) }
+    requires held { HoldsItsLevels (tree_of tree.now) }
     requires levels { AreLevels (levels_of (tree_of tree.now)) }
     ensures { AllByRecursion (λ e. is_inside result e.0 ≡ is_before (option_copied hi.entry) e.0)
         (contents (tree_of tree.now)) }
@@ -176,7 +176,7 @@ fn end_at<'a>(alloc: Global, tree: &'a Tree<Global>, hi: Option<&[u8]>) -> End<'
 fn prefix_end<'a>(alloc: Global, tree: &'a Tree<Global>, prefix: &[u8]) -> (End<'a>, Option<u32>)
     requires home { AreAllHome tree.now }
     requires height { tree.now.height ≤ most_levels }
-    requires held { HoldsLevels (tree_of tree.now).pages (levels_of (tree_of tree.now)) }
+    requires held { HoldsItsLevels (tree_of tree.now) }
     requires levels { AreLevels (levels_of (tree_of tree.now)) }
     ensures { (all : Pairs Bytes) → all ≡ from prefix.now (contents (tree_of tree.now)) →
         rows_left result.1 (is_inside result.0) all
@@ -192,7 +192,7 @@ fn prefix_end<'a>(alloc: Global, tree: &'a Tree<Global>, prefix: &[u8]) -> (End<
 fn prefix_of_first<'a>(alloc: Global, tree: &'a Tree<Global>, prefix: &[u8]) -> Option<&'a [u8]>
     requires home { AreAllHome tree.now }
     requires height { tree.now.height ≤ most_levels }
-    requires held { HoldsLevels (tree_of tree.now).pages (levels_of (tree_of tree.now)) }
+    requires held { HoldsItsLevels (tree_of tree.now) }
     requires levels { AreLevels (levels_of (tree_of tree.now)) }
     ensures { MatchOption result (with_prefix prefix.now (contents (tree_of tree.now)) ≡ [])
         (λ own. own.now ≡ prefix.now) }
@@ -221,7 +221,7 @@ pub(crate) fn first_from<'a>(
 ) -> Option<(&'a [u8], &'a Value<Global>)>
     requires home { AreAllHome tree.now }
     requires height { tree.now.height ≤ most_levels }
-    requires held { HoldsLevels (tree_of tree.now).pages (levels_of (tree_of tree.now)) }
+    requires held { HoldsItsLevels (tree_of tree.now) }
     requires levels { AreLevels (levels_of (tree_of tree.now)) }
     ensures { option_map (λ e. (e.0.now, e.1.now)) result
         ≡ slice_get (from key.now (contents (tree_of tree.now))) 0 }
@@ -234,7 +234,7 @@ pub(crate) fn first_from<'a>(
 fn walk_from<'a>(alloc: Global, tree: &'a Tree<Global>, key: &[u8]) -> (LeafPairs<'a>, Leaves<'a>)
     requires home { AreAllHome tree.now }
     requires height { tree.now.height ≤ most_levels }
-    requires held { HoldsLevels (tree_of tree.now).pages (levels_of (tree_of tree.now)) }
+    requires held { HoldsItsLevels (tree_of tree.now) }
     requires levels { AreLevels (levels_of (tree_of tree.now)) }
     ensures { pairs_left result.0 result.1 ≡ from key.now (contents (tree_of tree.now)) }
 {

@@ -3,7 +3,7 @@ ghost use Rattle.std.specs.Prelude.{◌≡◌};
 ghost use Rattle.std.specs.Option.{option_map};
 ghost use Rattle.std.specs.Iterator.{YieldsFirstBy, item_count};
 ghost use Rattle.delta_chain.specs.Layers.{entries_of};
-ghost use Rattle.scan.specs.Leaf.{from, behind, left_after};
+ghost use Rattle.scan.specs.Leaf.{from, pairs_after, left_after};
 
 use delta_chain::Chain;
 use keys::Value;
@@ -43,7 +43,7 @@ impl<'a> Search<'a> {
             },
             None => Search {
                 chain,
-                next: next_behind(chain, key),
+                next: next_after(chain, key),
             },
         }
     }
@@ -59,7 +59,7 @@ impl<'a> Iterator for Search<'a> {
     fn next(&mut self) -> Option<(&'a [u8], &'a Value<Global>)> {
         match self.next {
             Some((key, value)) => {
-                self.next = next_behind(self.chain, key);
+                self.next = next_after(self.chain, key);
                 Some((key, value))
             }
             None => None,
@@ -68,12 +68,12 @@ impl<'a> Iterator for Search<'a> {
 }
 
 // The first pair after the key: with it those after the key begin.
-fn next_behind<'a>(
+fn next_after<'a>(
     chain: &'a Chain<Value<Global>, Global>,
     key: &[u8],
 ) -> Option<(&'a [u8], &'a Value<Global>)>
     ensures { left_after (option_map (λ e. (e.0.now, e.1.now)) result) (entries_of chain.now)
-        ≡ behind key.now (entries_of chain.now) }
+        ≡ pairs_after key.now (entries_of chain.now) }
 {
     let _in_order = chain.depth();
     above(chain, key, &mut Probes::new())

@@ -9,7 +9,7 @@ use Rattle.std.proofs.lemmas.Map.Made.{lookup-map_values, keys_of-map_values}
 use Rattle.keys.specs.Order.{order, IsRising}
 use Rattle.keys.specs.OrderedMap.{value_at}
 use Rattle.keys.proofs.MapLemmas.{value_at_rest, same_map}
-use Rattle.delta_chain.specs.Layers.{said_or, with_run}
+use Rattle.delta_chain.specs.Layers.{change_or, with_run}
 use Rattle.delta_chain.proofs.LayerLemmas.{value_at-with_run, rising-with_run}
 use Rattle.index_page.specs.Range.{is_below, AreBefore}
 use Rattle.index_page.proofs.ListLemmas.{all_keys-append, all_keys_apart}
@@ -66,12 +66,12 @@ first_none None n h = h
 first_none (Some v) n h = absurd (cc)
 
 -- a key of the first name isn't named after it
-none_behind : (x : List ℕ × ℕ) (ns : Names) (q : List ℕ) → is_eq (order q x.0) ≡ true → IsRising (x ∷ ns) → value_at q ns ≡ None
-none_behind x ns q e r = value_at_rest x ns q r ∙ ap (λ (b : Bool). cond b None (value_at q (x ∷ ns))) e
+none_after : (x : List ℕ × ℕ) (ns : Names) (q : List ℕ) → is_eq (order q x.0) ≡ true → IsRising (x ∷ ns) → value_at q ns ≡ None
+none_after x ns q e r = value_at_rest x ns q r ∙ ap (λ (b : Bool). cond b None (value_at q (x ∷ ns))) e
 
 -- and one that the first part has isn't named in the second
 not_in_both_by : (b : Bool) (x : List ℕ × ℕ) (xs ys : Names) (q : List ℕ) (v : ℕ) → is_eq (order q x.0) ≡ b → IsRising (x ∷ (xs ++ ys)) → (IsRising (xs ++ ys) → value_at q xs ≡ Some v → value_at q ys ≡ None) → cond b (Some x.1) (value_at q xs) ≡ Some v → value_at q ys ≡ None
-not_in_both_by true x xs ys q v e r ih h = first_none (value_at q xs) (value_at q ys) (sym (value_at-append q xs ys) ∙ none_behind x (xs ++ ys) q e r)
+not_in_both_by true x xs ys q v e r ih h = first_none (value_at q xs) (value_at q ys) (sym (value_at-append q xs ys) ∙ none_after x (xs ++ ys) q e r)
 not_in_both_by false x xs ys q v e r ih h = ih (rising_rest x (xs ++ ys) r) h
 
 not_in_both : (xs ys : Names) (q : List ℕ) (v : ℕ) → IsRising (xs ++ ys) → value_at q xs ≡ Some v → value_at q ys ≡ None
@@ -110,25 +110,25 @@ after_by : (b : Bool) (q : List ℕ) (x : Exchange) (xs : List Exchange) → is_
     → cond b (Some x.kept.1) (value_at q (x.come ++ whole (λ x. x.come) xs)) ≡ exchanged (value_at q (others (λ x. x.come) (x ∷ xs))) (value_at q (others (λ x. x.gone) (x ∷ xs))) (cond b (Some x.kept.1) (value_at q (x.gone ++ whole (λ x. x.gone) xs)))
 after_by true q x xs e r s ih =
     kept_here (value_at q (others (λ x. x.come) (x ∷ xs))) (value_at q (others (λ x. x.gone) (x ∷ xs))) (Some x.kept.1) x.kept.1
-    (none_behind x.kept (others (λ x. x.come) (x ∷ xs)) q e (rising_kept (λ x. x.come) x xs s))
-    (none_behind x.kept (others (λ x. x.gone) (x ∷ xs)) q e (rising_kept (λ x. x.gone) x xs r)) refl
+    (none_after x.kept (others (λ x. x.come) (x ∷ xs)) q e (rising_kept (λ x. x.come) x xs s))
+    (none_after x.kept (others (λ x. x.gone) (x ∷ xs)) q e (rising_kept (λ x. x.gone) x xs r)) refl
 after_by false q x xs e r s ih =
     let old : Names = whole (λ x. x.gone) xs in
     rw (value_at-append q x.come (whole (λ x. x.come) xs), value_at-append q x.come (others (λ x. x.come) xs), value_at-append q x.gone (others (λ x. x.gone) xs), value_at-append q x.gone (whole (λ x. x.gone) xs))
     (exchanged_first (value_at q x.come) (value_at q x.gone) (value_at q (others (λ x. x.come) xs)) (value_at q (others (λ x. x.gone) xs)) (value_at q old) (value_at q (whole (λ x. x.come) xs)) ih
     (λ v g. not_in_both x.gone old q v (rising_rest x.kept (x.gone ++ old) r) g))
 
-behind : (part : Exchange → Names) (x : Exchange) (xs : List Exchange) → IsRising (whole part (x ∷ xs)) → IsRising (whole part xs)
-behind part x xs r = rising_right (part x) (whole part xs) (rising_rest x.kept (part x ++ whole part xs) r)
+following : (part : Exchange → Names) (x : Exchange) (xs : List Exchange) → IsRising (whole part (x ∷ xs)) → IsRising (whole part xs)
+following part x xs r = rising_right (part x) (whole part xs) (rising_rest x.kept (part x ++ whole part xs) r)
 
 after_at : (q : List ℕ) (xs : List Exchange) → IsRising (whole (λ x. x.gone) xs) → IsRising (whole (λ x. x.come) xs) → value_at q (whole (λ x. x.come) xs) ≡ exchanged (value_at q (others (λ x. x.come) xs)) (value_at q (others (λ x. x.gone) xs)) (value_at q (whole (λ x. x.gone) xs))
 after_at q [] r s = refl
 after_at q (x ∷ xs) r s =
-    after_by (is_eq (order q x.kept.0)) q x xs refl r s (after_at q xs (behind (λ x. x.gone) x xs r) (behind (λ x. x.come) x xs s))
+    after_by (is_eq (order q x.kept.0)) q x xs refl r s (after_at q xs (following (λ x. x.gone) x xs r) (following (λ x. x.come) x xs s))
 
 -- ---- the terms
 
-said_as_exchanged : (come went old : Option ℕ) → said_or (term_at come went) old ≡ exchanged come went old
+said_as_exchanged : (come went old : Option ℕ) → change_or (term_at come went) old ≡ exchanged come went old
 said_as_exchanged (Some v) went old = refl
 said_as_exchanged None (Some v) old = refl
 said_as_exchanged None None old = refl
@@ -148,10 +148,10 @@ pub all_keys-with_present : (P : List ℕ → Type 0) (gone come : Names) → Al
 all_keys-with_present P gone come a b =
     all_keys-with_run P (absent gone) (present come) (all_keys-cells {Y = Option ℕ} P (λ v. None) gone a) (all_keys-cells {Y = Option (Option ℕ)} P (λ v. Some (Some v)) come b)
 
-same_said : {a b : Option (Option (Option ℕ))} {c d : Option (Option ℕ)} → a ≡ b → c ≡ d → said_or a c ≡ said_or b d
+same_said : {a b : Option (Option (Option ℕ))} {c d : Option (Option ℕ)} → a ≡ b → c ≡ d → change_or a c ≡ change_or b d
 same_said e f = cc
 
-term_by : (come went : Option ℕ) → said_or (option_map (λ v. Some (Some v)) come) (option_map (λ v. None) went) ≡ term_at come went
+term_by : (come went : Option ℕ) → change_or (option_map (λ v. Some (Some v)) come) (option_map (λ v. None) went) ≡ term_at come went
 term_by (Some v) went = refl
 term_by None (Some v) = refl
 term_by None None = refl
@@ -172,7 +172,7 @@ terms_exchange xs r s =
     let gone_rises : IsRising gone = rising-others (λ x. x.gone) xs r in
     same_map (with_run old (terms_of xs)) (whole (λ x. x.come) xs) (rising-with_run old (terms_of xs) r) s
     (λ q. value_at-with_run old (terms_of xs) q r (rising-with_present gone come gone_rises)
-    ∙ ap (λ (o : Option (Option ℕ)). said_or o (value_at q old)) (value_at-with_present q gone come gone_rises (rising-others (λ x. x.come) xs s))
+    ∙ ap (λ (o : Option (Option ℕ)). change_or o (value_at q old)) (value_at-with_present q gone come gone_rises (rising-others (λ x. x.come) xs s))
     ∙ said_as_exchanged (value_at q come) (value_at q gone) (value_at q old)
     ∙ sym (after_at q xs r s))
 

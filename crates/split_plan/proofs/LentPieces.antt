@@ -49,14 +49,14 @@ module _ {V : Type 0} where
   rising_taken (suc n) [] h = tt
   rising_taken (suc n) (e ∷ es) h = (below_taken n e.0 es h.0, rising_taken n es h.1)
 
-  rising_behind : (n : ℕ) (es : List (List ℕ × V)) → IsRising es → IsRising (drop n es)
+  rising_after : (n : ℕ) (es : List (List ℕ × V)) → IsRising es → IsRising (drop n es)
   unfolding IsStrictlySortedBy
-  rising_behind zero es h = h
-  rising_behind (suc n) [] h = tt
-  rising_behind (suc n) (e ∷ es) h = rising_behind n es h.1
+  rising_after zero es h = h
+  rising_after (suc n) [] h = tt
+  rising_after (suc n) (e ∷ es) h = rising_after n es h.1
 
   pub rising_slice : (es : List (List ℕ × V)) (a b : ℕ) → IsRising es → IsRising (slice_range es a b)
-  rising_slice es a b h = rising_taken (b - a) (drop a es) (rising_behind a es h)
+  rising_slice es a b h = rising_taken (b - a) (drop a es) (rising_after a es h)
 
   -- ---- the pages of pieces
 

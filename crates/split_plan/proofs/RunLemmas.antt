@@ -9,7 +9,7 @@ use Rattle.keys.specs.OrderedMap.{with_pair, without}
 use Rattle.keys.proofs.MapLemmas.{total, IsBelowAll, all_keys-with_pair, all_keys-without}
 use Rattle.keys.specs.declared.settings.Settings.{Settings}
 use Rattle.delta_chain.specs.Layers.{Layers, with_change, with_run}
-use Rattle.index_page.specs.Page.{Page, said_under}
+use Rattle.index_page.specs.Page.{Page, changes_over}
 use Rattle.index_page.specs.Page as page
 use Rattle.index_page.specs.Range.{is_below, AreBelow, AreFrom}
 use Rattle.index_page.proofs.ListLemmas.{all-append}
@@ -30,9 +30,9 @@ module _ {V : Type 0} where
   without_absent k [] a = refl
   without_absent k (e ∷ es) a = rw a.0 (ap (λ (rest : List (List ℕ × V)). e ∷ rest) (without_absent k es a.1))
 
-  change_behind : (e : List ℕ × V) (es : List (List ℕ × V)) (k : List ℕ) (o : Option V) → order k e.0 ≡ Greater → with_change (e ∷ es) k o ≡ e ∷ with_change es k o
-  change_behind e es k None h = rw h refl
-  change_behind e es k (Some v) h = rw h refl
+  change_after : (e : List ℕ × V) (es : List (List ℕ × V)) (k : List ℕ) (o : Option V) → order k e.0 ≡ Greater → with_change (e ∷ es) k o ≡ e ∷ with_change es k o
+  change_after e es k None h = rw h refl
+  change_after e es k (Some v) h = rw h refl
 
   put_left_by : (o : Ordering) (x : List ℕ × V) (xs ys : List (List ℕ × V)) (k : List ℕ) (v : V) → with_pair (xs ++ ys) k v ≡ with_pair xs k v ++ ys → match_ordering o ((k, v) ∷ x ∷ (xs ++ ys)) ((x.0, v) ∷ (xs ++ ys)) (x ∷ with_pair (xs ++ ys) k v) ≡ match_ordering o ((k, v) ∷ x ∷ xs) ((x.0, v) ∷ xs) (x ∷ with_pair xs k v) ++ ys
   put_left_by Less x xs ys k v ih = refl
@@ -62,7 +62,7 @@ module _ {V : Type 0} where
   change_right [] ys k o q h a = refl
   change_right (x ∷ xs) ys k o q h a =
       let g : order k x.0 ≡ Greater = rw (total.antisymm k x.0, less_through x.0 k q a.0 h) refl in
-      change_behind x (xs ++ ys) k o g ∙ ap (λ (rest : List (List ℕ × V)). x ∷ rest) (change_right xs ys k o q h a.1)
+      change_after x (xs ++ ys) k o g ∙ ap (λ (rest : List (List ℕ × V)). x ∷ rest) (change_right xs ys k o q h a.1)
 
   all_keys-with_change : (P : List ℕ → Type 0) (es : List (List ℕ × V)) (k : List ℕ) (o : Option V) → P k → AllByRecursion P (keys_of es) → AllByRecursion P (keys_of (with_change es k o))
   all_keys-with_change P es k None p a = all_keys-without P es k a
@@ -112,13 +112,13 @@ module _ {V : Type 0} where
   -- ---- what a page says after a run
 
   module _ (P : List ℕ × Option V → Type 0) where
-    said_by : (b : Bool) (p : Layers V) (run : List (List ℕ × Option V)) → AllByRecursion P run → AllByRecursion P (said_under p.runs p.base) → AllByRecursion P (said_under (cond b (replaced p run) (in_front p run)).runs (cond b (replaced p run) (in_front p run)).base)
-    said_by true p run a b =
+    joined_changes : (b : Bool) (p : Layers V) (run : List (List ℕ × Option V)) → AllByRecursion P run → AllByRecursion P (changes_over p.runs p.base) → AllByRecursion P (changes_over (cond b (replaced p run) (in_front p run)).runs (cond b (replaced p run) (in_front p run)).base)
+    joined_changes true p run a b =
         let q : Page V = record { low = []; layers = p } in
         all-as_changes P (page.entries (record { low = []; layers = replaced p run })) (all-with_run P (page.entries q) run (all_entries P q b) a)
-    said_by false p run a b = all-append P run (said_under p.runs p.base) a b
+    joined_changes false p run a b = all-append P run (changes_over p.runs p.base) a b
 
     -- what holds of all that a page says, and of a run, holds of all that the page says after the run
-    pub all_said-after_run : (s : Settings) (p : Layers V) (run : List (List ℕ × Option V)) → AllByRecursion P run → AllByRecursion P (said_under p.runs p.base) → AllByRecursion P (said_under (after_run s p run).runs (after_run s p run).base)
+    pub all_said-after_run : (s : Settings) (p : Layers V) (run : List (List ℕ × Option V)) → AllByRecursion P run → AllByRecursion P (changes_over p.runs p.base) → AllByRecursion P (changes_over (after_run s p run).runs (after_run s p run).base)
     all_said-after_run s p [] a b = b
-    all_said-after_run s p (c ∷ cs) a b = said_by (must_replace s p (c ∷ cs)) p (c ∷ cs) a b
+    all_said-after_run s p (c ∷ cs) a b = joined_changes (must_replace s p (c ∷ cs)) p (c ∷ cs) a b

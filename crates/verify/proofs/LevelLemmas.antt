@@ -171,14 +171,14 @@ module _ (ats : List Place) (seen : List Verdict) (at : ℕ) (p : Place) (s : Ve
 
   -- what is wrong here is what is wrong with all
   pub fault_step : (met : List ℕ) (pid : ℕ) (all : Option Finding) (fault : Fault) → pid ≡ p.pid → first_found met (drop at ats) (drop at seen) ≡ all → IsFaultOf (found_by met pid s) fault → IsFaultOf all fault
-  fault_step met pid all fault e found told =
+  fault_step met pid all fault e found reported =
       let rest : Option Finding = first_found (p.pid ∷ met) (drop (at + 1) ats) (drop (at + 1) seen) in
       let here : or_else (found_by met pid s) rest ≡ all =
       ap (λ (n : ℕ). or_else (found_by met n s) rest) e
       ∙ sym (ap (λ (x : List Place). first_found met x (drop at seen)) h ∙ ap (λ (x : List Verdict). first_found met (p ∷ drop (at + 1) ats) x) i)
       ∙ found
       in
-      subst (λ (o : Option Finding). IsFaultOf o fault) here (fault_or_else (found_by met pid s) rest fault told)
+      subst (λ (o : Option Finding). IsFaultOf o fault) here (fault_or_else (found_by met pid s) rest fault reported)
 
   pub pairs_step : (pairs n all : ℕ) → n ≡ pairs_of s → pairs + all_pairs (drop at seen) ≡ all → (pairs + n) + all_pairs (drop (at + 1) seen) ≡ all
   pairs_step pairs n all e h = let one : all_pairs (drop at seen) ≡ pairs_of s + all_pairs (drop (at + 1) seen) = ap all_pairs i in omega arith

@@ -43,25 +43,25 @@ pub among-insert : (m n : ℕ) (ks : List ℕ) → is_among m (insert_key nat_cm
 among-insert m n [] = refl
 among-insert m n (x ∷ xs) = inserted_by (nat_cmp n x) m n x xs (insert_key nat_cmp xs n) refl (among-insert m n xs)
 
-among-behind : (m n : ℕ) (xs met : List ℕ) → is_among m (xs ++ n ∷ met) ≡ (nat_eq m n || is_among m (xs ++ met))
-among-behind m n [] met = refl
-among-behind m n (x ∷ xs) met = ap (λ (b : Bool). nat_eq m x || b) (among-behind m n xs met) ∙ or_swapped (nat_eq m x) (nat_eq m n) (is_among m (xs ++ met))
+among-following : (m n : ℕ) (xs met : List ℕ) → is_among m (xs ++ n ∷ met) ≡ (nat_eq m n || is_among m (xs ++ met))
+among-following m n [] met = refl
+among-following m n (x ∷ xs) met = ap (λ (b : Bool). nat_eq m x || b) (among-following m n xs met) ∙ or_swapped (nat_eq m x) (nat_eq m n) (is_among m (xs ++ met))
 
 -- ---- the same met before and after
 
 pub same_with : (n : ℕ) (met other : List ℕ) → HaveMetTheSame met other → HaveMetTheSame (n ∷ met) (n ∷ other)
 same_with n met other h = λ m. ap (λ (b : Bool). nat_eq m n || b) (h m)
 
-same_behind : (xs met other : List ℕ) → HaveMetTheSame met other → HaveMetTheSame (xs ++ met) (xs ++ other)
-same_behind [] met other h = h
-same_behind (x ∷ xs) met other h = same_with x (xs ++ met) (xs ++ other) (same_behind xs met other h)
+same_following : (xs met other : List ℕ) → HaveMetTheSame met other → HaveMetTheSame (xs ++ met) (xs ++ other)
+same_following [] met other h = h
+same_following (x ∷ xs) met other h = same_with x (xs ++ met) (xs ++ other) (same_following xs met other h)
 
 pub same_after : (ats : List Place) (met other : List ℕ) → HaveMetTheSame met other → HaveMetTheSame (all_met met ats) (all_met other ats)
-same_after ats met other h = same_behind (map (λ at. at.pid) ats) met other h
+same_after ats met other h = same_following (map (λ at. at.pid) ats) met other h
 
 -- those of one place, and then of others, are those of all of them
 pub same_next : (at : Place) (ats : List Place) (met after : List ℕ) → HaveMetTheSame after (at.pid ∷ met) → HaveMetTheSame (all_met after ats) (all_met met (at ∷ ats))
-same_next at ats met after h = λ m. same_after ats after (at.pid ∷ met) h m ∙ among-behind m at.pid (map (λ a. a.pid) ats) met
+same_next at ats met after h = λ m. same_after ats after (at.pid ∷ met) h m ∙ among-following m at.pid (map (λ a. a.pid) ats) met
 
 -- ---- what is found
 

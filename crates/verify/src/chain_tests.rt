@@ -5,7 +5,7 @@ ghost use Rattle.std.specs.List.{list_all};
 ghost use Rattle.std.specs.Map.{keys_of, values_of};
 ghost use Rattle.keys.specs.Bytes.{Bytes};
 ghost use Rattle.keys.specs.declared.settings.Settings as limits;
-ghost use Rattle.index_page.specs.Page.{as_changes, said_under};
+ghost use Rattle.index_page.specs.Page.{as_changes, changes_over};
 ghost use Rattle.index_page.specs.Range.{is_within};
 ghost use Rattle.index_page.specs.Rules.{is_short_value, is_any_pid, of_cell, is_run_sized, is_short_change};
 ghost use Rattle.verify.specs.Sizes.{sizes_under};
@@ -133,7 +133,7 @@ pub(crate) fn names_within<V, A: Allocator + Copy, B: BaseList<V>>(
     end: Option<&[u8]>,
 ) -> bool
     ensures { result ≡ list_all (is_within low.now (option_copied end.entry))
-        (keys_of (said_under runs.now.runs (B.entries base.now))) }
+        (keys_of (changes_over runs.now.runs (B.entries base.now))) }
 {
     let mut next = runs.newest();
     while let Some((run, below)) = next {

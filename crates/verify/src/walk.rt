@@ -27,8 +27,8 @@ pub fn verify(
     settings: &Settings,
 ) -> Result<Report, Fault>
     requires { AreAllHome tree.now }
-    ensures sound { IfOk result (λ told. finding settings.now (tree_of tree.now) ≡ None) }
-    ensures report { IfOk result (λ told. told ≡ report (tree_of tree.now)) }
+    ensures sound { IfOk result (λ reported. finding settings.now (tree_of tree.now) ≡ None) }
+    ensures report { IfOk result (λ reported. reported ≡ report (tree_of tree.now)) }
     ensures err { IfErr result (IsFaultOf (finding settings.now (tree_of tree.now))) }
 {
     let mut met = Met::none(alloc);

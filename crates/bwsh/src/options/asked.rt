@@ -13,6 +13,8 @@ pub struct Options {
     pub disk: Option<String>,
     /// Whether that file is made anew, so that what it held is lost. Without a file it changes nothing.
     pub create: bool,
+    /// The new file into which the store is copied where all orders are done. Without one it is not copied.
+    pub copy_to: Option<String>,
     /// In which ways the session differs from one without options.
     pub ways: Ways,
 }
@@ -30,4 +32,8 @@ pub struct Ways {
     pub clean_when_full: bool,
     /// The input is read line by line, and each batch is answered before the next line is waited for.
     pub stream: bool,
+    /// After each flush that was answered, up to this number of emptied leaves are merged. 0 is none.
+    pub tidy: u32,
+    /// Once a second, a line on standard error says how far the session is.
+    pub progress: bool,
 }

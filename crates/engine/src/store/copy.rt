@@ -4,7 +4,7 @@ ghost use Rattle.std.specs.Option.{option_copied};
 ghost use Rattle.keys.specs.Bytes.{Bytes, Pairs};
 ghost use Rattle.keys.specs.Order.{IsRising};
 ghost use Rattle.mapping.specs.Levels.{contents, levels_of};
-ghost use Rattle.mapping.specs.Proper.{AreLevels, HoldsLevels};
+ghost use Rattle.mapping.specs.Proper.{AreLevels, HoldsItsLevels};
 ghost use Rattle.mapping.specs.Tree.{most_levels, with_tree};
 ghost use Rattle.mapping.specs.TreeInMemory.{AreAllHome, tree_of};
 ghost use Rattle.flush_log.specs.Disk.{IsSettled, Kept};
@@ -52,7 +52,7 @@ fn puts_of<'a>(
 fn rows_after<'a>(alloc: Global, tree: &'a Tree<Global>, last: Option<&'a [u8]>) -> Rows<'a>
     requires home { AreAllHome tree.now }
     requires height { tree.now.height ≤ most_levels }
-    requires held { HoldsLevels (tree_of tree.now).pages (levels_of (tree_of tree.now)) }
+    requires held { HoldsItsLevels (tree_of tree.now) }
     requires levels { AreLevels (levels_of (tree_of tree.now)) }
     requires rising { IsRising (contents (tree_of tree.now)) }
     ensures { (some left : Pairs Bytes) → some ++ left ≡ contents (tree_of tree.now) →

@@ -5,7 +5,7 @@ ghost use Rattle.keys.specs.declared.fault.Fault.TheVariants.{NoMemory, Device, 
 ghost use Rattle.mapping.specs.Tree as definitions;
 ghost use Rattle.flush_log.specs.Disk.{IsSettled, Kept, LeavesOnly, Same};
 ghost use Rattle.recovery.specs.StoreOfDisk.{store_of_disk};
-ghost use Rattle.engine.specs.Plays.{IsPlayed, IsPlayedOn, IsPlayFault, IsStepDone, IsStepFault, IsLeftInStep, IsLeftBehind, UnlessDevice, step_of, answer_of, played, reached};
+ghost use Rattle.engine.specs.Plays.{IsPlayed, IsPlayedOn, IsPlayFault, IsStepDone, IsStepFault, IsLeftInStep, IsLeftAfter, UnlessDevice, step_of, answer_of, played, reached};
 ghost use Rattle.engine.specs.Refusal.{is_crew};
 ghost use Rattle.engine.specs.State.{IsSound};
 ghost use Rattle.engine.specs.Steps.{ArePlayed, HasWords, HaveWords, StandsAfterSome, batching, after_step, plays};
@@ -149,10 +149,10 @@ impl<D: Disk> Store<D> {
             (D.view self.old.disk).seen (reached result steps.now)) }
         ensures settled { IsSettled (D.view self.old.disk) →
             UnlessDevice result (IsSettled (D.view self.new.disk)) }
-        ensures behind { self.old.has_failed ≡ false → IsSettled (D.view self.old.disk) →
+        ensures following { self.old.has_failed ≡ false → IsSettled (D.view self.old.disk) →
             IfErr result (λ e. e.2 ≡ Fault.Device →
             (c : Bytes) → (D.view self.new.disk).may_leave c →
-            IsLeftBehind self.old.settings self.old.store
+            IsLeftAfter self.old.settings self.old.store
             (D.view self.old.disk).seen steps.now e.0 c) }
 
         // The numbers on the way have 64 bits, on any disk as `IsPlayed` says, and those of a step in which a call of the disk failed too.

@@ -8,7 +8,7 @@ ghost use Rattle.delta_chain.specs.Layers.{entries_of};
 ghost use Rattle.index_page.specs.Page.{Page};
 ghost use Rattle.index_page.specs.Page.PageOfKind.{Leaf};
 ghost use Rattle.mapping.specs.Levels.{contents, levels_of};
-ghost use Rattle.mapping.specs.Proper.{AreLevels, HoldsLevels};
+ghost use Rattle.mapping.specs.Proper.{AreLevels, HoldsItsLevels};
 ghost use Rattle.mapping.specs.Tree.{page_at};
 ghost use Rattle.mapping.specs.TreeInMemory.{AreAllHome, tree_of};
 ghost use Rattle.scan.specs.Back.{rows_back};
@@ -66,7 +66,7 @@ impl<D: Disk> Store<D> {
 // The value that the tree has at the key.
 fn value_of<'a>(tree: &'a Tree<Global>, key: &[u8]) -> Option<&'a [u8]>
     requires home { AreAllHome tree.now }
-    requires held { HoldsLevels (tree_of tree.now).pages (levels_of (tree_of tree.now)) }
+    requires held { HoldsItsLevels (tree_of tree.now) }
     requires levels { AreLevels (levels_of (tree_of tree.now)) }
     ensures { option_copied result ≡ value_at key.now (contents (tree_of tree.now)) }
 {
@@ -79,7 +79,7 @@ fn value_of<'a>(tree: &'a Tree<Global>, key: &[u8]) -> Option<&'a [u8]>
 // What the leaf holds in whose range the key is: it has at the key what the tree has there.
 fn chain_for<'a>(tree: &'a Tree<Global>, key: &[u8]) -> &'a Chain<Value<Global>, Global>
     requires home { AreAllHome tree.now }
-    requires held { HoldsLevels (tree_of tree.now).pages (levels_of (tree_of tree.now)) }
+    requires held { HoldsItsLevels (tree_of tree.now) }
     requires levels { AreLevels (levels_of (tree_of tree.now)) }
     ensures { value_at key.now (entries_of result.now)
         ≡ value_at key.now (contents (tree_of tree.now)) }
@@ -90,7 +90,7 @@ fn chain_for<'a>(tree: &'a Tree<Global>, key: &[u8]) -> &'a Chain<Value<Global>,
 // The page id of that leaf.
 fn leaf_for(tree: &Tree<Global>, key: &[u8]) -> Pid
     requires home { AreAllHome tree.now }
-    requires held { HoldsLevels (tree_of tree.now).pages (levels_of (tree_of tree.now)) }
+    requires held { HoldsItsLevels (tree_of tree.now) }
     requires levels { AreLevels (levels_of (tree_of tree.now)) }
     ensures { IsLeafFor (tree_of tree.now) key.now result }
 {

@@ -4,9 +4,9 @@ ghost use Rattle.std.specs.List.{AllByRecursion};
 ghost use Rattle.std.specs.Option.{option_copied};
 ghost use Rattle.keys.specs.Order.{IsRising};
 ghost use Rattle.delta_chain.specs.Layers.{entries_of, depth_of};
-ghost use Rattle.delta_chain.specs.Merging.{pair_if, said_by};
-ghost use Rattle.scan.specs.Back.{before, ArePairsLast, HasBehind, IsLastSaid};
-ghost use Rattle.scan.specs.Leaf.{behind};
+ghost use Rattle.delta_chain.specs.Merging.{pair_if, joined_changes};
+ghost use Rattle.scan.specs.Back.{before, ArePairsLast, HasAfter, IsLastSaid};
+ghost use Rattle.scan.specs.Leaf.{pairs_after};
 ghost use Rattle.scan.specs.Merge.{merged};
 
 use crate::ahead::Change;
@@ -38,7 +38,7 @@ pub(crate) struct MergeBack<'a> {
 impl<'a> Model for MergeBack<'a> {
     ghost use Rattle.std.specs.Prelude.{take};
     ghost use Rattle.std.specs.Option.{option_copied, option_map};
-    ghost use Rattle.delta_chain.specs.Merging.{said_by};
+    ghost use Rattle.delta_chain.specs.Merging.{joined_changes};
     ghost use Rattle.scan.specs.Back.{changes_before};
     ghost use Rattle.scan.specs.Merge.{Merged, IsMerge};
 
@@ -46,12 +46,12 @@ impl<'a> Model for MergeBack<'a> {
 
     ghost view = { λ m. record {
       changes = changes_before (option_map (λ c. (c.0, option_copied c.1)) m.change)
-          (said_by m.runs.items);
+          (joined_changes m.runs.items);
       pairs = take m.left m.base.now;
     } };
 
     ghost invariant = { λ m. IsMerge (changes_before
-        (option_map (λ c. (c.0, option_copied c.1)) m.change) (said_by m.runs.items))
+        (option_map (λ c. (c.0, option_copied c.1)) m.change) (joined_changes m.runs.items))
         m.runs.items m.base.now };
 }
 
@@ -133,8 +133,8 @@ pub(crate) fn last_pair<'a>(merge: &mut MergeBack<'a>) -> Option<(&'a [u8], &'a 
 
 // How many of the base's first pairs are below the key; none where the last of these stands after the key.
 fn short_of(base: &Base<Value<Global>, Global>, count: usize, key: &KeyRef<'_>) -> Option<usize>
-    ensures { MatchOption result (HasBehind key.now (take count base.now))
-        (λ left. (behind key.now (take count base.now) ≡ [])
+    ensures { MatchOption result (HasAfter key.now (take count base.now))
+        (λ left. (pairs_after key.now (take count base.now) ≡ [])
         × (take left base.now ≡ before (Some key.now) (take count base.now))) }
 {
     let count = count.min(base.len());
@@ -167,8 +167,9 @@ fn fill<'a>(runs: &mut RunsBack<'a>, chain: &'a Chain<Value<Global>, Global>, hi
 fn last_change<'a>(runs: &mut RunsBack<'a>) -> Option<Change<'a>>
     requires { AllByRecursion IsRising runs.old.items }
     ensures rising { AllByRecursion IsRising runs.new.items }
-    ensures changes { MatchOption result (said_by runs.old.items ≡ [])
-        (λ c. said_by runs.old.items ≡ said_by runs.new.items ++ (c.0, option_copied c.1) ∷ []) }
+    ensures changes { MatchOption result (joined_changes runs.old.items ≡ [])
+        (λ c. joined_changes runs.old.items
+        ≡ joined_changes runs.new.items ++ (c.0, option_copied c.1) ∷ []) }
 {
     let (key, said) = greatest(runs.as_slice())?;
     pass_all(runs.as_mut_slice(), &key);
@@ -202,7 +203,7 @@ fn greatest<'a>(runs: &[RunBack<'a>]) -> Option<Change<'a>>
 
 // Each run goes past this key, above which none has a key.
 fn pass_all<'a>(runs: &mut [RunBack<'a>], key: &KeyRef<'_>)
-    requires none_above { AllByRecursion (λ run. behind key.now run ≡ []) runs.old }
+    requires none_above { AllByRecursion (λ run. pairs_after key.now run ≡ []) runs.old }
     requires rising { AllByRecursion IsRising runs.old }
     ensures { runs.new ≡ map (before (Some key.now)) runs.old }
 {

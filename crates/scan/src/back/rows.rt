@@ -4,7 +4,7 @@ ghost use Rattle.std.specs.Iterator.{YieldsFirstBy, item_count};
 ghost use Rattle.std.specs.Option.{option_copied};
 ghost use Rattle.keys.specs.Bytes.{Bytes};
 ghost use Rattle.mapping.specs.Levels.{levels_of, contents};
-ghost use Rattle.mapping.specs.Proper.{AreLevels, HoldsLevels};
+ghost use Rattle.mapping.specs.Proper.{AreLevels, HoldsItsLevels};
 ghost use Rattle.mapping.specs.Tree.{most_levels};
 ghost use Rattle.mapping.specs.TreeInMemory.{AreAllHome, tree_of};
 ghost use Rattle.scan.specs.Back.{before, is_from, pairs_before, rows_back, rows_left_back};
@@ -52,7 +52,7 @@ impl<'a> RowsBack<'a> {
     ) -> Self
         requires home { AreAllHome tree.now }
         requires height { tree.now.height ≤ most_levels }
-        requires held { HoldsLevels (tree_of tree.now).pages (levels_of (tree_of tree.now)) }
+        requires held { HoldsItsLevels (tree_of tree.now) }
         requires levels { AreLevels (levels_of (tree_of tree.now)) }
         ensures { result
             ≡ rows_back lo.now (option_copied hi.entry) limit (contents (tree_of tree.now)) }
@@ -114,7 +114,7 @@ fn start_of<'a>(
 ) -> (Option<&'a [u8]>, u32)
     requires home { AreAllHome tree.now }
     requires height { tree.now.height ≤ most_levels }
-    requires held { HoldsLevels (tree_of tree.now).pages (levels_of (tree_of tree.now)) }
+    requires held { HoldsItsLevels (tree_of tree.now) }
     requires levels { AreLevels (levels_of (tree_of tree.now)) }
     ensures { (hi : Option Bytes) →
         rows_left_back result.1 (option_copied result.0) (before hi (contents (tree_of tree.now)))

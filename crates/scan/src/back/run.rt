@@ -4,7 +4,7 @@ ghost use Rattle.std.specs.Option.{option_copied};
 ghost use Rattle.keys.specs.Order.{IsRising};
 ghost use Rattle.scan.specs.Back.{before, EndsWith};
 ghost use Rattle.scan.specs.BackRun.{changes_until};
-ghost use Rattle.scan.specs.Leaf.{behind};
+ghost use Rattle.scan.specs.Leaf.{pairs_after};
 
 use crate::ahead::Change;
 use crate::back::count_before;
@@ -62,7 +62,7 @@ impl<'a> RunBack<'a> {
 
     // Goes past the last change where it has this key. No key is above this one.
     pub(crate) fn pass(&mut self, key: &KeyRef<'_>)
-        requires none_above { behind key.now self.old ≡ [] }
+        requires none_above { pairs_after key.now self.old ≡ [] }
         requires rising { IsRising self.old }
         ensures { self.new ≡ before (Some key.now) self.old }
     {

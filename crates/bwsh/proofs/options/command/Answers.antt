@@ -17,10 +17,13 @@ returns c =
     let six = rule_added _ _ _ _ _ c.in_ok-arg-6.ensures c.number-6.ensures.local five c.number-6.ensures.rule in
     let seven = rule_added _ _ _ _ _ c.in_ok-arg-7.ensures c.number-7.ensures.local six c.number-7.ensures.rule in
     let eight = rule_added _ _ _ _ _ c.in_ok-arg-8.ensures c.number-8.ensures.local seven c.number-8.ensures.rule in
-    let nine = rule_added _ _ _ _ _ c.in_ok-arg-9.ensures c.path.ensures.local eight c.path.ensures.rule in
-    let ten = rule_added _ _ _ _ _ c.in_ok-arg-10.ensures c.flag.ensures.local nine c.flag.ensures.rule in
-    let eleven = rule_added _ _ _ _ _ c.in_ok-arg-11.ensures c.flag-2.ensures.local ten c.flag-2.ensures.rule in
-    let twelve = rule_added _ _ _ _ _ c.in_ok-arg-12.ensures c.flag-3.ensures.local eleven c.flag-3.ensures.rule in
-    let thirteen = rule_added _ _ _ _ _ c.in_ok-arg-13.ensures c.flag-4.ensures.local twelve c.flag-4.ensures.rule in
-    let fourteen = rule_added _ _ _ _ _ c.in_ok-arg-14.ensures c.flag-5.ensures.local thirteen c.flag-5.ensures.rule in
-    IfOk-weaker c.arg-15.result _ _ (λ _ added. rule_added _ _ _ _ _ added c.flag-6.ensures.local fourteen c.flag-6.ensures.rule) c.arg-15.ensures
+    let nine = rule_added _ _ _ _ _ c.in_ok-arg-9.ensures c.number-9.ensures.local eight c.number-9.ensures.rule in
+    let ten = rule_added _ _ _ _ _ c.in_ok-arg-10.ensures c.path.ensures.local nine c.path.ensures.rule in
+    let eleven = rule_added _ _ _ _ _ c.in_ok-arg-11.ensures c.path-2.ensures.local ten c.path-2.ensures.rule in
+    let twelve = rule_added _ _ _ _ _ c.in_ok-arg-12.ensures c.flag.ensures.local eleven c.flag.ensures.rule in
+    let thirteen = rule_added _ _ _ _ _ c.in_ok-arg-13.ensures c.flag-2.ensures.local twelve c.flag-2.ensures.rule in
+    let fourteen = rule_added _ _ _ _ _ c.in_ok-arg-14.ensures c.flag-3.ensures.local thirteen c.flag-3.ensures.rule in
+    let fifteen = rule_added _ _ _ _ _ c.in_ok-arg-15.ensures c.flag-4.ensures.local fourteen c.flag-4.ensures.rule in
+    let sixteen = rule_added _ _ _ _ _ c.in_ok-arg-16.ensures c.flag-5.ensures.local fifteen c.flag-5.ensures.rule in
+    let seventeen = rule_added _ _ _ _ _ c.in_ok-arg-17.ensures c.flag-6.ensures.local sixteen c.flag-6.ensures.rule in
+    IfOk-weaker c.arg-18.result _ _ (λ _ added. rule_added _ _ _ _ _ added c.flag-7.ensures.local seventeen c.flag-7.ensures.rule) c.arg-18.ensures

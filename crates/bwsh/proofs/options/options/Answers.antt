@@ -7,9 +7,10 @@ use Rattle.bwsh.proofs.options.options.Goals as goal
 pub returns : goal.returns
 returns c =
     let w = options_are_asked _ _ c.in_ok-matches.ensures.err c.in_ok-matches.ensures.ok in
-    let path = c.in_ok-disk.ensures w.0 w.2 in
+    let disk = c.in_ok-disk.ensures refl w.0 w.2 in
+    let copy = c.in_ok-copy_to.ensures refl w.0 w.2 in
     record {
-      ok = (w.0, w.1, rw (c.settings.ensures w.0 w.3 w.2, c.crew.ensures w.0 w.3 w.2, path, c.flag_at.ensures refl w.0 w.3 w.2, c.ways.ensures w.0 w.3 w.2) refl);
+      ok = (w.0, w.1, rw (c.settings.ensures w.0 w.3 w.2, c.crew.ensures w.0 w.3 w.2, disk, copy, c.flag_at.ensures refl w.0 w.3 w.2, c.ways.ensures w.0 w.3 w.2) refl);
       err = tt;
     }
 

@@ -1,4 +1,5 @@
 use Rattle.std.proofs.Common.{◌≡◌, false}
+use Rattle.mapping.specs.Levels.{contents}
 use Rattle.bwsh.proofs.RoomLemmas.{LeadsRoom}
 use Rattle.bwsh.proofs.running.run_flush_with_room.Given as goal
 
@@ -9,7 +10,8 @@ invariant-room g l = record {
   honest : (g.D.Disk.view l.store.disk).is_honest ≡ (g.D.Disk.view l.fn.store.disk).is_honest;
   fine : l.store.has_failed ≡ false;
   same : l.fn.store.has_failed ≡ false;
-  leads : LeadsRoom (g.D.Disk.view l.fn.store.disk).is_honest l.fn.store.settings l.fn.store.store (g.D.Disk.view l.fn.store.disk).seen (g.O.Write.contents l.fn.out)
+  holds : contents l.store.store.tree ≡ contents l.fn.store.store.tree;
+  leads : LeadsRoom l.fn.ways (g.D.Disk.view l.fn.store.disk).is_honest l.fn.store.settings l.fn.store.store (g.D.Disk.view l.fn.store.disk).seen (g.O.Write.contents l.fn.out)
       l.left l.store.store (g.D.Disk.view l.store.disk).seen (g.O.Write.contents l.out);
 }
 

@@ -1,9 +1,15 @@
-use Rattle.bwsh.specs.Options.{told_of}
+use Rattle.bwsh.specs.Options.{request_of}
 use Rattle.bwsh.proofs.EndLemmas.{IsAnswered-stream, IsAnswered-text}
 use Rattle.bwsh.proofs.session.run.Goals as goal
 
-pub returns-then-told : goal.returns-then-told
-returns-then-told g c = IsAnswered-stream (told_of c.args.told.now) _ _ _ _ c.if-told.true c.run_stream.ensures
+pub returns-then-request-clause-runs : goal.returns-then-request-clause-runs
+returns-then-request-clause-runs g c = IsAnswered-stream (request_of c.args.request.now) _ _ _ _ c.if-request.true c.run_stream.ensures.runs
 
-pub returns : goal.returns
-returns g c = IsAnswered-text (told_of c.args.told.now) _ _ _ _ c.if-told.false c.run_file.ensures
+pub returns-clause-runs : goal.returns-clause-runs
+returns-clause-runs g c = IsAnswered-text (request_of c.args.request.now) _ _ _ _ c.if-request.false c.run_file.ensures.runs
+
+pub returns-then-request-clause-shows : goal.returns-then-request-clause-shows
+returns-then-request-clause-shows g c = c.run_stream.ensures.shows
+
+pub returns-clause-shows : goal.returns-clause-shows
+returns-clause-shows g c = c.run_file.ensures.shows

@@ -1,8 +1,9 @@
 use Rattle.std.proofs.Common.{◌≡◌, ℕ, List, map, subst}
 use Rattle.std.specs.String.{string_bytes}
-use Rattle.bwsh.specs.Session.{IsToldWith}
+use Rattle.bwsh.specs.Session.{IsReportedWith}
 use Rattle.bwsh.proofs.EndLemmas.{all_follows, Appends-same}
-use Rattle.bwsh.proofs.TellLemmas.{quiet_end}
+use Rattle.bwsh.proofs.EndingLemmas.{quiet_end}
+use Rattle.bwsh.proofs.ProgressLemmas.{quiet_after, reported_after}
 use Rattle.bwsh.proofs.session.session.Goals as goal
 
 pub returns : goal.returns
@@ -21,6 +22,14 @@ returns g c =
       done = follows.done;
       bad = follows.bad;
       beginning = follows.beginning;
-      ends = (c.obey-done.result, c.end.ensures.status, ends, (c.obey-done.new.more.items, c.obey-done.ensures.more, subst (λ (m : List ℕ). IsToldWith m c.obey-done.result (g.E.Write.contents c.args.err.now) (g.E.Write.contents c.end.new.err)) c.deref.ensures.value c.end.ensures.told));
-      quiet = quiet_end c.obey-done.result c.end.result _ c.end.ensures.status c.end.ensures.quiet;
+      ends = (
+        c.obey-done.result,
+        c.end.ensures.status,
+        ends,
+        reported_after g.E.Write.contents words c.args.err.now c.obey-done.new.err c.end.new.err c.obey-done.result c.obey-done.new.more.items c.obey-done.ensures.quiet c.obey-done.ensures.more
+            (subst (λ (m : List ℕ). IsReportedWith m c.obey-done.result (g.E.Write.contents c.obey-done.new.err) (g.E.Write.contents c.end.new.err)) c.deref.ensures.value c.end.ensures.reported),
+      );
+      quiet = λ zero.
+          quiet_after g.E.Write.contents words c.args.err.now c.obey-done.new.err c.end.new.err c.obey-done.ensures.quiet
+          (quiet_end c.obey-done.result c.end.result _ c.end.ensures.status c.end.ensures.quiet zero);
     }

@@ -1,4 +1,5 @@
 use Rattle.std.proofs.Common.{◌≡◌, false}
+use Rattle.bwsh.specs.Session.{Shows}
 use Rattle.bwsh.proofs.StreamLemmas.{LeadsOn}
 use Rattle.bwsh.proofs.stream.run_lines.Given as goal
 
@@ -11,4 +12,5 @@ invariant-loop-line g l = record {
   leads : LeadsOn l.fn.ways (g.D.Disk.view l.fn.store.disk).is_honest l.fn.store.settings l.fn.store.store (g.D.Disk.view l.fn.store.disk).seen
       (g.I.Read.remaining l.fn.input) (g.O.Write.contents l.fn.out)
       l.fn.store.settings l.store.store (g.D.Disk.view l.store.disk).seen l.pending.items l.line (g.I.Read.remaining l.input) (g.O.Write.contents l.out);
+  shows : Shows g.E.Write.contents l.fn.reports.progress.is_shown l.fn.err l.reports.progress.is_shown l.err;
 }

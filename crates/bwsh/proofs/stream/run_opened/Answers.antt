@@ -1,15 +1,37 @@
+use Rattle.std.proofs.Common.{Ok, refl}
 use Rattle.std.proofs.lemmas.Result.{err_from_is_err_and}
+use Rattle.std.specs.Option.{option_map}
 use Rattle.bwsh.specs.Session.{stream_ended}
+use Rattle.bwsh.proofs.ProgressLemmas.{Shows-same, Shows-trans}
 use Rattle.bwsh.proofs.StreamLemmas.{StreamsFrom-opened, StreamsFrom-unopened, ended_as}
 use Rattle.bwsh.proofs.stream.run_opened.Goals as goal
 
-pub returns-in_err-store : goal.returns-in_err-store
-returns-in_err-store g c start opens =
+pub returns-in_err-store-clause-runs : goal.returns-in_err-store-clause-runs
+returns-in_err-store-clause-runs g c start opens =
+    let copy = option_map (λ w. w.settings) c.args.copy in
     let p = err_from_is_err_and c.from_residual.result c.from_residual.ensures.1 in
-    rw (p.1, p.2) (StreamsFrom-unopened c.args.ways _ _ start g.D.Disk.view c.args.opened opens _ c.in_err-store.was)
+    rw (p.1, p.2) (StreamsFrom-unopened c.args.ways _ _ start g.D.Disk.view c.args.opened opens _ c.in_err-store.was copy)
 
-pub returns : goal.returns
-returns g c start opens =
+pub returns-in_err-flush-clause-runs : goal.returns-in_err-flush-clause-runs
+returns-in_err-flush-clause-runs g c start opens =
+    let copy = option_map (λ w. w.settings) c.args.copy in
     let run = c.run_lines-done in
-    StreamsFrom-opened c.args.ways _ _ start g.D.Disk.view c.args.opened opens c.in_ok-store.store (g.O.Write.contents run.new.out) _ run.result c.flush.result c.in_ok-store.was run.ensures
-    c.flush.ensures.bytes (ended_as c.ended.result (stream_ended run.result) c.flush.result c.ended.ensures c.flush.ensures.end)
+    let p = err_from_is_err_and c.from_residual-in_err-flush.result c.from_residual-in_err-flush.ensures.1 in
+    rw (p.1, p.2) (StreamsFrom-opened c.args.ways _ _ start g.D.Disk.view c.args.opened opens c.in_ok-store.store (g.O.Write.contents run.new.out) _ run.result run.new.store.store _ c.in_ok-store.was
+    run.ensures.runs c.flush.ensures.bytes (ended_as c.ended.result (stream_ended run.result) _ c.ended.ensures c.in_err-flush.ensures.end) copy _ refl)
+
+pub returns-clause-runs : goal.returns-clause-runs
+returns-clause-runs g c start opens =
+    let copy = option_map (λ w. w.settings) c.args.copy in
+    let run = c.run_lines-done in
+    StreamsFrom-opened c.args.ways _ _ start g.D.Disk.view c.args.opened opens c.in_ok-store.store (g.O.Write.contents run.new.out) _ run.result run.new.store.store (Ok tt) c.in_ok-store.was
+    run.ensures.runs c.flush.ensures.bytes (ended_as c.ended.result (stream_ended run.result) (Ok tt) c.ended.ensures c.in_ok-flush.ensures.end) copy c.leave_copy.result c.leave_copy.ensures
+
+pub returns-in_err-store-clause-shows : goal.returns-in_err-store-clause-shows
+returns-in_err-store-clause-shows g c = Shows-same g.E.Write.contents c.args.reports.now.progress.is_shown c.args.err.now
+
+pub returns-in_err-flush-clause-shows : goal.returns-in_err-flush-clause-shows
+returns-in_err-flush-clause-shows g c = c.run_lines-done.ensures.shows
+
+pub returns-clause-shows : goal.returns-clause-shows
+returns-clause-shows g c = Shows-trans g.E.Write.contents _ _ _ _ _ _ c.run_lines-done.ensures.shows c.copying.ensures

@@ -9,4 +9,4 @@ returns-in_err-push-in-Command-clause-runs g c =
     let store = c.args.store.now in
     let disk = g.D.Disk.view store.disk in
     let p = err_from_is_err_and c.from_residual.result c.from_residual.ensures.1 in
-    rw (p.1, p.2) (RunsFirst-cut c.args.cleans disk.is_honest store.settings store.store disk.seen (ended_by c.args.pending.now.items c.args.says) _ _ store.store disk.seen (inl refl))
+    rw (p.1, p.2) (RunsFirst-cut c.args.ways disk.is_honest store.settings store.store disk.seen (ended_by c.args.pending.now.items c.args.says) _ _ store.store disk.seen (inl refl))

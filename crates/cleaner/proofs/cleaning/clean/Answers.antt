@@ -37,11 +37,11 @@ returns-in_err-commit-clause-read g c =
     let s = f.settings in
     let t = c.args.ends.now in
     let more : t.head ≢ last_segment s t.tail = (λ e. c.if-ends-last_segment.false (e ∙ sym c.last_segment.ensures)) in
-    let (file, is, told) = c.in_err-commit.ensures.read in (
+    let (file, is, state) = c.in_err-commit.ensures.read in (
       file,
       is,
       λ st same version. handed_on c.from_residual.result _ _ c.in_err-commit.field-0.0 c.from_residual.ensures.1
-          (⊎_elim (λ refused. inl (refused st same version)) (λ late. inr (more-of f t st same version more, late)) told),
+          (⊎_elim (λ refused. inl (refused st same version)) (λ late. inr (more-of f t st same version more, late)) state),
     )
 
 pub returns-in_err-commit-clause-crash : goal.returns-in_err-commit-clause-crash

@@ -11,7 +11,7 @@ pub returns-in_err-on_disk-clause-read : goal.returns-in_err-on_disk-clause-read
 returns-in_err-on_disk-clause-read g c =
     let view = g.D.Disk.view in
     let (file, is) = first_read (view c.args.disk.now) (g.met.D.Disk.lawful c.args.disk.now) in
-    let (now, bytes, told) = c.in_err-on_disk.ensures.read file is in (
+    let (now, bytes, state) = c.in_err-on_disk.ensures.read file is in (
       now,
       read_before (view c.args.disk.now) (view c.read_slot_on_disk.new.disk) now c.in_err-on_disk.ensures.kept c.in_err-on_disk.ensures.same bytes,
       handed_on c.from_residual.result _ _ c.in_err-on_disk.field-0.0 c.from_residual.ensures.1 (inr c.in_err-on_disk.ensures.err),
@@ -31,11 +31,11 @@ returns-in_err-images-clause-read g c =
     let new = view c.read_text.new.disk in
     let (file, is) = first_read old (g.met.D.Disk.lawful c.args.disk.now) in
     let (next, then, slot) = c.in_ok-on_disk.ensures.read file is in
-    let (now, bytes, front, told) = c.in_err-images.ensures.read next then in (
+    let (now, bytes, front, state) = c.in_err-images.ensures.read next then in (
       now,
       read_before old new now (kept_then old mid new c.in_ok-on_disk.ensures.kept c.in_err-images.ensures.kept) (returns-in_err-images-clause-same g c) bytes,
       handed_on c.from_residual-in_err-images.result _ _ c.in_err-images.field-0.0 c.from_residual-in_err-images.ensures.1
-          (since c.args.format.now c.args.ends.now now (failed c.args.disk.now) (failed c.read_slot_on_disk.new.disk) (failed c.read_text.new.disk) c.in_err-images.field-0.0 c.in_ok-on_disk.ensures.counted told),
+          (since c.args.format.now c.args.ends.now now (failed c.args.disk.now) (failed c.read_slot_on_disk.new.disk) (failed c.read_text.new.disk) c.in_err-images.field-0.0 c.in_ok-on_disk.ensures.counted state),
     )
 
 pub returns-in_err-images-clause-uncounted : goal.returns-in_err-images-clause-uncounted

@@ -9,16 +9,16 @@ returns-in_err-pages-clause-read g c file is =
     let f = c.args.format.now in
     let t = c.args.ends.now in
     let fault = c.in_err-pages.field-0.0 in
-    let (now, bytes, front, told) = c.in_err-pages.ensures.read file is in
-    (now, bytes, front, handed_on c.from_residual.result _ _ fault c.from_residual.ensures.1 (⊎_elim (λ wrong. inl (log-refused f now t c.requires.more fault wrong)) (λ late. inr late) told))
+    let (now, bytes, front, state) = c.in_err-pages.ensures.read file is in
+    (now, bytes, front, handed_on c.from_residual.result _ _ fault c.from_residual.ensures.1 (⊎_elim (λ wrong. inl (log-refused f now t c.requires.more fault wrong)) (λ late. inr late) state))
 
 pub returns-clause-read : goal.returns-clause-read
 returns-clause-read g c file is =
     let f = c.args.format.now in
     let t = c.args.ends.now in
     let failed = g.D.Disk.failed in
-    let (now, bytes, front, told) = c.in_ok-pages.ensures.read file is in
-    let (found, read, gathered) = told in
+    let (now, bytes, front, state) = c.in_ok-pages.ensures.read file is in
+    let (found, read, gathered) = state in
     let begins = log-begins f t c.requires.checked c.requires.ends now found c.requires.more read in (
       now,
       bytes,

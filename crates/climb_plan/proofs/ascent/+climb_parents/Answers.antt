@@ -43,31 +43,31 @@ climb_parents-climbed-requires g t c = λ κs within.
 pub finish_level-requires-after_bounds : goal.finish_level-requires-after_bounds
 finish_level-requires-after_bounds g t c κs within =
     let k = (goal.at.finish_level-requires-after_bounds g t c).In-Ok in
-    let told = c.climb_parents-climbed.ensures in
+    let termed = c.climb_parents-climbed.ensures in
     let can : CanEnd Index c.args.settings.now (working g t k) c.climb_parents-climbed.new.tree (parents_seen c.args.dones.items) c.in-Ok.changed.groups.items c.climb_parents-climbed.result =
-    record { worked = here g t k; ended = have_ended c.args.settings.now (working g t k) c.climb_parents-climbed.new.tree c.climb_parents-climbed.result told.climbed told.low told.back told.err told.high } in
+    record { worked = here g t k; ended = have_ended c.args.settings.now (working g t k) c.climb_parents-climbed.new.tree c.climb_parents-climbed.result termed.climbed termed.low termed.back termed.err termed.high } in
     (working g t k, can)
 
 pub returns-clause-climbed : goal.returns-clause-climbed
 returns-clause-climbed g t c =
     let k = (goal.at.returns-clause-climbed g t c).In-Ok in
-    let told = c.climb_parents-climbed.ensures in
+    let termed = c.climb_parents-climbed.ensures in
     let can : CanEnd Index c.args.settings.now (working g t k) c.climb_parents-climbed.new.tree (parents_seen c.args.dones.items) c.in-Ok.changed.groups.items c.climb_parents-climbed.result =
-    record { worked = here g t k; ended = have_ended c.args.settings.now (working g t k) c.climb_parents-climbed.new.tree c.climb_parents-climbed.result told.climbed told.low told.back told.err told.high } in
+    record { worked = here g t k; ended = have_ended c.args.settings.now (working g t k) c.climb_parents-climbed.new.tree c.climb_parents-climbed.result termed.climbed termed.low termed.back termed.err termed.high } in
     ended_climbs can c.finish_level.new.tree c.finish_level.result c.finish_level.ensures.climbed
 
 pub returns-clause-err : goal.returns-clause-err
 returns-clause-err g t c =
     let k = (goal.at.returns-clause-err g t c).In-Ok in
-    let told = c.climb_parents-climbed.ensures in
+    let termed = c.climb_parents-climbed.ensures in
     let can : CanEnd Index c.args.settings.now (working g t k) c.climb_parents-climbed.new.tree (parents_seen c.args.dones.items) c.in-Ok.changed.groups.items c.climb_parents-climbed.result =
-    record { worked = here g t k; ended = have_ended c.args.settings.now (working g t k) c.climb_parents-climbed.new.tree c.climb_parents-climbed.result told.climbed told.low told.back told.err told.high } in
+    record { worked = here g t k; ended = have_ended c.args.settings.now (working g t k) c.climb_parents-climbed.new.tree c.climb_parents-climbed.result termed.climbed termed.low termed.back termed.err termed.high } in
     ended_back can c.finish_level.new.tree c.finish_level.result c.finish_level.ensures.err
 
 pub returns-clause-high : goal.returns-clause-high
 returns-clause-high g t c =
     let k = (goal.at.returns-clause-high g t c).In-Ok in
-    let told = c.climb_parents-climbed.ensures in
+    let termed = c.climb_parents-climbed.ensures in
     let can : CanEnd Index c.args.settings.now (working g t k) c.climb_parents-climbed.new.tree (parents_seen c.args.dones.items) c.in-Ok.changed.groups.items c.climb_parents-climbed.result =
-    record { worked = here g t k; ended = have_ended c.args.settings.now (working g t k) c.climb_parents-climbed.new.tree c.climb_parents-climbed.result told.climbed told.low told.back told.err told.high } in
+    record { worked = here g t k; ended = have_ended c.args.settings.now (working g t k) c.climb_parents-climbed.new.tree c.climb_parents-climbed.result termed.climbed termed.low termed.back termed.err termed.high } in
     ended_high can c.finish_level.new.tree c.finish_level.result c.finish_level.ensures.high

@@ -42,31 +42,31 @@ climb_parents-climbed-requires-clause-height g c κs within = low_above (here g 
 pub finish_level-requires : goal.finish_level-requires
 finish_level-requires g c =
     let k = (goal.at.finish_level-requires g c).In-Ok in
-    let told = c.climb_parents-climbed.ensures in
+    let termed = c.climb_parents-climbed.ensures in
     let can : CanEnd Leaf c.args.settings.now (working g k) c.climb_parents-climbed.new.tree (leaves_seen c.args.dones.items) c.in-Ok.changed.groups.items c.climb_parents-climbed.result =
-    record { worked = here g k; ended = have_ended c.args.settings.now (working g k) c.climb_parents-climbed.new.tree c.climb_parents-climbed.result told.climbed told.low told.back told.err told.high } in
+    record { worked = here g k; ended = have_ended c.args.settings.now (working g k) c.climb_parents-climbed.new.tree c.climb_parents-climbed.result termed.climbed termed.low termed.back termed.err termed.high } in
     (search, (working g k, can))
 
 pub returns-clause-climbed : goal.returns-clause-climbed
 returns-clause-climbed g c =
     let k = (goal.at.returns-clause-climbed g c).In-Ok in
-    let told = c.climb_parents-climbed.ensures in
+    let termed = c.climb_parents-climbed.ensures in
     let can : CanEnd Leaf c.args.settings.now (working g k) c.climb_parents-climbed.new.tree (leaves_seen c.args.dones.items) c.in-Ok.changed.groups.items c.climb_parents-climbed.result =
-    record { worked = here g k; ended = have_ended c.args.settings.now (working g k) c.climb_parents-climbed.new.tree c.climb_parents-climbed.result told.climbed told.low told.back told.err told.high } in
+    record { worked = here g k; ended = have_ended c.args.settings.now (working g k) c.climb_parents-climbed.new.tree c.climb_parents-climbed.result termed.climbed termed.low termed.back termed.err termed.high } in
     ended_climbs can c.finish_level.new.tree c.finish_level.result c.finish_level.ensures.climbed
 
 pub returns-clause-err : goal.returns-clause-err
 returns-clause-err g c =
     let k = (goal.at.returns-clause-err g c).In-Ok in
-    let told = c.climb_parents-climbed.ensures in
+    let termed = c.climb_parents-climbed.ensures in
     let can : CanEnd Leaf c.args.settings.now (working g k) c.climb_parents-climbed.new.tree (leaves_seen c.args.dones.items) c.in-Ok.changed.groups.items c.climb_parents-climbed.result =
-    record { worked = here g k; ended = have_ended c.args.settings.now (working g k) c.climb_parents-climbed.new.tree c.climb_parents-climbed.result told.climbed told.low told.back told.err told.high } in
+    record { worked = here g k; ended = have_ended c.args.settings.now (working g k) c.climb_parents-climbed.new.tree c.climb_parents-climbed.result termed.climbed termed.low termed.back termed.err termed.high } in
     ended_back can c.finish_level.new.tree c.finish_level.result c.finish_level.ensures.err
 
 pub returns-clause-high : goal.returns-clause-high
 returns-clause-high g c =
     let k = (goal.at.returns-clause-high g c).In-Ok in
-    let told = c.climb_parents-climbed.ensures in
+    let termed = c.climb_parents-climbed.ensures in
     let can : CanEnd Leaf c.args.settings.now (working g k) c.climb_parents-climbed.new.tree (leaves_seen c.args.dones.items) c.in-Ok.changed.groups.items c.climb_parents-climbed.result =
-    record { worked = here g k; ended = have_ended c.args.settings.now (working g k) c.climb_parents-climbed.new.tree c.climb_parents-climbed.result told.climbed told.low told.back told.err told.high } in
+    record { worked = here g k; ended = have_ended c.args.settings.now (working g k) c.climb_parents-climbed.new.tree c.climb_parents-climbed.result termed.climbed termed.low termed.back termed.err termed.high } in
     ended_high can c.finish_level.new.tree c.finish_level.result c.finish_level.ensures.high

@@ -3,7 +3,7 @@ use Rattle.std.specs.List.{AllByRecursion}
 use Rattle.climb_plan.specs.Rewriting.{all_seen, IsQuiet}
 use Rattle.climb_plan.specs.declared.seen.Seen.{Seen}
 use Rattle.climb_plan.proofs.RewritingLevel.{at_first, at_last}
-use Rattle.climb_plan.proofs.RewritingWalk.{next_family, some_behind, left_behind}
+use Rattle.climb_plan.proofs.RewritingWalk.{next_family, some_after, undrawn}
 use Rattle.climb_plan.proofs.family.rewrites.Goals as goal
 
 pub loop-low-init : goal.loop-low-init
@@ -22,7 +22,7 @@ pub loop-low-smaller : goal.loop-low-smaller
 loop-low-smaller c =
     let h = c.requires in
     let some : 0 < c.in_ok-done.field-0 =
-    some_behind c.args.tree.now c.args.depth (all_seen c.args.seen.now) h.0 h.1 h.2 h.3 c.args.seen.now c.left_from.result.now c.left_from-in-Some.result.now c.loop-low.done _ _ c.in-Some.low.now c.left_from.ensures c.left_from-in-Some.ensures
+    some_after c.args.tree.now c.args.depth (all_seen c.args.seen.now) h.0 h.1 h.2 h.3 c.args.seen.now c.left_from.result.now c.left_from-in-Some.result.now c.loop-low.done _ _ c.in-Some.low.now c.left_from.ensures c.left_from-in-Some.ensures
     (c.loop-low.invariant.each h.0 h.1 h.2 h.3) c.in-Some.ensures c.parent_of-parent.result (c.parent_of-parent.ensures h.1 h.2 h.3.parents) c.in_ok-done.field-0 c.in_ok-done.ensures.later in
     let count : length c.left_from-in-Some.result.now ≡ length (drop c.loop-low.done c.args.seen.now) = ap (λ (xs : List Seen). length xs) c.left_from-in-Some.ensures in
     omega (arith, c.in_ok-done.ensures.most, length-drop {A = Seen})
@@ -34,7 +34,7 @@ loop-low-preserved c =
       most = omega (arith, c.in_ok-done.ensures.most, length-drop {A = Seen});
       each =
           λ all ps ups h.
-          left_behind c.args.tree.now c.args.depth (all_seen c.args.seen.now) all ps ups h c.args.seen.now c.left_from.result.now c.left_from-in-Some.result.now c.loop-low.done _ _ c.in-Some.low.now c.left_from.ensures c.left_from-in-Some.ensures
+          undrawn c.args.tree.now c.args.depth (all_seen c.args.seen.now) all ps ups h c.args.seen.now c.left_from.result.now c.left_from-in-Some.result.now c.loop-low.done _ _ c.in-Some.low.now c.left_from.ensures c.left_from-in-Some.ensures
           (c.loop-low.invariant.each all ps ups h) c.in-Some.ensures c.parent_of-parent.result (c.parent_of-parent.ensures ps ups h.parents) c.in_ok-done.field-0 _ _ c.in_ok-done.ensures.later c.in_ok-done.ensures.parents c.in_ok-done.ensures.groups;
     }
 

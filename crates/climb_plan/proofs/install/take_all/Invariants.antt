@@ -11,7 +11,7 @@ use Rattle.climb_plan.proofs.install.take_all.Given as goal
 abbrev pub invariant-loop-pid : goal.invariant-loop-pid
 invariant-loop-pid l = record {
   home : AreParentsHome l.tree.table (map (λ t. t.0) (into_iter_items l.pid-iterator));
-  held : map term_held_of l.jobs.items ++ map (parent_held l.tree.table) (into_iter_items l.pid-iterator) ≡ map (parent_held l.fn.tree.table) l.fn.told.items;
-  taken : tree_taken l.tree (map (λ t. t.0) (into_iter_items l.pid-iterator)) ≡ tree_taken l.fn.tree (map (λ t. t.0) l.fn.told.items);
+  held : map term_held_of l.jobs.items ++ map (parent_held l.tree.table) (into_iter_items l.pid-iterator) ≡ map (parent_held l.fn.tree.table) l.fn.termed.items;
+  taken : tree_taken l.tree (map (λ t. t.0) (into_iter_items l.pid-iterator)) ≡ tree_taken l.fn.tree (map (λ t. t.0) l.fn.termed.items);
   room : vec_len l.jobs + length (into_iter_items l.pid-iterator) ≤ vec_capacity l.jobs;
 }

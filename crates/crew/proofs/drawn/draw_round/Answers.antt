@@ -4,7 +4,7 @@ use Rattle.std.specs.List.{AllByRecursion, flat_map}
 use Rattle.std.proofs.lemmas.List.{length-replicate}
 use Rattle.claim_board.specs.Passes.{pieces_of, drawn_by_all, Closes}
 use Rattle.crew.specs.Drawn.{held_in}
-use Rattle.crew.specs.Home.{placed, left_behind, home_origins, IsMadeHome}
+use Rattle.crew.specs.Home.{placed, undrawn, home_origins, IsMadeHome}
 use Rattle.crew.proofs.DrawnLemmas.{dealt, passes_of, left_length, length-placed, all_home, all_made}
 use Rattle.crew.proofs.drawn.draw_round.Goals as goal
 
@@ -49,9 +49,9 @@ returns-clause-home g c =
     let n : length c.bring_home.new.homes.items ≡ length (pieces_of board) =
     ap length brought ∙ length-placed (replicate (length (pieces_of board)) None) (flat_map (λ hand. hand.worked.items) hands) ∙ length-replicate (length (pieces_of board)) None in
     let drawn : c.len-2.result - c.len-3.result ≡ from = omega arith in
-    let placed_is : c.place_left.new.homes.items ≡ placed (placed (replicate (length (pieces_of board)) None) (flat_map (λ hand. hand.worked.items) hands)) (left_behind from left) =
-    c.place_left.ensures ∙ ap (λ hs. placed hs (left_behind (c.len-2.result - c.len-3.result) left)) brought
-    ∙ ap (λ k. placed (placed (replicate (length (pieces_of board)) None) (flat_map (λ hand. hand.worked.items) hands)) (left_behind k left)) drawn in
+    let placed_is : c.place_left.new.homes.items ≡ placed (placed (replicate (length (pieces_of board)) None) (flat_map (λ hand. hand.worked.items) hands)) (undrawn from left) =
+    c.place_left.ensures ∙ ap (λ hs. placed hs (undrawn (c.len-2.result - c.len-3.result) left)) brought
+    ∙ ap (λ k. placed (placed (replicate (length (pieces_of board)) None) (flat_map (λ hand. hand.worked.items) hands)) (undrawn k left)) drawn in
     ap (map (home_origins g.W.Work)) placed_is ∙ all_home g.W.Work c.args.work.now board hands left c.draw_all.ensures.hands closes
     ∙ ap (map (held_in g.W.Work)) c.in-Ok-open.ensures.pieces
 
@@ -71,7 +71,7 @@ returns-clause-made g c =
     let n : length c.bring_home.new.homes.items ≡ length (pieces_of board) =
     ap length brought ∙ length-placed (replicate (length (pieces_of board)) None) (flat_map (λ hand. hand.worked.items) hands) ∙ length-replicate (length (pieces_of board)) None in
     let drawn : c.len-2.result - c.len-3.result ≡ from = omega arith in
-    let placed_is : c.place_left.new.homes.items ≡ placed (placed (replicate (length (pieces_of board)) None) (flat_map (λ hand. hand.worked.items) hands)) (left_behind from left) =
-    c.place_left.ensures ∙ ap (λ hs. placed hs (left_behind (c.len-2.result - c.len-3.result) left)) brought
-    ∙ ap (λ k. placed (placed (replicate (length (pieces_of board)) None) (flat_map (λ hand. hand.worked.items) hands)) (left_behind k left)) drawn in
+    let placed_is : c.place_left.new.homes.items ≡ placed (placed (replicate (length (pieces_of board)) None) (flat_map (λ hand. hand.worked.items) hands)) (undrawn from left) =
+    c.place_left.ensures ∙ ap (λ hs. placed hs (undrawn (c.len-2.result - c.len-3.result) left)) brought
+    ∙ ap (λ k. placed (placed (replicate (length (pieces_of board)) None) (flat_map (λ hand. hand.worked.items) hands)) (undrawn k left)) drawn in
     subst (AllByRecursion (IsMadeHome g.W.Work c.args.work.now)) (sym placed_is) (all_made g.W.Work c.args.work.now board hands left c.draw_all.ensures.hands closes)

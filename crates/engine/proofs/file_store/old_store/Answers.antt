@@ -10,8 +10,8 @@ returns-in-Err-clause-opened g c =
     let (file, read, fault) = c.in-Err.ensures.read c.requires.crew in
     let refused = c.in-Err.refused in
     let reason = c.last_error.result in
-    let told = c.with_reason.result in
+    let reported = c.with_reason.result in
     ⊎_elim
-    (λ is. of_bytes file refused.0 reason told is c.with_reason.ensures)
-    (λ late. of_late c.args.disk.failures refused.1.failures refused.0 told late reason c.last_error.ensures c.with_reason.ensures)
+    (λ is. of_bytes file refused.0 reason reported is c.with_reason.ensures)
+    (λ late. of_late c.args.disk.failures refused.1.failures refused.0 reported late reason c.last_error.ensures c.with_reason.ensures)
     fault

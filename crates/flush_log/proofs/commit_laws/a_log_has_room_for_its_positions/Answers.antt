@@ -7,7 +7,7 @@ returns c = record {
   test = head_test;
   head = head_small;
   next_head = head_end_small;
-  position = λ s head tail n offset good behind small. position_small s head tail good behind small n offset;
+  position = λ s head tail n offset good following small. position_small s head tail good following small n offset;
   tail = tail_small;
   sequence = λ n small. omega arith;
   place = λ s n offset good within. let place = place_small s good n offset within in omega arith;

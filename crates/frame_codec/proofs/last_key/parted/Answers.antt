@@ -1,4 +1,4 @@
-use Rattle.frame_codec.proofs.ShareLemmas.{common-beyond, all_behind, parted-by}
+use Rattle.frame_codec.proofs.ShareLemmas.{common-beyond, all_after, parted-by}
 use Rattle.frame_codec.specs.Codecs.{rejoined}
 use Rattle.frame_codec.proofs.last_key.parted.Goals as goal
 
@@ -8,4 +8,4 @@ returns-then-shared-key c =
 
 pub returns : goal.returns
 returns c =
-    parted-by c.apart.result c.args.shared c.args.key.now _ c.args.rest.now c.if-shared-key.false (all_behind c.args.shared c.args.key.now) c.apart.ensures
+    parted-by c.apart.result c.args.shared c.args.key.now _ c.args.rest.now c.if-shared-key.false (all_after c.args.shared c.args.key.now) c.apart.ensures

@@ -4,8 +4,8 @@ use Rattle.frame_codec.proofs.FoundLemmas.{IsReadOf, bytes-fit, content-found, l
 use Rattle.frame_codec.proofs.SkimLemmas.{body-within}
 use Rattle.frame_codec.proofs.read.read_frame.Goals as goal
 
-pub frame_size-requires-clause-behind : goal.frame_size-requires-clause-behind
-frame_size-requires-clause-behind c =
+pub frame_size-requires-clause-following : goal.frame_size-requires-clause-following
+frame_size-requires-clause-following c =
     let found = content-found c.args.format.now c.args.bytes.now c.in-Some.kind c.in-Some.len c.in-Some.pid c.in-Some.content.now
     (bytes-fit c.args.bytes.now c.type_inv.bytes) c.in-Some.ensures.header
     (frame_of c.in-Some-2.frame) c.in-Some-2.rest.now (rw c.in-Some-2.is at c.in_ok-frame.ensures) in

@@ -23,13 +23,13 @@ pub returns-in-Err-OutOfOrder : goal.returns-in-Err-OutOfOrder
 returns-in-Err-OutOfOrder g c =
     let falls : goes_last c.in-Some.key.now c.loop-at.run ≡ false = search rules in
     read-falls c.args.settings.now (of_cell (g.V.Spelled.is_short c.args.settings.now)) Whole (flagged g.V.Spelled.codec) [] c.args.count c.args.bytes.now
-    c.loop-at._at c.loop-at.run c.loop-at.rest.now c.loop-at.invariant c.in-Some.key.now c.in-Some.change c.in-Some.behind.now
+    c.loop-at._at c.loop-at.run c.loop-at.rest.now c.loop-at.invariant c.in-Some.key.now c.in-Some.change c.in-Some.following.now
     c.loop-at-test.true (rw c.in-Some.is at c.in_ok-key.ensures) falls
 
 pub loop-at-preserved : goal.loop-at-preserved
 loop-at-preserved g c =
     rw (c.in-Ok.ensures.ok, c.in_ok-from_bytes.ensures) (read-next c.args.settings.now (of_cell (g.V.Spelled.is_short c.args.settings.now)) Whole (flagged g.V.Spelled.codec) [] c.args.count c.args.bytes.now
-    c.loop-at._at c.loop-at.run c.loop-at.rest.now c.loop-at.invariant c.in-Some.key.now c.in-Some.change c.in-Some.behind.now
+    c.loop-at._at c.loop-at.run c.loop-at.rest.now c.loop-at.invariant c.in-Some.key.now c.in-Some.change c.in-Some.following.now
     c.loop-at-test.true (rw c.in-Some.is at c.in_ok-key.ensures))
 
 pub returns : goal.returns

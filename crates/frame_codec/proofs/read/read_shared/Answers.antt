@@ -20,7 +20,7 @@ push_next-requires g c =
     let (es, whole) = c.in-Some.ensures in
     let (upto, last) = c.loop-at.invariant in
     rw c.as_bytes.ensures (whole-rises c.args.settings.now (g.V.Spelled.is_short c.args.settings.now) Shared g.V.Spelled.codec (take 510 c.args.low.now) c.args.count c.args.bytes.now es c.in-Some._end.now ((shared-taken c.args.settings.now (g.V.Spelled.is_short c.args.settings.now) g.V.Spelled.codec c.args.low.now c.args.count c.args.bytes.now (bytes-fit c.args.bytes.now c.type_inv.bytes)) ∙ whole)
-    c.loop-at._at c.loop-at.builder c.loop-at.rest.now upto c.read_next_entry.new.last c.in-Some-2.cell c.in-Some-2.behind.now
+    c.loop-at._at c.loop-at.builder c.loop-at.rest.now upto c.read_next_entry.new.last c.in-Some-2.cell c.in-Some-2.following.now
     c.loop-at-test.true (rw last (rw c.in-Some-2.is at c.in_ok-cell.ensures)))
 
 pub loop-at-preserved : goal.loop-at-preserved
@@ -28,7 +28,7 @@ loop-at-preserved g c =
     let (upto, last) = c.loop-at.invariant in
     rw (c.in_ok-push_next.ensures.ok, c.as_bytes.ensures) (
       read-next c.args.settings.now (g.V.Spelled.is_short c.args.settings.now) Shared g.V.Spelled.codec (take 510 c.args.low.now) c.args.count c.args.bytes.now
-          c.loop-at._at c.loop-at.builder c.loop-at.rest.now upto c.read_next_entry.new.last c.in-Some-2.cell c.in-Some-2.behind.now
+          c.loop-at._at c.loop-at.builder c.loop-at.rest.now upto c.read_next_entry.new.last c.in-Some-2.cell c.in-Some-2.following.now
           c.loop-at-test.true (rw last (rw c.in-Some-2.is at c.in_ok-cell.ensures)),
       last_key-push (take 510 c.args.low.now) c.loop-at.builder c.read_next_entry.new.last c.in-Some-2.cell,
     )

@@ -17,13 +17,13 @@ pub push_next-requires : goal.push_next-requires
 push_next-requires g c =
     let (es, whole) = c.in-Some.ensures in
     whole-rises c.args.settings.now (g.V.Spelled.is_short c.args.settings.now) Whole g.V.Spelled.codec [] c.args.count c.args.bytes.now es c.in-Some._end.now whole
-    c.loop-at._at c.loop-at.builder c.loop-at.rest.now c.loop-at.invariant c.in-Some-2.key.now c.in-Some-2.cell c.in-Some-2.behind.now
+    c.loop-at._at c.loop-at.builder c.loop-at.rest.now c.loop-at.invariant c.in-Some-2.key.now c.in-Some-2.cell c.in-Some-2.following.now
     c.loop-at-test.true (rw c.in-Some-2.is at c.in_ok-key.ensures)
 
 pub loop-at-preserved : goal.loop-at-preserved
 loop-at-preserved g c =
     rw c.in_ok-push_next.ensures.ok (read-next c.args.settings.now (g.V.Spelled.is_short c.args.settings.now) Whole g.V.Spelled.codec [] c.args.count c.args.bytes.now
-    c.loop-at._at c.loop-at.builder c.loop-at.rest.now c.loop-at.invariant c.in-Some-2.key.now c.in-Some-2.cell c.in-Some-2.behind.now
+    c.loop-at._at c.loop-at.builder c.loop-at.rest.now c.loop-at.invariant c.in-Some-2.key.now c.in-Some-2.cell c.in-Some-2.following.now
     c.loop-at-test.true (rw c.in-Some-2.is at c.in_ok-key.ensures))
 
 pub returns : goal.returns

@@ -22,7 +22,7 @@ returns-then-not-is_above g c =
     let (key, up) = c.loop-at.invariant in
     let (cell, is) = c.in_ok-key.ensures in
     passed-falls c.args.settings.now (g.C.Spelled.is_short c.args.settings.now) Whole g.C.Spelled.codec [] c.args.count c.args.bytes.now
-    c.loop-at._at (option_copied c.loop-at.last) key c.loop-at.rest.now up c.in_ok-key.key.now cell c.in_ok-key.behind.now
+    c.loop-at._at (option_copied c.loop-at.last) key c.loop-at.rest.now up c.in_ok-key.key.now cell c.in_ok-key.following.now
     c.loop-at-test.true is (sym c.is_above.ensures ∙ c.if-not-is_above.true)
 
 pub loop-at-preserved : goal.loop-at-preserved
@@ -31,7 +31,7 @@ loop-at-preserved g c =
     let (cell, is) = c.in_ok-key.ensures in (
       c.in_ok-key.key.now,
       passed-next c.args.settings.now (g.C.Spelled.is_short c.args.settings.now) Whole g.C.Spelled.codec [] c.args.count c.args.bytes.now
-          c.loop-at._at (option_copied c.loop-at.last) key c.loop-at.rest.now up c.in_ok-key.key.now cell c.in_ok-key.behind.now
+          c.loop-at._at (option_copied c.loop-at.last) key c.loop-at.rest.now up c.in_ok-key.key.now cell c.in_ok-key.following.now
           c.loop-at-test.true is _ refl (sym c.is_above.ensures ∙ c.if-not-is_above.false),
     )
 

@@ -2,7 +2,7 @@ use Rattle.std.proofs.Common.{◌≡◌, arith, refl}
 use Rattle.frame_codec.specs.Frame.{Content}
 use Rattle.frame_codec.specs.Skimmed.{kind_of}
 use Rattle.frame_codec.proofs.FoundLemmas.{IsReadOf, bytes-fit, length-wrong}
-use Rattle.frame_codec.proofs.SkimLemmas.{body-within, with_content, skim-none, skim-found, skim-told, frame-taken}
+use Rattle.frame_codec.proofs.SkimLemmas.{body-within, with_content, skim-none, skim-found, skim-reported, frame-taken}
 use Rattle.frame_codec.proofs.skim.skim_frame.Goals as goal
 
 pub returns-in_err-kind-clause-found : goal.returns-in_err-kind-clause-found
@@ -10,8 +10,8 @@ returns-in_err-kind-clause-found c =
     rw c.from_residual-in_err-kind.ensures (skim-none c.args.format.now c.args.bytes.now c.in_ok-number.number c.in_ok-number.len c.in_ok-number.pid c.in_ok-number.content.now
     (bytes-fit c.args.bytes.now c.type_inv.bytes) c.in_ok-number.ensures.header c.in_err-kind.ensures)
 
-pub frame_size-requires-clause-behind : goal.frame_size-requires-clause-behind
-frame_size-requires-clause-behind c =
+pub frame_size-requires-clause-following : goal.frame_size-requires-clause-following
+frame_size-requires-clause-following c =
     let (content, is, kind) = c.in_ok-kind.ensures in
     let found = skim-found c.args.format.now c.args.bytes.now c.in_ok-number.number c.in_ok-number.len c.in_ok-number.pid c.in_ok-number.content.now
     (bytes-fit c.args.bytes.now c.type_inv.bytes) c.in_ok-number.ensures.header content c.in_ok-kind.rest.now is in
@@ -35,7 +35,7 @@ read : (c : goal.In_ok-size) → (content : Content) × IsReadOf c.args.format.n
 read c =
     let (content, is, kind) = c.in_ok-kind.ensures in (
       content,
-      skim-told c.args.format.now c.args.bytes.now c.in_ok-number.number c.in_ok-number.len c.in_ok-number.pid c.in_ok-number.content.now
+      skim-reported c.args.format.now c.args.bytes.now c.in_ok-number.number c.in_ok-number.len c.in_ok-number.pid c.in_ok-number.content.now
           (bytes-fit c.args.bytes.now c.type_inv.bytes) c.in_ok-number.ensures.header content c.in_ok-kind.rest.now is c.in_ok-size.size c.in_ok-size.ensures c.in_ok-number.ensures.word,
       kind,
     )

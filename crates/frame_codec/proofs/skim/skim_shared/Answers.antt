@@ -27,7 +27,7 @@ returns-then-not-rises g c =
     sym (shared-taken c.args.settings.now (g.C.Spelled.is_short c.args.settings.now) g.C.Spelled.codec c.args.low.now c.args.count c.args.bytes.now (bytes-fit c.args.bytes.now c.type_inv.bytes))
     ∙ passed-falls c.args.settings.now (g.C.Spelled.is_short c.args.settings.now) Shared g.C.Spelled.codec (take 510 c.args.low.now) c.args.count c.args.bytes.now
     c.loop-at.at (last_of c.loop-at.at c.loop-at.last) c.loop-at.last c.loop-at.rest.now c.loop-at.invariant
-    c.skip_shared.new.last cell c.in_ok-rises.behind.now c.loop-at-test.true read
+    c.skip_shared.new.last cell c.in_ok-rises.following.now c.loop-at-test.true read
     (last_of-falls c.loop-at.at c.loop-at.last c.skip_shared.new.last c.in_ok-rises.rises is c.if-at-gt0.true c.if-not-rises.true)
 
 pub loop-at-preserved : goal.loop-at-preserved
@@ -40,7 +40,7 @@ loop-at-preserved g c =
     ] in
     passed-next c.args.settings.now (g.C.Spelled.is_short c.args.settings.now) Shared g.C.Spelled.codec (take 510 c.args.low.now) c.args.count c.args.bytes.now
     c.loop-at.at (last_of c.loop-at.at c.loop-at.last) c.loop-at.last c.loop-at.rest.now c.loop-at.invariant
-    c.skip_shared.new.last cell c.in_ok-rises.behind.now c.loop-at-test.true read
+    c.skip_shared.new.last cell c.in_ok-rises.following.now c.loop-at-test.true read
     (last_of (c.loop-at.at + 1) c.skip_shared.new.last) (last_of-next c.loop-at.at c.skip_shared.new.last)
     (last_of-above c.loop-at.at c.loop-at.last c.skip_shared.new.last c.in_ok-rises.rises is goes)
 

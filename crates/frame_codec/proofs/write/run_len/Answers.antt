@@ -2,7 +2,7 @@ use Rattle.std.proofs.Common.{[], length, ap, arith}
 use Rattle.std.specs.Option.{option_copied}
 use Rattle.frame_codec.specs.Codecs.{flagged}
 use Rattle.frame_codec.specs.declared.format.Spelling.TheVariants.{Whole}
-use Rattle.frame_codec.proofs.WriteLemmas.{spellable-at, length-behind, spelled-at_end}
+use Rattle.frame_codec.proofs.WriteLemmas.{spellable-at, length-following, spelled-at_end}
 use Rattle.frame_codec.proofs.write.run_len.Goals as goal
 
 pub flagged_len-requires : goal.flagged_len-requires
@@ -17,14 +17,14 @@ overflow_add-len-in-loop-at g c =
 
 pub overflow_add-len-in-loop-at-2 : goal.overflow_add-len-in-loop-at-2
 overflow_add-len-in-loop-at-2 g c =
-    let behind = length-behind Whole (flagged g.V.Spelled.codec) [] c.args.run.now [] c.loop-at.at c.key.result.now (option_copied c.change.result) c.key.ensures c.change.ensures in
+    let following = length-following Whole (flagged g.V.Spelled.codec) [] c.args.run.now [] c.loop-at.at c.key.result.now (option_copied c.change.result) c.key.ensures c.change.ensures in
     let invariant = c.loop-at.invariant in
     let few = c.requires.few in
     omega (arith, c.flagged_len.ensures)
 
 pub loop-at-preserved : goal.loop-at-preserved
 loop-at-preserved g c =
-    let behind = length-behind Whole (flagged g.V.Spelled.codec) [] c.args.run.now [] c.loop-at.at c.key.result.now (option_copied c.change.result) c.key.ensures c.change.ensures in
+    let following = length-following Whole (flagged g.V.Spelled.codec) [] c.args.run.now [] c.loop-at.at c.key.result.now (option_copied c.change.result) c.key.ensures c.change.ensures in
     let invariant = c.loop-at.invariant in
     omega (arith, c.flagged_len.ensures)
 

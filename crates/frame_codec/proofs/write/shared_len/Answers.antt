@@ -1,6 +1,6 @@
 use Rattle.std.proofs.Common.{length, ap, arith}
 use Rattle.frame_codec.specs.declared.format.Spelling.TheVariants.{Shared}
-use Rattle.frame_codec.proofs.WriteLemmas.{spellable-at, length-behind, spelled-at_end}
+use Rattle.frame_codec.proofs.WriteLemmas.{spellable-at, length-following, spelled-at_end}
 use Rattle.frame_codec.proofs.write.shared_len.Goals as goal
 
 pub sharing_len-requires : goal.sharing_len-requires
@@ -11,21 +11,21 @@ spelled_len-requires g c = (spellable-at g.V.Spelled.codec c.args.base.now c.loo
 
 pub overflow_add-len : goal.overflow_add-len
 overflow_add-len g c =
-    let behind = length-behind Shared g.V.Spelled.codec c.args.low.now c.args.base.now c.loop-at.before.now c.loop-at.at c.key-key.result.now c.cell-cell.result.now c.key-key.ensures c.cell-cell.ensures in
+    let following = length-following Shared g.V.Spelled.codec c.args.low.now c.args.base.now c.loop-at.before.now c.loop-at.at c.key-key.result.now c.cell-cell.result.now c.key-key.ensures c.cell-cell.ensures in
     let invariant = c.loop-at.invariant in
     let few = c.requires.few in
     omega (arith, c.sharing_len.ensures, c.spelled_len.ensures)
 
 pub overflow_add-len-in-loop-at : goal.overflow_add-len-in-loop-at
 overflow_add-len-in-loop-at g c =
-    let behind = length-behind Shared g.V.Spelled.codec c.args.low.now c.args.base.now c.loop-at.before.now c.loop-at.at c.key-key.result.now c.cell-cell.result.now c.key-key.ensures c.cell-cell.ensures in
+    let following = length-following Shared g.V.Spelled.codec c.args.low.now c.args.base.now c.loop-at.before.now c.loop-at.at c.key-key.result.now c.cell-cell.result.now c.key-key.ensures c.cell-cell.ensures in
     let invariant = c.loop-at.invariant in
     let few = c.requires.few in
     omega (arith, c.sharing_len.ensures, c.spelled_len.ensures)
 
 pub loop-at-preserved : goal.loop-at-preserved
 loop-at-preserved g c =
-    let behind = length-behind Shared g.V.Spelled.codec c.args.low.now c.args.base.now c.loop-at.before.now c.loop-at.at c.key-key.result.now c.cell-cell.result.now c.key-key.ensures c.cell-cell.ensures in
+    let following = length-following Shared g.V.Spelled.codec c.args.low.now c.args.base.now c.loop-at.before.now c.loop-at.at c.key-key.result.now c.cell-cell.result.now c.key-key.ensures c.cell-cell.ensures in
     let invariant = c.loop-at.invariant in
     omega (arith, c.sharing_len.ensures, c.spelled_len.ensures)
 

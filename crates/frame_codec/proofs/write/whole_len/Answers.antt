@@ -1,6 +1,6 @@
 use Rattle.std.proofs.Common.{[], length, ap, arith}
 use Rattle.frame_codec.specs.declared.format.Spelling.TheVariants.{Whole}
-use Rattle.frame_codec.proofs.WriteLemmas.{spellable-at, length-behind, spelled-at_end}
+use Rattle.frame_codec.proofs.WriteLemmas.{spellable-at, length-following, spelled-at_end}
 use Rattle.frame_codec.proofs.write.whole_len.Goals as goal
 
 pub spelled_len-requires : goal.spelled_len-requires
@@ -15,14 +15,14 @@ overflow_add-len-in-loop-at g c =
 
 pub overflow_add-len-in-loop-at-2 : goal.overflow_add-len-in-loop-at-2
 overflow_add-len-in-loop-at-2 g c =
-    let behind = length-behind Whole g.V.Spelled.codec [] c.args.base.now [] c.loop-at.at c.key.result.now c.cell.result.now c.key.ensures c.cell.ensures in
+    let following = length-following Whole g.V.Spelled.codec [] c.args.base.now [] c.loop-at.at c.key.result.now c.cell.result.now c.key.ensures c.cell.ensures in
     let invariant = c.loop-at.invariant in
     let few = c.requires.few in
     omega (arith, c.spelled_len.ensures)
 
 pub loop-at-preserved : goal.loop-at-preserved
 loop-at-preserved g c =
-    let behind = length-behind Whole g.V.Spelled.codec [] c.args.base.now [] c.loop-at.at c.key.result.now c.cell.result.now c.key.ensures c.cell.ensures in
+    let following = length-following Whole g.V.Spelled.codec [] c.args.base.now [] c.loop-at.at c.key.result.now c.cell.result.now c.key.ensures c.cell.ensures in
     let invariant = c.loop-at.invariant in
     omega (arith, c.spelled_len.ensures)
 

@@ -1,10 +1,10 @@
-use Rattle.page_search.proofs.NearestLemmas.{parts-goes_to, parts-there, parts-behind}
+use Rattle.page_search.proofs.NearestLemmas.{parts-goes_to, parts-there, parts-following}
 use Rattle.page_search.proofs.WalkLemmas.{least_there, least_apart}
 use Rattle.page_search.proofs.nearest.parting.Goals as goal
 
 pub returns-in-UpTo : goal.returns-in-UpTo
 returns-in-UpTo g c = record {
-  place = parts-behind _ _ _ _ c.place.ensures.rising c.in-Ok.ensures.place c.in-UpTo.is;
+  place = parts-following _ _ _ _ c.place.ensures.rising c.in-Ok.ensures.place c.in-UpTo.is;
   cost = c.in-Ok.ensures.cost;
   least = least_there _ _ _ _ _ _ c.in-Ok.ensures.place c.in-Ok.ensures.least;
   kept = c.in-Ok.ensures.kept;

@@ -6,15 +6,15 @@ use Rattle.page_search.proofs.PlaceLemmas.{below-through, above-onward}
 use Rattle.page_search.proofs.search.place.Goals as goal
 
 -- what is left after the middle, and what is left before it, has a digit less
-digits_behind : (low high : ℕ) → low < high → binary_digits (high - (low + (high - low) / 2 + 1)) + 1 ≤ binary_digits (high - low)
-digits_behind low high l = binary_digits-half (high - (low + (high - low) / 2 + 1)) (high - low) (omega arith) (omega arith)
+digits_after : (low high : ℕ) → low < high → binary_digits (high - (low + (high - low) / 2 + 1)) + 1 ≤ binary_digits (high - low)
+digits_after low high l = binary_digits-half (high - (low + (high - low) / 2 + 1)) (high - low) (omega arith) (omega arith)
 
 digits_before : (low high : ℕ) → low < high → binary_digits (low + (high - low) / 2 - low) + 1 ≤ binary_digits (high - low)
 digits_before low high l = binary_digits-half (low + (high - low) / 2 - low) (high - low) (omega arith) (omega arith)
 
 -- the places where the key would go, after the middle and before it, have a digit less and no fewer
-gaps_behind : (low high : ℕ) → low < high → binary_digits ((high - low + 1) / 2) ≤ binary_digits ((high - (low + (high - low) / 2 + 1) + 1) / 2) + 1
-gaps_behind low high l = binary_digits-twice ((high - (low + (high - low) / 2 + 1) + 1) / 2) ((high - low + 1) / 2) (omega arith)
+gaps_after : (low high : ℕ) → low < high → binary_digits ((high - low + 1) / 2) ≤ binary_digits ((high - (low + (high - low) / 2 + 1) + 1) / 2) + 1
+gaps_after low high l = binary_digits-twice ((high - (low + (high - low) / 2 + 1) + 1) / 2) ((high - low + 1) / 2) (omega arith)
 
 gaps_before : (low high : ℕ) → low < high → binary_digits ((high - low + 1) / 2) ≤ binary_digits ((low + (high - low) / 2 - low + 1) / 2) + 1
 gaps_before low high l = binary_digits-twice ((low + (high - low) / 2 - low + 1) / 2) ((high - low + 1) / 2) (omega arith)
@@ -25,8 +25,8 @@ loop-low-preserved-in-Less g c = record {
   within = c.loop-low.invariant.within;
   below = below-through _ _ _ _ c.len-high.ensures.rising c.key_ref.ensures (sym c.in-Less.ensures.order);
   above = c.loop-low.invariant.above;
-  cost = omega (arith, c.compare.ensures.counted, digits_behind c.loop-low.low c.loop-low.high c.loop-low-test.true);
-  least = omega (arith, c.compare.ensures.counted, gaps_behind c.loop-low.low c.loop-low.high c.loop-low-test.true);
+  cost = omega (arith, c.compare.ensures.counted, digits_after c.loop-low.low c.loop-low.high c.loop-low-test.true);
+  least = omega (arith, c.compare.ensures.counted, gaps_after c.loop-low.low c.loop-low.high c.loop-low-test.true);
   kept = omega (arith, c.compare.ensures.kept);
 }
 

@@ -1,7 +1,7 @@
 use Rattle.std.proofs.Common.{◌++◌, List, Vec, map, refl, sym, ap, subst, ◌∙◌}
 use Rattle.std.specs.Map.{keys_of}
 use Rattle.mapping.specs.Proper.{AreRisingPids}
-use Rattle.recovery.specs.BuiltTree.{log_pids, pages_told, filled}
+use Rattle.recovery.specs.BuiltTree.{log_pids, pages_of_logs, filled}
 use Rattle.recovery.specs.Rebuild.{HeldLog, held_log}
 use Rattle.recovery.specs.declared.rebuild.PageLog.{PageLog}
 use Rattle.recovery.proofs.BuildLemmas.{AreAside, aside-none, aside-more, aside-passed, aside-rise, aside-built, put-aside, empty_by}
@@ -41,5 +41,5 @@ loop-entry-preserved-in-Continue-branch-2 g c =
     aside-more s t (map held_log c.loop-entry.logs.items) c.loop-entry.entry-iterator c.next.new.self c.args.by_pid.entries c.loop-entry.invariant c.in-Some.entry c.in-Some.ensures.steps
     now (put-aside _ _ _ c.in-Some.entry c.in_ok-push.ensures.items refl) in
     aside-built s t now c.next.new.self c.args.by_pid.entries more c.build_pages.new.table (map held_log c.replace-full.new.dest.items)
-    (c.in_ok-build_pages.ensures.ok ∙ ap (λ (v : Vec PageLog _). filled t (pages_told s (map held_log v.items))) c.replace-full.ensures.value)
+    (c.in_ok-build_pages.ensures.ok ∙ ap (λ (v : Vec PageLog _). filled t (pages_of_logs s (map held_log v.items))) c.replace-full.ensures.value)
     (ap (λ (v : Vec PageLog _). map held_log v.items) c.replace-full.ensures.after ∙ ap (λ (ls : List PageLog). map held_log ls) c.new.ensures.items)

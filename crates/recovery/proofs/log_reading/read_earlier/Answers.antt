@@ -50,10 +50,10 @@ loop-first-preserved g c =
       counted = c.in_ok-segments.ensures.counted ∙ so_far.counted;
       read = λ w file is none.
           let (now, upto) = so_far.read w file is none in
-          let (then, bytes, front, told) = c.in_ok-segments.ensures.read now t.head upto.bytes from (omega (arith, free, few, less, last, from)) in (
+          let (then, bytes, front, state) = c.in_ok-segments.ensures.read now t.head upto.bytes from (omega (arith, free, few, less, last, from)) in (
             then,
             round-more (IsSoFar w c.loop-first.so_far.gathering c.loop-first.so_far.fault) (IsSoFar w c.take.new.self.gathering c.take.new.self.fault) old new format t.head (n - t.head) (n + count - t.head) c.in_ok-segments.segments.items file now then
-                upto bytes front told (c.in_ok-take.ensures.ok w),
+                upto bytes front state (c.in_ok-take.ensures.ok w),
           );
     }
 

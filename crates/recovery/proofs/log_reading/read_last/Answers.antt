@@ -6,7 +6,7 @@ use Rattle.flush_log.specs.Segments.{place_of_segment, last_segment}
 use Rattle.flush_log.proofs.FitLemmas.{are_sized}
 use Rattle.flush_log.proofs.PlaceLemmas.{place-within}
 use Rattle.recovery.specs.Recovered.{IsReadOf}
-use Rattle.recovery.proofs.ReadLog.{Told, one-scanned, read-last}
+use Rattle.recovery.proofs.ReadLog.{ReadResult, one-scanned, read-last}
 use Rattle.recovery.proofs.log_reading.read_last.Goals as goal
 
 pub read-requires : goal.read-requires
@@ -29,7 +29,7 @@ returns-clause-read g c file is =
     let n = c.last_segment-number.result in
     let buf = c.read.new.buf in
     let now = overlay file (place_of_segment s n) buf in
-    let told : Told = read_earlier format file t.head (last_segment s t.tail - t.head) in
+    let state : ReadResult = read_earlier format file t.head (last_segment s t.tail - t.head) in
     let used = c.bytes_in_use.ensures.within in
     let enough = c.requires.room in
     let fits : c.bytes_in_use.result ≤ length c.args.buf.now = omega (arith, used, enough) in
@@ -38,5 +38,5 @@ returns-clause-read g c file is =
       now,
       subst (λ (p : ℕ). IsReadOf (g.D.Disk.view c.read.new.disk) (overlay file p buf)) c.place_of_segment.ensures (c.in_ok-read.ensures.bytes file is),
       front,
-      one-scanned format told c.in_ok-segments.segments.items c.push_reserved.new.self.items _ c.push_reserved.ensures.items c.in_ok-segments.ensures.items ∙ whole,
+      one-scanned format state c.in_ok-segments.segments.items c.push_reserved.new.self.items _ c.push_reserved.ensures.items c.in_ok-segments.ensures.items ∙ whole,
     )

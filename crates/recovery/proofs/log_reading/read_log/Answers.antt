@@ -28,7 +28,7 @@ returns-in_err-read_segments-clause-read g c file is =
     let failed = g.D.Disk.failed in
     let format = c.args.format.now in
     let t = c.args.ends.now in
-    let (now, read, front, told) = c.in_err-read_segments.ensures.read c.args.wanted file is c.new-so_far.ensures in (
+    let (now, read, front, state) = c.in_err-read_segments.ensures.read c.args.wanted file is c.new-so_far.ensures in (
       now,
       read,
       front,
@@ -42,10 +42,10 @@ returns-clause-read g c file is =
     let failed = g.D.Disk.failed in
     let format = c.args.format.now in
     let t = c.args.ends.now in
-    let (now, read, front, told) = c.in_ok-read_segments.ensures.read c.args.wanted file is c.new-so_far.ensures in (
+    let (now, read, front, state) = c.in_ok-read_segments.ensures.read c.args.wanted file is c.new-so_far.ensures in (
       now,
       read,
       front,
       gathered-all format c.args.wanted (failed c.args.disk.now) (failed c.read_segments.new.disk) (log_between format now t.head t.tail) (λ found e. log-within format now t.head t.tail found e)
-          c.into_gathering.result (c.into_gathering.ensures c.args.wanted (log_between format now t.head t.tail) told),
+          c.into_gathering.result (c.into_gathering.ensures c.args.wanted (log_between format now t.head t.tail) state),
     )

@@ -4,13 +4,13 @@ use Rattle.flush_log.specs.Segments.{last_segment}
 use Rattle.recovery.specs.Gathered.{IsSoFar}
 use Rattle.recovery.specs.Recovered.{IsLate}
 use Rattle.recovery.proofs.ReadBytes.{IsUncounted, kept_then, same_on, late_since, err_on, not_ok, counted_by, uncounted_by, late_by_memory}
-use Rattle.recovery.proofs.ReadLog.{Told, last-taken}
+use Rattle.recovery.proofs.ReadLog.{ReadResult, last-taken}
 use Rattle.recovery.proofs.log_reading.read_segments.Goals as goal
 
 -- the segments in front of the last one were not read
 pub returns-in_err-read_earlier-clause-read : goal.returns-in_err-read_earlier-clause-read
 returns-in_err-read_earlier-clause-read g c w file is none =
-    let (now, bytes, front, told) = c.in_err-read_earlier.ensures.read w file is none in (
+    let (now, bytes, front, state) = c.in_err-read_earlier.ensures.read w file is none in (
       now,
       bytes,
       front,
@@ -35,7 +35,7 @@ returns-in_err-read_earlier-clause-uncounted g c =
 -- the last one was not
 pub returns-in_err-segments-clause-read : goal.returns-in_err-segments-clause-read
 returns-in_err-segments-clause-read g c w file is none =
-    let (now, bytes, front, told) = c.in_ok-read_earlier.ensures.read w file is none in
+    let (now, bytes, front, state) = c.in_ok-read_earlier.ensures.read w file is none in
     let (then, got, stays, rest) = c.in_err-segments.ensures.read now bytes in (
       then,
       got,
@@ -73,10 +73,10 @@ pub returns-clause-read : goal.returns-clause-read
 returns-clause-read g c w file is none =
     let format = c.args.format.now in
     let t = c.args.ends.now in
-    let (now, bytes, front, told) = c.in_ok-read_earlier.ensures.read w file is none in
+    let (now, bytes, front, state) = c.in_ok-read_earlier.ensures.read w file is none in
     let (then, got, stays, all) = c.in_ok-segments.ensures.read now bytes in
-    let earlier : Told = read_earlier format now t.head (last_segment format.settings t.tail - t.head) in
-    (then, got, stays ∙ front, last-taken c.take.result (IsSoFar w c.take.new.self.gathering c.take.new.self.fault) _ (log_between format then t.head t.tail) all (c.take.ensures.ok w earlier told))
+    let earlier : ReadResult = read_earlier format now t.head (last_segment format.settings t.tail - t.head) in
+    (then, got, stays ∙ front, last-taken c.take.result (IsSoFar w c.take.new.self.gathering c.take.new.self.fault) _ (log_between format then t.head t.tail) all (c.take.ensures.ok w earlier state))
 
 pub returns-clause-err : goal.returns-clause-err
 returns-clause-err g c = let failed = g.D.Disk.failed in late_by_memory c.take.result (failed c.args.disk.now) (failed c.read_last.new.disk) c.take.ensures.err

@@ -8,7 +8,7 @@ use Rattle.flush_log.proofs.PlaceLemmas.{place-within}
 use Rattle.recovery.specs.Recovered.{IsReadOf}
 use Rattle.recovery.specs.Scan.{held_segment}
 use Rattle.recovery.proofs.ReadBytes.{kept_then, same_then}
-use Rattle.recovery.proofs.ReadLog.{one-left, behind-next, behind-all}
+use Rattle.recovery.proofs.ReadLog.{one-left, following-next, following-all}
 use Rattle.recovery.proofs.log_reading.read_whole.Goals as goal
 
 pub read-requires : goal.read-requires
@@ -62,7 +62,7 @@ loop-number-preserved g c =
           let (now, upto) = so_far.read file head is low high in
           let at : n ≡ head + (n - head) = omega (arith, low, from) in (
             overlay now (place_of_segment s n) c.read.new.buf,
-            behind-next format head (c.args.first - head) (n - head) (n + 1 - head) n c.loop-number.segments.items c.push_reserved.new.self.items _ file now c.read.new.buf old new c.requires.checked size
+            following-next format head (c.args.first - head) (n - head) (n + 1 - head) n c.loop-number.segments.items c.push_reserved.new.self.items _ file now c.read.new.buf old new c.requires.checked size
                 refl c.push_reserved.ensures.items at (omega (arith, low, from)) (omega (arith, low, from, less, high)) (omega (arith, same, front)) upto
                 (subst (λ (p : ℕ). IsReadOf new (overlay now p c.read.new.buf)) place (read.bytes now upto.bytes)),
           );
@@ -79,5 +79,5 @@ returns-clause-read g c file head is low high =
       now,
       upto.bytes,
       upto.front,
-      behind-all (g.D.Disk.view c.loop-number.disk) format head (c.args.first - head) (c.loop-number.number - head) _ c.loop-number.segments.items file now all upto,
+      following-all (g.D.Disk.view c.loop-number.disk) format head (c.args.first - head) (c.loop-number.number - head) _ c.loop-number.segments.items file now all upto,
     )

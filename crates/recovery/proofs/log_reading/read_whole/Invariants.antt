@@ -5,7 +5,7 @@ use Rattle.keys.specs.Bytes.{Bytes}
 use Rattle.flush_log.specs.Disk.{Kept, Same}
 use Rattle.recovery.specs.Recovered.{IsReadOf}
 use Rattle.recovery.specs.Scan.{held_segment}
-use Rattle.recovery.proofs.ReadLog.{AreReadBehind}
+use Rattle.recovery.proofs.ReadLog.{AreReadAfter}
 use Rattle.recovery.proofs.log_reading.read_whole.Given as goal
 
 -- the segments before this one were read, and no read has failed
@@ -21,5 +21,5 @@ invariant-loop-number g l =
       same : IsTrue (disk.view l.fn.disk).is_honest → Same (disk.view l.fn.disk) (disk.view l.disk);
       counted : disk.failed l.disk ≡ disk.failed l.fn.disk;
       read : (file : Bytes) (head : ℕ) → IsReadOf (disk.view l.fn.disk) file → head ≤ l.first → l.first + l.count ≤ head + l.format.settings.segments →
-          (now : Bytes) × AreReadBehind (disk.view l.disk) l.format head (l.first - head) (l.number - head) l.segments.items file now;
+          (now : Bytes) × AreReadAfter (disk.view l.disk) l.format head (l.first - head) (l.number - head) l.segments.items file now;
     }

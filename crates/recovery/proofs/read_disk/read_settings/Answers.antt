@@ -2,7 +2,7 @@ use Rattle.std.proofs.Common.{arith, inl, rules}
 use Rattle.flush_log.specs.SettingsBlock.{store_settings}
 use Rattle.flush_log.specs.Overlay.{overlay}
 use Rattle.recovery.specs.Recovered.{IsLate}
-use Rattle.recovery.proofs.ReadBytes.{IsUncounted, first_read, as_told, err_on, uncounted_by}
+use Rattle.recovery.proofs.ReadBytes.{IsUncounted, first_read, as_read, err_on, uncounted_by}
 use Rattle.recovery.proofs.ReadBlock.{too_short, block-start}
 use Rattle.recovery.proofs.read_disk.read_settings.Goals as goal
 
@@ -24,7 +24,7 @@ returns-clause-read g c =
     let long = c.read.auto.buf in (
       now,
       is_now,
-      as_told (store_settings now) (IsLate (g.D.Disk.failed c.args.disk.now) (g.D.Disk.failed c.read.new.disk)) c.settings_in.result
+      as_read (store_settings now) (IsLate (g.D.Disk.failed c.args.disk.now) (g.D.Disk.failed c.read.new.disk)) c.settings_in.result
           (c.settings_in.ensures.read now (block-start file c.read.new.buf (let w = is.whole in omega arith) (omega (arith, long))) (let w = is_now.whole in let k = c.read.ensures.kept.size in omega (arith, w, k))),
     )
 

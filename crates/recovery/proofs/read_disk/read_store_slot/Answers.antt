@@ -2,7 +2,7 @@ use Rattle.std.proofs.Common.{◌≡◌, ◌⊎◌, Ok, Err, ◌∙◌, arith, i
 use Rattle.flush_log.specs.Overlay.{overlay}
 use Rattle.flush_log.specs.Slot.{store_slot}
 use Rattle.recovery.specs.Recovered.{IsLate}
-use Rattle.recovery.proofs.ReadBytes.{IsUncounted, as_told, handed_on, err_on, uncounted_by}
+use Rattle.recovery.proofs.ReadBytes.{IsUncounted, as_read, handed_on, err_on, uncounted_by}
 use Rattle.recovery.proofs.ReadSlots.{slots-settings, slots-read}
 use Rattle.recovery.proofs.read_disk.read_store_slot.Goals as goal
 
@@ -27,7 +27,7 @@ returns-clause-read g c file is settings =
       now,
       c.in_ok-read.ensures.bytes file is,
       slots-settings file slots (omega (arith, whole, within)) (omega (arith, long)) ∙ settings,
-      as_told (store_slot s now) (IsLate (g.D.Disk.failed c.args.disk.now) (g.D.Disk.failed c.read.new.disk)) c.slot_in.result
+      as_read (store_slot s now) (IsLate (g.D.Disk.failed c.args.disk.now) (g.D.Disk.failed c.read.new.disk)) c.slot_in.result
           (c.slot_in.ensures.read now (slots-read file slots (omega (arith, whole, within)) (omega (arith, long)))),
     )
 

@@ -2,11 +2,11 @@ use Rattle.std.proofs.Common.{true, false, Option, Some, sym, ap, ◌∙◌}
 use Rattle.frame_codec.specs.Shown.{frame_of}
 use Rattle.index_page.specs.Page.{PageOfKind}
 use Rattle.recovery.specs.Rebuild.{page_of_parts}
-use Rattle.recovery.proofs.RebuildLemmas.{IsReadAt, less_behind, upto-first, upto-more, told-all, told-other, told-unfit, told-none, told-no_base, tail_by}
+use Rattle.recovery.proofs.RebuildLemmas.{IsReadAt, less_after, upto-first, upto-more, state-all, state-other, state-unfit, state-none, state-no_base, tail_by}
 use Rattle.recovery.proofs.rebuild.rebuild.Goals as goal
 
 pub returns-in_default : goal.returns-in_default
-returns-in_default c = told-none c.args.format.now c.args.frames.now (rw c.in_default.is at c.in_ok-base.ensures.found)
+returns-in_default c = state-none c.args.format.now c.args.frames.now (rw c.in_default.is at c.in_ok-base.ensures.found)
 
 pub returns-in_default-of_base : goal.returns-in_default-of_base
 returns-in_default-of_base c =
@@ -15,7 +15,7 @@ returns-in_default-of_base c =
       long = rw c.in-Some.is at c.in_ok-base.ensures.size;
       within = rw c.in-Some.is at c.in_ok-base.ensures.within;
     } in
-    told-no_base c.args.format.now c.args.frames.now (frame_of c.in-Some.base) c.in-Some.size at c.in_default-of_base.ensures
+    state-no_base c.args.format.now c.args.frames.now (frame_of c.in-Some.base) c.in-Some.size at c.in_default-of_base.ensures
 
 pub loop-rest-init : goal.loop-rest-init
 loop-rest-init c =
@@ -27,7 +27,7 @@ loop-rest-init c =
     upto-first c.args.format.now c.args.frames.now (frame_of c.in-Some.base) c.in-Some.size (page_of_parts c.in-Some-of_base.begun) at c.in-Some-of_base.ensures
 
 pub returns-in_default-2 : goal.returns-in_default-2
-returns-in_default-2 c = told-other c.args.format.now c.args.frames.now c.loop-rest.rest.now (page_of_parts c.loop-rest.page) c.loop-rest.invariant (tail_by c.loop-rest.rest.now false (sym c.is_empty.ensures ∙ c.loop-rest-test.true)) (rw c.in_default-2.is at c.in_ok-run.ensures.found)
+returns-in_default-2 c = state-other c.args.format.now c.args.frames.now c.loop-rest.rest.now (page_of_parts c.loop-rest.page) c.loop-rest.invariant (tail_by c.loop-rest.rest.now false (sym c.is_empty.ensures ∙ c.loop-rest-test.true)) (rw c.in_default-2.is at c.in_ok-run.ensures.found)
 
 pub returns-in_default-3 : goal.returns-in_default-3
 returns-in_default-3 c =
@@ -36,7 +36,7 @@ returns-in_default-3 c =
       long = rw c.in-Some-2.is at c.in_ok-run.ensures.size;
       within = rw c.in-Some-2.is at c.in_ok-run.ensures.within;
     } in
-    told-unfit c.args.format.now c.args.frames.now c.loop-rest.rest.now (page_of_parts c.loop-rest.page) (frame_of c.in-Some-2.run') c.in-Some-2.size c.loop-rest.invariant at
+    state-unfit c.args.format.now c.args.frames.now c.loop-rest.rest.now (page_of_parts c.loop-rest.page) (frame_of c.in-Some-2.run') c.in-Some-2.size c.loop-rest.invariant at
     (rw c.in_default-3.is at c.in_ok-newer.ensures)
 
 pub loop-rest-smaller : goal.loop-rest-smaller
@@ -46,7 +46,7 @@ loop-rest-smaller c =
       long = rw c.in-Some-2.is at c.in_ok-run.ensures.size;
       within = rw c.in-Some-2.is at c.in_ok-run.ensures.within;
     } in
-    less_behind c.args.format.now c.loop-rest.rest.now (frame_of c.in-Some-2.run') c.in-Some-2.size at
+    less_after c.args.format.now c.loop-rest.rest.now (frame_of c.in-Some-2.run') c.in-Some-2.size at
 
 pub loop-rest-preserved : goal.loop-rest-preserved
 loop-rest-preserved c =
@@ -59,7 +59,7 @@ loop-rest-preserved c =
     (rw c.in-Some-3.is at c.in_ok-newer.ensures)
 
 pub returns : goal.returns
-returns c = ap some_page c.in_ok-into_page.ensures ∙ told-all c.args.format.now c.args.frames.now c.loop-rest.rest.now (page_of_parts c.loop-rest.page) c.loop-rest.invariant (tail_by c.loop-rest.rest.now true (sym c.is_empty.ensures ∙ c.loop-rest-test.false))
+returns c = ap some_page c.in_ok-into_page.ensures ∙ state-all c.args.format.now c.args.frames.now c.loop-rest.rest.now (page_of_parts c.loop-rest.page) c.loop-rest.invariant (tail_by c.loop-rest.rest.now true (sym c.is_empty.ensures ∙ c.loop-rest-test.false))
   where
     some_page : PageOfKind → Option PageOfKind
     some_page p = Some p

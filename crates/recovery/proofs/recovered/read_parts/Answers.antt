@@ -23,12 +23,12 @@ returns-in_err-slot-clause-read g c =
     let mid = view c.read_settings.new.disk in
     let new = view c.read_store_slot.new.disk in
     let (file, read, is) = c.in_ok-settings.ensures.read in
-    let (now, got, settings, told) = c.in_err-slot.ensures.read file read is in
+    let (now, got, settings, state) = c.in_err-slot.ensures.read file read is in
     let p = err_from_is_err_and c.from_residual-in_err-slot.result c.from_residual-in_err-slot.ensures.1 in
     rw (p.1, p.2) (
       now,
       read_before old new now (kept_then old mid new c.in_ok-settings.ensures.kept c.in_err-slot.ensures.kept) (returns-in_err-slot-clause-same g c) got,
-      ⊎_elim (λ wrong. inl (no_slot now _ settings _ wrong)) (λ late. inr (late_since _ _ _ _ c.in_ok-settings.ensures.counted late)) told,
+      ⊎_elim (λ wrong. inl (no_slot now _ settings _ wrong)) (λ late. inr (late_since _ _ _ _ c.in_ok-settings.ensures.counted late)) state,
     )
 
 pub returns-in_err-gathering-clause-same : goal.returns-in_err-gathering-clause-same
@@ -49,7 +49,7 @@ returns-in_err-gathering-clause-read g c =
     let new = view c.read_log.new.disk in
     let (file, read, is) = c.in_ok-settings.ensures.read in
     let (next, then, settings, slot) = c.in_ok-slot.ensures.read file read is in
-    let (now, got, front, told) = c.in_err-gathering.ensures.read next then in
+    let (now, got, front, state) = c.in_err-gathering.ensures.read next then in
     let (same, stays) = in-front c.in_ok-settings.settings next now old later new c.in_ok-settings.ensures.good.1 (kept_then old mid later c.in_ok-settings.ensures.kept c.in_ok-slot.ensures.kept) c.in_err-gathering.ensures.kept then got front _ settings slot in
     let p = err_from_is_err_and c.from_residual-in_err-gathering.result c.from_residual-in_err-gathering.ensures.1 in
     rw (p.1, p.2) (
@@ -57,7 +57,7 @@ returns-in_err-gathering-clause-read g c =
       read_before old new now (kept_then old later new (kept_then old mid later c.in_ok-settings.ensures.kept c.in_ok-slot.ensures.kept) c.in_err-gathering.ensures.kept)
           (returns-in_err-gathering-clause-same g c) got,
       ⊎_elim (λ wrong. inl (no_log now _ same _ stays _ (ap (λ (t : Slot). log c.in_ok-settings.settings now t) (sym c.slot.view_is) ∙ wrong)))
-          (λ late. inr (late_since _ _ _ _ c.in_ok-settings.ensures.counted (late_since _ _ _ _ c.in_ok-slot.ensures.counted late))) told,
+          (λ late. inr (late_since _ _ _ _ c.in_ok-settings.ensures.counted (late_since _ _ _ _ c.in_ok-slot.ensures.counted late))) state,
     )
 
 pub returns-clause-same : goal.returns-clause-same
@@ -78,9 +78,9 @@ returns-clause-read g c =
     let new = view c.read_log.new.disk in
     let (file, read, is) = c.in_ok-settings.ensures.read in
     let (next, then, settings, slot) = c.in_ok-slot.ensures.read file read is in
-    let (now, got, front, told) = c.in_ok-gathering.ensures.read next then in
+    let (now, got, front, state) = c.in_ok-gathering.ensures.read next then in
     let (same, stays) = in-front c.in_ok-settings.settings next now old later new c.in_ok-settings.ensures.good.1 (kept_then old mid later c.in_ok-settings.ensures.kept c.in_ok-slot.ensures.kept) c.in_ok-gathering.ensures.kept then got front _ settings slot in
-    let (found, is_log, gathered) = told in (
+    let (found, is_log, gathered) = state in (
       now,
       read_before old new now (kept_then old later new (kept_then old mid later c.in_ok-settings.ensures.kept c.in_ok-slot.ensures.kept) c.in_ok-gathering.ensures.kept)
           (returns-clause-same g c) got,

@@ -11,4 +11,4 @@ pub returns-clause-wipe : goal.returns-clause-wipe
 returns-clause-wipe g c = reply_at-wipe
 
 pub returns-clause-determined : goal.returns-clause-determined
-returns-clause-determined g c cs ps xs rs answers made len told scans wipes = replies_determined cs ps rs answers told scans wipes xs made len
+returns-clause-determined g c cs ps xs rs answers made len reported scans wipes = replies_determined cs ps rs answers reported scans wipes xs made len

@@ -19,12 +19,12 @@ returns-then-keyed-eq1-clause-first c = λ cs z h. from_begun cs c.args.page.now
 pub returns-in-Some-clause-some : goal.returns-in-Some-clause-some
 returns-in-Some-clause-some c =
     (first_share_at c.requires.ready.0 c.args.page.now c.args.keyed.now c.count_below.result c.child_with_end-pid.result.0 (Some c.in-Some.end.now) _ c.requires.some c.requires.ready.1 (rw c.in-Some.is at c.child_with_end-pid.ensures.child ∙ ap (λ (k : List ℕ). child_with_end k (child_entries c.args.page.now)) c.as_bytes-key.ensures)
-    (record { before = c.count_below.ensures.below; behind = c.count_below.ensures.others })).0
+    (record { before = c.count_below.ensures.below; following = c.count_below.ensures.others })).0
 
 pub returns-in-Some-clause-first : goal.returns-in-Some-clause-first
 returns-in-Some-clause-first c = λ cs z h. from_begun cs c.args.page.now c.args.keyed.now c.count_below.result _ z
     (first_share_at cs c.args.page.now c.args.keyed.now c.count_below.result c.child_with_end-pid.result.0 (Some c.in-Some.end.now) _ c.requires.some h (rw c.in-Some.is at c.child_with_end-pid.ensures.child ∙ ap (λ (k : List ℕ). child_with_end k (child_entries c.args.page.now)) c.as_bytes-key.ensures)
-    (record { before = c.count_below.ensures.below; behind = c.count_below.ensures.others })).1
+    (record { before = c.count_below.ensures.below; following = c.count_below.ensures.others })).1
 
 pub returns-in-None-clause-first : goal.returns-in-None-clause-first
 returns-in-None-clause-first c = λ cs z h. from_begun cs c.args.page.now c.args.keyed.now (length c.args.keyed.now) _ z

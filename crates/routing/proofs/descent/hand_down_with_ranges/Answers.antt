@@ -55,7 +55,7 @@ loop-key-smaller c =
     let w = walking cs page low k rs es _ start (take_rest es start) can c.loop-key.invariant.at key in
     let onward = c.in_ok-onward-in-Some-end.ensures ∙ ap (λ (xs : List ℕ). filter (reaches_at cs end) (xs ++ places_of (slice_range es start (start + n)))) c.deref-in-Some-end.ensures.value in
     (scan_on cs page low k end rs c.in_ok-onward-in-Some-end.onward.items es _ start n (start + n) c.child_with_end-pid.result.0 (take_rest es start) refl w (rw c.in-Some-end.is at c.child_with_end-pid.ensures.child)
-    (record { before = c.count_below.ensures.below; behind = c.count_below.ensures.others }) onward).1
+    (record { before = c.count_below.ensures.below; following = c.count_below.ensures.others }) onward).1
 
 pub loop-key-preserved : goal.loop-key-preserved
 loop-key-preserved c =
@@ -81,8 +81,8 @@ loop-key-preserved c =
     let child = rw c.in-Some-end.is at c.child_with_end-pid.ensures.child in
     record {
       most = omega arith;
-      at = (scan_on cs page low k end rs on es _ start n (start + n) pid rest refl w child (record { before = c.count_below.ensures.below; behind = c.count_below.ensures.others }) onward).0;
-      shares = scan_step cs page low k end rs on es _ start n (start + n) pid old new _ _ rest refl w child (record { before = c.count_below.ensures.below; behind = c.count_below.ensures.others })
+      at = (scan_on cs page low k end rs on es _ start n (start + n) pid rest refl w child (record { before = c.count_below.ensures.below; following = c.count_below.ensures.others }) onward).0;
+      shares = scan_step cs page low k end rs on es _ start n (start + n) pid old new _ _ rest refl w child (record { before = c.count_below.ensures.below; following = c.count_below.ensures.others })
           (ap (λ (s : Lent). s.pid) made) (ap (λ (s : Lent). s.keyed) made) (ap (λ (s : Lent). s.reaching) made ∙ c.in_ok-kept-in-Some-end.ensures) c.in_ok-push-in-Some-end.ensures.items onward c.loop-key.invariant.shares;
       keys = λ a. keys_step cs es start (start + n) old new _ (ap (λ (s : Lent). s.keyed) made) c.in_ok-push-in-Some-end.ensures.items can.keys (c.loop-key.invariant.keys a);
     }

@@ -1,7 +1,7 @@
 use Rattle.std.proofs.Common.{◌≡◌, ◌++◌, drop, take, map}
-use Rattle.scan.specs.Leaf.{behind}
+use Rattle.scan.specs.Leaf.{pairs_after}
 use Rattle.scan.proofs.changes.pass_all.Given as goal
 
 -- the runs up to here have gone past the key, the others stand as they stood
 abbrev pub invariant-loop-at : goal.invariant-loop-at
-invariant-loop-at l = l.runs ≡ map (behind l.key) (take l.at l.initial.runs) ++ drop l.at l.initial.runs
+invariant-loop-at l = l.runs ≡ map (pairs_after l.key) (take l.at l.initial.runs) ++ drop l.at l.initial.runs

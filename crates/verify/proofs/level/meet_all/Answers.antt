@@ -39,5 +39,5 @@ returns-in_err-pairs-clause-err c =
     let h = from_here ats at p c.loop-at-test.true c.index-places-at.is in
     let i = drop_more seen at (Broken 0) within in
     let e = ap (λ z. z.pid) c.place.view_is in
-    let told = fault_step ats seen at p s h i c.loop-at.met c.place.inside.pid _ _ e c.loop-at.invariant.found c.in_err-pairs.ensures.err in
-    err_of c.from_residual.result _ _ c.from_residual.ensures.1 (λ fault same. subst (IsFaultOf (first_found c.args.met.now ats seen)) (sym same) told)
+    let reported = fault_step ats seen at p s h i c.loop-at.met c.place.inside.pid _ _ e c.loop-at.invariant.found c.in_err-pairs.ensures.err in
+    err_of c.from_residual.result _ _ c.from_residual.ensures.1 (λ fault same. subst (IsFaultOf (first_found c.args.met.now ats seen)) (sym same) reported)

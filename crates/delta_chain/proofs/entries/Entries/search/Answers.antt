@@ -2,13 +2,13 @@ use Rattle.std.proofs.Common.{◌≡◌, true, rules, ◌∙◌, refl}
 use Rattle.std.proofs.lemmas.Fn.{always_returns_same}
 use Rattle.keys.specs.Order.{order}
 use Rattle.delta_chain.specs.Building.{goes_last}
-use Rattle.delta_chain.proofs.Alone.{behind_alone, found_alone, before_alone}
+use Rattle.delta_chain.proofs.Alone.{after_alone, found_alone, before_alone}
 use Rattle.delta_chain.proofs.Setting.{searched, above_all}
 use Rattle.delta_chain.proofs.entries.Entries.search.Goals as goal
 
 pub returns-in-Less : goal.returns-in-Less
 returns-in-Less g c =
-    rw (← c.self.view_is, c.in-One.is) (behind_alone c.in-One.entry c.key_ref.result c.args.key.now c.args.key.now c.key_ref.ensures refl c.in-Less.ensures)
+    rw (← c.self.view_is, c.in-One.is) (after_alone c.in-One.entry c.key_ref.result c.args.key.now c.args.key.now c.key_ref.ensures refl c.in-Less.ensures)
 
 pub returns-in-Equal : goal.returns-in-Equal
 returns-in-Equal g c =

@@ -22,8 +22,8 @@ invariant_of-self g c =
     let s = c.self.inside.settings in
     let tree = c.self.inside.tree in
     let st = store_in tree c.self.inside.log c.self.inside.version in
-    let (file, read, told) = c.in-Ok.ensures.read in
-    let (bytes, done) = told st refl refl in
+    let (file, read, reported) = c.in-Ok.ensures.read in
+    let (bytes, done) = reported st refl refl in
     let law = c.a_clean_keeps_the_store.ensures in
     record {
       home = c.self.invariant.home;
@@ -36,8 +36,8 @@ pub returns-in-Ok-clause-read : goal.returns-in-Ok-clause-read
 returns-in-Ok-clause-read g c = rw (← c.self.view_is) (λ fine able.
     let tree = c.self.inside.tree in
     let log = c.self.inside.log in
-    let (file, read, told) = c.in-Ok.ensures.read in
-    let (bytes, done) = told (store_in tree log c.self.inside.version) refl refl in
+    let (file, read, reported) = c.in-Ok.ensures.read in
+    let (bytes, done) = reported (store_in tree log c.self.inside.version) refl refl in
     (file, read, (bytes, cleaned-now _ tree c.in-Ok.committed c.committed.inside.ends _ _ c.committed.inside.version bytes c.committed.view_is done, refl)))
 
 pub returns-in-Ok-clause-bytes : goal.returns-in-Ok-clause-bytes
@@ -72,8 +72,8 @@ pub returns-in-Err-clause-read : goal.returns-in-Err-clause-read
 returns-in-Err-clause-read g c = rw (← c.self.view_is) (λ fine able.
     let tree = c.self.inside.tree in
     let log = c.self.inside.log in
-    let (file, read, told) = c.in-Err.ensures.read in
-    (file, read, told (store_in tree log c.self.inside.version) refl refl))
+    let (file, read, reported) = c.in-Err.ensures.read in
+    (file, read, reported (store_in tree log c.self.inside.version) refl refl))
 
 pub returns-in-Err-clause-fine : goal.returns-in-Err-clause-fine
 returns-in-Err-clause-fine g c = rw (← c.self.view_is) (λ other.

@@ -6,7 +6,7 @@ use Rattle.engine.specs.Plays.{IsPlayed, IsPlayedOn, IsPlayFault, step_of}
 use Rattle.engine.specs.Refusal.{is_crew}
 use Rattle.engine.specs.State.{IsSound}
 use Rattle.engine.specs.Steps.{Step, StandsAfterSome, HaveWords, batching, plays}
-use Rattle.engine.proofs.PlayTurn.{no_turn, turn_as, stays, still_said, still_exact, goes_on, crash_on, words_on, left_behind_it, refused_behind, one_taken, one_behind, none_taken, none_left, device_or_not, reached_device, reached_other}
+use Rattle.engine.proofs.PlayTurn.{no_turn, turn_as, stays, still_said, still_exact, goes_on, crash_on, words_on, left_after_it, refused_after, one_taken, one_after, none_taken, none_left, device_or_not, reached_device, reached_other}
 use Rattle.engine.proofs.StepDone.{fine_where, able_where}
 use Rattle.engine.proofs.store.Store.play.Goals as goal
 
@@ -141,12 +141,12 @@ returns-in-Err-step-clause-refused g c fine able =
     let steps = c.args.steps.now in
     let at = c.loop-step in
     let n_is = c.len.ensures ∙ at.invariant.len in
-    let (file, shown, why) = refused_behind view g.D.Disk.failed g.met.D.Disk.lawful old _ _ at.self at.invariant.turn now c.step-item.result _ _ c.in-Err-step.ensures.unchanged
+    let (file, shown, why) = refused_after view g.D.Disk.failed g.met.D.Disk.lawful old _ _ at.self at.invariant.turn now c.step-item.result _ _ c.in-Err-step.ensures.unchanged
     (c.in-Err-step.ensures.refused (at.invariant.turn.has_failed ∙ fine) able) in (
       file,
       λ honest. shown honest ∙ ap (λ n. (plays (batching s) s old.store (view old.disk).seen (map step_of (take n steps))).bytes) (sym n_is),
       subst (λ n. IsPlayFault s now.store file (g.D.Disk.failed old.disk) (g.D.Disk.failed now.disk) steps n c.in-Err-step.fault) (sym n_is)
-          (inr (c.step-item.result, drop (at.step-index + 1) steps, one_behind steps at.step-index c.step-item.result c.loop-step-test.true c.step-item.is, why)),
+          (inr (c.step-item.result, drop (at.step-index + 1) steps, one_after steps at.step-index c.step-item.result c.loop-step-test.true c.step-item.is, why)),
     )
 
 pub returns-in-Err-step-clause-crash : goal.returns-in-Err-step-clause-crash
@@ -165,8 +165,8 @@ returns-in-Err-step-clause-crash g c fine settled =
     (λ honest. c.in-Err-step.ensures.same honest other.0) c.step.ensures.sound.1).crash fine settled))
     (device_or_not c.in-Err-step.fault)
 
-pub returns-in-Err-step-clause-behind : goal.returns-in-Err-step-clause-behind
-returns-in-Err-step-clause-behind g c fine settled device d left =
+pub returns-in-Err-step-clause-following : goal.returns-in-Err-step-clause-following
+returns-in-Err-step-clause-following g c fine settled device d left =
     let old = c.args.self.now in
     let view = g.D.Disk.view in
     let file = (view old.disk).seen in
@@ -178,7 +178,7 @@ returns-in-Err-step-clause-behind g c fine settled device d left =
     ⊎_elim
     (λ before. inl (before ∙ ap (λ n. store_of_disk (plays (batching s) s old.store file (map step_of (take n steps))).bytes) (sym n_is)))
     (λ after. inr (after ∙ ap (λ ys. store_of_disk (plays (batching s) s old.store file ys).bytes) (sym taken)))
-    (left_behind_it view g.D.Disk.failed g.met.D.Disk.lawful old _ _ at.self at.invariant.turn c.step.new.self (step_of c.step-item.result) c.step.ensures.rest.1 c.step.ensures.crash fine settled d left)
+    (left_after_it view g.D.Disk.failed g.met.D.Disk.lawful old _ _ at.self at.invariant.turn c.step.new.self (step_of c.step-item.result) c.step.ensures.rest.1 c.step.ensures.crash fine settled d left)
 
 pub loop-step-preserved : goal.loop-step-preserved
 loop-step-preserved g c =

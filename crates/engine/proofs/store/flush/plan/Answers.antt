@@ -18,8 +18,8 @@ pub plan-requires-clause-log : goal.plan-requires-clause-log
 plan-requires-clause-log g c =
     let (version, store) = c.requires.store in
     let st = store_in c.args.tree.now c.args.log version in
-    let behind = (slot-is c.args.settings.now st.sequence (slot_of st) store.slot).behind in
-    Prim.omega (arith, behind)
+    let following = (slot-is c.args.settings.now st.sequence (slot_of st) store.slot).following in
+    Prim.omega (arith, following)
 
 pub plan-requires-clause-text : goal.plan-requires-clause-text
 plan-requires-clause-text g c =

@@ -4,12 +4,12 @@ use Rattle.flush_log.specs.Reading.{followed_by}
 use Rattle.recovery.specs.Gathered.{IsSoFar}
 use Rattle.recovery.specs.Scan.{said_of, said_by_scan}
 use Rattle.recovery.specs.declared.gather.Wanted.{Wanted}
-use Rattle.recovery.proofs.SoFarLemmas.{Told, AreLeft}
+use Rattle.recovery.proofs.SoFarLemmas.{ReadResult, AreLeft}
 use Rattle.recovery.proofs.log_so_far.LogSoFar.gather.Given as goal
 
 abbrev pub invariant-loop-done : goal.invariant-loop-done
 invariant-loop-done l = record {
   none : l.self.fault ≡ None;
-  left : (w : Wanted) (told : Told) (read : List Told) → map said_of read ≡ map said_by_scan l.fn.scans.items → IsSoFar w l.fn.self.gathering l.fn.self.fault told
-      → AreLeft w l.self.gathering l.self.fault (fold followed_by told read) (into_iter_items l.done-iterator);
+  left : (w : Wanted) (state : ReadResult) (read : List ReadResult) → map said_of read ≡ map said_by_scan l.fn.scans.items → IsSoFar w l.fn.self.gathering l.fn.self.fault state
+      → AreLeft w l.self.gathering l.self.fault (fold followed_by state read) (into_iter_items l.done-iterator);
 }

@@ -2,7 +2,7 @@ use Rattle.recovery.proofs.SoFarLemmas.{found-none, fault-some}
 use Rattle.recovery.proofs.log_so_far.LogSoFar.into_gathering.Goals as goal
 
 pub returns-in-Some : goal.returns-in-Some
-returns-in-Some c w told h = fault-some w c.args.self.gathering c.args.self.fault told c.in-Some.fault c.in-Some.is h
+returns-in-Some c w state h = fault-some w c.args.self.gathering c.args.self.fault state c.in-Some.fault c.in-Some.is h
 
 pub returns-in-None : goal.returns-in-None
-returns-in-None c w told h = found-none w c.args.self.gathering c.args.self.fault told c.in-None.is h
+returns-in-None c w state h = found-none w c.args.self.gathering c.args.self.fault state c.in-None.is h

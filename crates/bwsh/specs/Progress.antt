@@ -1,0 +1,33 @@
+-- What progress shows: one line on standard error, rewritten in place.
+use Rattle.std.specs.Prelude.{[], ◌∷◌, ◌++◌, codes}
+use Rattle.std.specs.Fmt.{decimal}
+use Rattle.keys.specs.Bytes.{Bytes}
+use Rattle.bwsh.specs.declared.progress.Counts.{Counts}
+use Rattle.bwsh.specs.declared.progress.Counts.TheVariants.{Orders, Lines}
+
+-- how far a session is: in numbers; or in a long call on the file at a path; or nothing, where the line is erased
+pub data Sight : Type 0 where
+  counts : Counts → Sight
+  opening : Bytes → Sight
+  copying : Bytes → Sight
+  erased : Sight
+
+-- the text of such numbers
+abbrev pub counts_text : Counts → Bytes
+counts_text (Orders run read) = decimal run ++ codes " of " ++ decimal read ++ codes " orders run"
+counts_text (Lines read run) = decimal read ++ (codes " lines read, " ++ (decimal run ++ codes " batches run"))
+
+-- what is shown of it
+abbrev pub sight_text : Sight → Bytes
+sight_text (counts numbers) = counts_text numbers
+sight_text (opening path) = codes "opening " ++ path
+sight_text (copying path) = codes "copying to " ++ path
+sight_text erased = []
+
+-- a text that takes the place of the line: a carriage return, the text, and the sequence that erases what follows to the end
+abbrev pub in_place : Bytes → Bytes
+in_place text = 13 ∷ text ++ 27 ∷ codes "[K"
+
+-- what is written to show it
+abbrev pub shown_sight : Sight → Bytes
+shown_sight sight = in_place (sight_text sight)

@@ -1,0 +1,172 @@
+//! The copy that a session leaves: its file is looked at before anything is run, and filled once all is done.
+ghost use Rattle.std.specs.Prelude.{◌≡◌, ◌≤◌, false, None, Ok, IfOk, IfErr, IfSome, IsTrue, OnOk};
+ghost use Rattle.std.specs.Option.{option_map};
+ghost use Rattle.crew.specs.Crew.{is_crew};
+ghost use Rattle.keys.specs.Limits.{first_bad_field};
+ghost use Rattle.mapping.specs.Levels.{contents};
+ghost use Rattle.flush_log.specs.Disk.{IsSettled};
+ghost use Rattle.flush_log.specs.Segments.{disk_size};
+ghost use Rattle.recovery.specs.StoreOfDisk.{store_of_disk};
+ghost use Rattle.bwsh.specs.Options.{copy_of, request_of};
+ghost use Rattle.bwsh.specs.Session.{CopiesTo, IsCopyEnd, IsUncopied};
+
+use crate::notes::{Notes, Reasoned, Source};
+use crate::opening::store_fault;
+use crate::options::Options;
+use crate::session::Ending;
+use engine::{Crew, Disk, FileDisk, LockFile, Store};
+use flush_log::disk_size;
+use keys::Settings;
+use std::fs::{OpenFile, OpenOptions};
+use std::io;
+use std::io::{ErrorKind, Read, Seek, Write};
+use std::rt::Files;
+use std::thread::Threads;
+
+/// The file of a copy that is to be made, and the settings of the store in it. The file is held, and has no bytes.
+#[derive(Drop)]
+pub(crate) struct Copying<'a, F> {
+    path: &'a str,
+    disk: FileDisk<F>,
+    settings: Settings,
+}
+
+// The disk of the file for a copy, which is held and has no bytes. A file that has some stays as it was. The length of the copy is set once and
+// taken back: so a file that can't be so long, or is none that has a length, is seen now.
+fn empty_disk<R: Files>(rt: &R, path: &str, settings: Settings) -> io::Result<FileDisk<R::File>>
+where
+    R::File: LockFile,
+    requires good { first_bad_field settings ≡ None }
+{
+    let mut how = OpenOptions::new();
+    how.read(true).write(true).create(true);
+    let disk = FileDisk::of_file(how.open(rt, path)?)?;
+    if disk.len() > 0 {
+        return Err(ErrorKind::AlreadyExists.into());
+    }
+    disk.zeroed(disk_size(&settings))?.zeroed(0)
+}
+
+// What a copy of this session needs, if it is to leave one. Where the settings are refused no file is opened.
+pub(crate) fn new_copy<'a, R: Files>(
+    rt: &R,
+    request: &'a Options,
+    notes: &mut Notes,
+) -> Result<Option<Copying<'a, R::File>>, Ending>
+where
+    R::File: LockFile,
+    ensures asked { IfOk result
+        (λ copy. option_map (λ c. c.settings) copy ≡ copy_of (request_of request.now)) }
+    ensures good { IfOk result (λ copy. IfSome copy (λ c. first_bad_field c.settings ≡ None)) }
+    ensures admitted { OnOk result (IfSome (copy_of (request_of request.now))
+        (λ settings. first_bad_field settings ≡ None)) }
+    ensures refused { IfErr result (IsUncopied (copy_of (request_of request.now))) }
+{
+    let Some(path) = &request.copy_to else {
+        return Ok(None);
+    };
+    let settings = request.settings;
+    settings.check()?;
+    match empty_disk(rt, path, settings) {
+        Ok(disk) => Ok(Some(Copying {
+            path,
+            disk,
+            settings,
+        })),
+        Err(reason) => {
+            notes.failed(Source::Copy, Some(reason));
+            Err(Ending::Device)
+        }
+    }
+}
+
+// The path of the copy, if one is to be left.
+pub(crate) fn path_of<'a, F>(copy: &Option<Copying<'a, F>>) -> Option<&'a str> {
+    match copy {
+        Some(copy) => Some(copy.path),
+        None => None,
+    }
+}
+
+// Copies the store onto a disk that has room for it, under these settings, and returns the copy, which is flushed; or why there is none, and the disk.
+fn store_copied<R: Threads + Sync, D: Disk, E: Disk>(
+    rt: &R,
+    crew: Crew,
+    store: &Store<D>,
+    disk: E,
+    settings: Settings,
+) -> Result<Store<E>, (Ending, E)>
+    requires crew { IsTrue (is_crew crew) }
+    requires good { first_bad_field settings ≡ None }
+    requires room { disk_size settings ≤ (E.view disk).size }
+    // It holds the same, under the settings; and an honest disk stands for this very store, and is settled.
+    ensures made { IfOk result (λ copy.
+        (copy.settings ≡ settings) × (copy.has_failed ≡ false)) }
+    ensures contents { IfOk result (λ copy.
+        contents copy.store.tree ≡ contents store.now.store.tree) }
+    ensures bytes { IsTrue (E.view disk).is_honest → IfOk result (λ copy.
+        (store_of_disk (E.view copy.disk).seen ≡ Ok (settings, copy.store))
+        × IsSettled (E.view copy.disk)) }
+    ensures refused { IfErr result
+        (λ e. IsCopyEnd settings (contents store.now.store.tree) e.0) }
+{
+    match store.copy_to(rt, crew, disk, settings) {
+        Ok(copy) => Ok(copy),
+        Err(refused) => Err((store_fault(refused.0), refused.1)),
+    }
+}
+
+// Copies the store into the file. Where that is refused the file has no bytes again, where its length can still be set.
+fn copy_into<R: Threads + Sync, D: Disk, F: Read + Write + Seek + OpenFile + LockFile + Drop>(
+    rt: &R,
+    crew: Crew,
+    store: &Store<D>,
+    copy: Copying<'_, F>,
+    notes: &mut Notes,
+) -> Result<(), Ending>
+    requires crew { IsTrue (is_crew crew) }
+    requires good { first_bad_field copy.settings ≡ None }
+    ensures { IfErr result
+        (IsCopyEnd copy.entry.settings (contents store.now.store.tree)) }
+{
+    let Copying { disk, settings, .. } = copy;
+    let disk = match disk.zeroed(disk_size(&settings)) {
+        Ok(disk) => disk,
+        Err(reason) => {
+            notes.failed(Source::Copy, Some(reason));
+            return Err(Ending::Device);
+        }
+    };
+    match store_copied(rt, crew, store, disk, settings) {
+        Ok(_copy) => Ok(()),
+        Err(refused) => {
+            notes.failed(Source::Copy, refused.1.reason());
+            let _emptied = refused.1.zeroed(0);
+            Err(refused.0)
+        }
+    }
+}
+
+// Leaves the copy of the store that the session is asked for, if it is.
+pub(crate) fn leave_copy<
+    R: Threads + Sync,
+    D: Disk,
+    F: Read + Write + Seek + OpenFile + LockFile + Drop,
+>(
+    rt: &R,
+    crew: Crew,
+    store: &Store<D>,
+    copy: Option<Copying<'_, F>>,
+    notes: &mut Notes,
+) -> Result<(), Ending>
+    requires crew { IsTrue (is_crew crew) }
+    requires good { IfSome copy (λ c. first_bad_field c.settings ≡ None) }
+    ensures { CopiesTo (option_map (λ c. c.settings) copy.entry)
+        (contents store.now.store.tree) result }
+{
+    let Some(copy) = copy else {
+        return Ok(());
+    };
+    notes.copying();
+    copy_into(rt, crew, store, copy, notes)
+}

@@ -1,5 +1,0 @@
-use Rattle.mapping.proofs.SameTree.{same_tree}
-use Rattle.mapping.proofs.laws.a_proper_tree_is_told_by_its_pages.Goals as goal
-
-pub returns : goal.returns
-returns c = same_tree
