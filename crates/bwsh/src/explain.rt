@@ -237,6 +237,7 @@ fn text_of(
 
 /// The explanation of an end, with its line feed: where it came from, and what to do. It is empty where all is done, where the words
 /// are refused, and where memory for it is refused.
+#[inline(never)]
 pub fn explained(
     alloc: Global,
     asked: &Options,

@@ -1,6 +1,6 @@
 -- The frames of a text as the code has them: images, each the frames of one page back to back. And how far such frames bring
 -- the end of a log, one after the other.
-use Rattle.std.specs.Prelude.{◌≡◌, ℕ, suc, ◌+◌, ◌*◌, ◌/◌, ◌%◌, ◌≤◌, Bool, nat_le, nat_lt, if◌then◌else◌, List, [], ◌∷◌, ◌++◌, length, map, slice_range, Option, Some, None, Result, Ok, Err}
+use Rattle.std.specs.Prelude.{◌≡◌, ◌⊎◌, ℕ, suc, ◌+◌, ◌*◌, ◌/◌, ◌%◌, ◌≤◌, Bool, nat_le, nat_lt, if◌then◌else◌, List, [], ◌∷◌, ◌++◌, length, map, slice_range, Option, Some, None, Result, Ok, Err}
 use Rattle.std.specs.List.{AllByRecursion}
 use Rattle.keys.specs.Bytes.{Bytes}
 use Rattle.keys.specs.Sizes.{segment_header_size}
@@ -9,7 +9,7 @@ use Rattle.keys.specs.declared.fault.Fault.{Fault}
 use Rattle.keys.specs.declared.fault.Fault.TheVariants.{Full, Spent}
 use Rattle.frame_codec.specs.Frame.{Frame, bytes_of}
 use Rattle.flush_log.specs.AfterFlush.{is_spent}
-use Rattle.flush_log.specs.Layout.{past_header}
+use Rattle.flush_log.specs.Layout.{past_header, tail_after}
 use Rattle.flush_log.specs.Segments.{position}
 use Rattle.flush_log.specs.Slot.{Slot, greatest}
 
@@ -28,6 +28,14 @@ frames_in (image ∷ images) = image ++ frames_in images
 -- these are the frames of this text
 abbrev pub AreOfText : List (List Bytes) → List Frame → Type 0
 AreOfText images text = frames_in images ≡ map (λ f. bytes_of f) text
+
+-- this holds for the text that they are the frames of; there are none, or it has a frame
+abbrev pub ForText : List (List Bytes) → (List Frame → Type 0) → Type 0
+ForText images holds = (text : List Frame) → AreOfText images text → (images ≡ []) ⊎ (1 ≤ length text) → holds text
+
+-- they are those of a text that has room after this tail: it ends no later than at the greatest position
+abbrev pub HaveRoomAfter : Settings → ℕ → List (List Bytes) → Type 0
+HaveRoomAfter s tail images = (text : List Frame) × AreOfText images text × (tail_after s tail text ≤ greatest)
 
 -- each of these fits into a segment, after its header
 abbrev pub FitSegments : Settings → List Bytes → Type 0

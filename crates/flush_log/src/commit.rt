@@ -1,14 +1,13 @@
 //! The commit: the calls that make a text and a slot the store's, in an order in which a crash leaves all that was before, or all
 //! that is committed.
-ghost use Rattle.std.specs.Prelude.{◌≡◌, ◌⊎◌, ◌+◌, ◌≤◌, List, [], false, IsTrue, length, None, IfOk, OnOk};
+ghost use Rattle.std.specs.Prelude.{◌≡◌, ◌⊎◌, ◌+◌, ◌≤◌, false, IsTrue, length, None, IfOk, OnOk};
 ghost use Rattle.keys.specs.Limits.{first_bad_field};
-ghost use Rattle.frame_codec.specs.Frame.{Frame};
 ghost use Rattle.flush_log.specs.Overlay.{overlay, AgreeAt};
 ghost use Rattle.flush_log.specs.Disk.{IsSettled, Torn, Kept, Leaves, LeavesOnly, CountsFailure, OnlyRead};
-ghost use Rattle.flush_log.specs.Images.{frames_in, AreOfText, FitSegments};
+ghost use Rattle.flush_log.specs.Images.{frames_in, FitSegments, ForText, HaveRoomAfter};
 ghost use Rattle.flush_log.specs.Segments.{segments_begin, disk_size};
-ghost use Rattle.flush_log.specs.Layout.{spans, tail_after, with_spans};
-ghost use Rattle.flush_log.specs.Slot.{greatest, slot_place, slot_bytes, is_open as is_open_on};
+ghost use Rattle.flush_log.specs.Layout.{spans, with_spans};
+ghost use Rattle.flush_log.specs.Slot.{slot_place, slot_bytes, is_open as is_open_on};
 ghost use Rattle.flush_log.specs.Commit.{seen_after, AreWithin, close_gate, IsClosing, committed, LeavesGateClosed, IsBesideSpans, IsUncommitted};
 
 use crate::disk::{Disk, DiskFault};
@@ -109,18 +108,17 @@ fn write_images<D: Disk>(
     requires within { disk_size settings.now ≤ (D.view disk.old).size }
     requires buffer { settings.now.seg_size ≤ length buffer.old }
     requires fits { FitSegments settings.now (frames_in images.now) }
-    requires room { (text : List Frame) × AreOfText images.now text
-        × (tail_after settings.now tail text ≤ greatest) }
+    requires room { HaveRoomAfter settings.now tail images.now }
     ensures kept { Kept (D.view disk.old) (D.view disk.new) }
     ensures failed { CountsFailure result (D.failed disk.old) (D.failed disk.new) }
-    ensures written { (text : List Frame) → AreOfText images.now text →
-        (images.now ≡ []) ⊎ (1 ≤ length text) → IsTrue (D.view disk.old).is_honest →
+    ensures written { ForText images.now (λ text.
+        IsTrue (D.view disk.old).is_honest →
         OnOk result ((D.view disk.new).seen
-        ≡ with_spans settings.now (D.view disk.old).seen (spans settings.now tail text)) }
-    ensures crash { (text : List Frame) → AreOfText images.now text →
-        (images.now ≡ []) ⊎ (1 ≤ length text) → IsTrue (D.view disk.old).is_honest →
+        ≡ with_spans settings.now (D.view disk.old).seen (spans settings.now tail text))) }
+    ensures crash { ForText images.now (λ text.
+        IsTrue (D.view disk.old).is_honest →
         Leaves (D.view disk.old) (D.view disk.new)
-        (AgreeAt (IsBesideSpans settings.now (spans settings.now tail text))) }
+        (AgreeAt (IsBesideSpans settings.now (spans settings.now tail text)))) }
 {
     if images.is_empty() {
         return Ok(());
@@ -142,24 +140,22 @@ fn write_hidden<D: Disk>(
     requires within { disk_size settings.now ≤ (D.view disk.old).size }
     requires buffer { settings.now.seg_size ≤ length buffer.old }
     requires fits { FitSegments settings.now (frames_in images.now) }
-    requires room { (text : List Frame) × AreOfText images.now text
-        × (tail_after settings.now tail text ≤ greatest) }
+    requires room { HaveRoomAfter settings.now tail images.now }
     ensures kept { Kept (D.view disk.old) (D.view disk.new) }
     ensures failed { CountsFailure result (D.failed disk.old) (D.failed disk.new) }
-    ensures written { (text : List Frame) → AreOfText images.now text →
-        (images.now ≡ []) ⊎ (1 ≤ length text) → IsTrue (D.view disk.old).is_honest →
+    ensures written { ForText images.now (λ text.
+        IsTrue (D.view disk.old).is_honest →
         OnOk result ((D.view disk.new).seen
         ≡ with_spans settings.now
         (seen_after (close_gate is_open (slot_place sequence)) (D.view disk.old).seen)
-        (spans settings.now tail text)) }
+        (spans settings.now tail text))) }
     ensures settled { IsTrue (D.view disk.old).is_honest →
         OnOk result (IsSettled (D.view disk.new)) }
-    ensures crash { (text : List Frame) → AreOfText images.now text →
-        (images.now ≡ []) ⊎ (1 ≤ length text) →
+    ensures crash { ForText images.now (λ text.
         AreWithin settings.now (disk_size settings.now) (spans settings.now tail text) →
         IsSettled (D.view disk.old) → is_open ≡ is_open_on sequence (D.view disk.old).seen →
         LeavesOnly (D.view disk.old) (D.view disk.new) (IsUncommitted settings.now sequence
-        (spans settings.now tail text) (D.view disk.old).seen) }
+        (spans settings.now tail text) (D.view disk.old).seen)) }
 {
     close_gate(disk, sequence, is_open)?;
     write_images(disk, settings, tail, images, buffer)?;
@@ -187,20 +183,17 @@ pub fn write_flush<D: Disk>(
     requires within { disk_size settings.now ≤ (D.view disk.old).size }
     requires buffer { settings.now.seg_size ≤ length buffer.old }
     requires fits { FitSegments settings.now (frames_in images.now) }
-    requires room { (text : List Frame) × AreOfText images.now text
-        × (tail_after settings.now tail text ≤ greatest) }
+    requires room { HaveRoomAfter settings.now tail images.now }
     ensures kept { Kept (D.view disk.old) (D.view disk.new) }
     ensures failed { CountsFailure result (D.failed disk.old) (D.failed disk.new) }
-    ensures written { (text : List Frame) → AreOfText images.now text →
-        (images.now ≡ []) ⊎ (1 ≤ length text) →
+    ensures written { ForText images.now (λ text.
         AreWithin settings.now (disk_size settings.now) (spans settings.now tail text) →
         IsTrue (D.view disk.old).is_honest →
         OnOk result ((D.view disk.new).seen
-        ≡ committed settings.now (D.view disk.old).seen (spans settings.now tail text) slot.now) }
+        ≡ committed settings.now (D.view disk.old).seen (spans settings.now tail text) slot.now)) }
     ensures settled { IsTrue (D.view disk.old).is_honest →
         OnOk result (IsSettled (D.view disk.new)) }
-    ensures crash { (text : List Frame) → AreOfText images.now text →
-        (images.now ≡ []) ⊎ (1 ≤ length text) →
+    ensures crash { ForText images.now (λ text.
         AreWithin settings.now (disk_size settings.now) (spans settings.now tail text) →
         IsSettled (D.view disk.old) →
         is_open ≡ is_open_on slot.now.sequence (D.view disk.old).seen →
@@ -208,7 +201,7 @@ pub fn write_flush<D: Disk>(
         (λ c. IsUncommitted settings.now slot.now.sequence
         (spans settings.now tail text) (D.view disk.old).seen c
         ⊎ (c ≡ committed settings.now (D.view disk.old).seen
-        (spans settings.now tail text) slot.now)) }
+        (spans settings.now tail text) slot.now))) }
 {
     write_hidden(
         disk,

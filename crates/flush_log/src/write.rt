@@ -7,8 +7,8 @@ ghost use Rattle.flush_log.specs.Disk.{Kept, Leaves, CountsFailure};
 ghost use Rattle.flush_log.specs.Overlay.{AgreeAt};
 ghost use Rattle.flush_log.specs.Commit.{IsBesideSpans};
 ghost use Rattle.flush_log.specs.Gathering.{left_by, open_after, span_of, IsInside};
-ghost use Rattle.flush_log.specs.Images.{frames_in, AreOfText, FitSegments};
-ghost use Rattle.flush_log.specs.Layout.{opened, tail_after, spans, with_spans};
+ghost use Rattle.flush_log.specs.Images.{frames_in, AreOfText, FitSegments, HaveRoomAfter};
+ghost use Rattle.flush_log.specs.Layout.{opened, spans, with_spans};
 ghost use Rattle.flush_log.specs.Segments.{disk_size};
 ghost use Rattle.flush_log.specs.Slot.{greatest};
 
@@ -199,8 +199,7 @@ pub fn write_text<D: Disk>(
     requires within { disk_size settings.now ≤ (D.view disk.old).size }
     requires buffer { settings.now.seg_size ≤ length buffer.old }
     requires fits { FitSegments settings.now (frames_in images.now) }
-    requires room { (text : List Frame) × AreOfText images.now text
-        × (tail_after settings.now tail text ≤ greatest) }
+    requires room { HaveRoomAfter settings.now tail images.now }
     ensures kept { Kept (D.view disk.old) (D.view disk.new) }
     ensures failed { CountsFailure result (D.failed disk.old) (D.failed disk.new) }
     ensures written { (text : List Frame) → AreOfText images.now text → 1 ≤ length text →
