@@ -7,12 +7,11 @@ import subprocess
 import tempfile
 import time
 from collections.abc import Callable
-from dataclasses import dataclass, field, replace
+from dataclasses import dataclass, field
 from pathlib import Path
 
 MEGABYTE = 1_000_000
-STACK = 64  # KB, which is enough for every input
-COPYING = 128  # KB, which is enough where the store is copied too
+STACK = 56  # KB: of the 64 that are enough for every input the system may leave out 8, as it places the stack by chance
 SLOW = 4  # how many times slower than a usual one a machine may be
 PATIENCE = 60  # seconds until a program is ended
 LOOK = 0.002  # seconds from one look at a program to the next
@@ -102,17 +101,12 @@ def watch(child: subprocess.Popen, name: str) -> tuple[float, int]:
         time.sleep(LOOK)
 
 
-def with_room(limits: Limits, command: list) -> Limits:
-    """The limits of a program that runs this, with the stack of a copy where it is to leave one."""
-    return replace(limits, stack=COPYING) if limits.stack == STACK and any(str(word).startswith("--copy-to") for word in command) else limits
-
-
 def run(command: list, text: bytes | Path = b"", limits: Limits = Limits(), folder: Path | None = None, environment: dict[str, str] | None = None) -> Ran:
     """Runs a program in this folder, with nothing in its environment but this. The text, or the file of that path, is its standard input."""
     with tempfile.TemporaryFile() as source, tempfile.TemporaryFile() as out, tempfile.TemporaryFile() as err:
         source.write(text.read_bytes() if isinstance(text, Path) else text)
         source.seek(0)
-        shell = ["sh", "-c", with_room(limits, command).shell(environment or {}), *command]
+        shell = ["sh", "-c", limits.shell(environment or {}), *command]
         child = subprocess.Popen(shell, stdin=source, stdout=out, stderr=err, cwd=folder, env={})
         seconds, memory = watch(child, Path(command[0]).name)
         out.seek(0)

@@ -9,7 +9,7 @@ from pathlib import Path
 from checks.files import holding
 from checks.forge import HEADER, Settings, counted, delta_index, delta_leaf, disk_of, fitting_disk, frame, free, full_index, full_leaf
 from checks.forge import shared_index, shared_leaf
-from checks.harness import MEGABYTE, SLOW, Case, Outcome, Programs, Ran, differs, most_memory, new_folder, run
+from checks.harness import MEGABYTE, SLOW, Case, Limits, Outcome, Programs, Ran, differs, most_memory, new_folder, run
 from checks.ids import colliding_ids
 from checks.rules import LOOK, ending_of, look_of, settings_of, slot_of
 
@@ -20,6 +20,8 @@ MANY = 100_000  # free frames
 LEAVES = 61_680  # empty leaves, a mebibyte of their frames
 SLOT, SLOTS = 256, 65_536  # bytes that a page takes in its table, and how many of them have room in that of these leaves, which doubles
 TIMES = 10  # the most memory that a disk may take beyond what its pages take, by its own length
+LEVELS = 64  # the most that a tree may have
+CLIMBING = 88  # KB of stack, of the 96 that are enough for a tree of so many, since a change goes up by calls: see the harness
 DAMAGED, PARTS = 400, 8
 WIDE = Settings(fan=64, max_key=255)  # where keys that share beginnings are longest beside the bytes that spell them
 KEYS, LONGEST = 64, 255  # such keys of a base, and their bytes
@@ -89,6 +91,17 @@ def colliding_runs() -> bytes:
     return fitting_disk([ONE_PAIR, *[delta_leaf(pid, {b"": None}) for pid in islice(colliding_ids(), MANY) if pid != 0]])
 
 
+def tall_tree() -> bytes:
+    """A tree of as many levels as there may be, of two pages each under the root."""
+    left, right = 0, 1
+    frames = [full_leaf(left, b"", {b"a": b"1"}), full_leaf(right, b"c", {b"c": b"3"})]
+    for pid in range(2, 2 * (LEVELS - 1), 2):
+        frames += [full_index(pid, b"", {b"": left}), full_index(pid + 1, b"c", {b"c": right})]
+        left, right = pid, pid + 1
+    root = right + 1
+    return fitting_disk([*frames, full_index(root, b"", {b"": left, b"c": right})], root=root, height=LEVELS)
+
+
 def many_segments() -> bytes:
     """A log of as many segments as there may be, but for two, each with one frame, since no other fits beside it."""
     settings = Settings(fan=4, max_key=30, max_value=10, seg_size=256, segments=65_536)
@@ -129,6 +142,7 @@ def last_length() -> bytes:
 
 
 ONE_ROW = (0, look_of([(b"a", b"1")], 1, 1), b"")
+TWO_ROWS = (0, look_of([(b"a", b"1"), (b"c", b"3")], 2 * LEVELS - 1, LEVELS), b"")
 NO_FRAME = (4, b"", b"fault 15 BadFrame 0 %d\n" % (HEADER + len(ONE_PAIR)))
 
 DISKS = [
@@ -144,6 +158,7 @@ DISKS = [
     Disk(f"{LEAVES:,} empty leaves that no tree reaches", empty_leaves, (4, b"", b"fault 16 BadStructure 10 1\n"), pages=SLOT * SLOTS),
     Disk(f"{LEAVES:,} empty leaves, four workers", empty_leaves, (4, b"", b"fault 16 BadStructure 10 1\n"), ("--workers", "4"), pages=SLOT * SLOTS),
     Disk("a log of 65,534 segments", many_segments, ONE_ROW, is_store=True),
+    Disk(f"a tree of {LEVELS} levels", tall_tree, TWO_ROWS, is_store=True),
     Disk("leaves of long keys that share beginnings", long_keys, (4, b"", b"fault 16 BadStructure 10 1\n"), pages=LONG_KEYS),
     Disk("leaves of long keys, four workers", long_keys, (4, b"", b"fault 16 BadStructure 10 1\n"), ("--workers", "4"), pages=LONG_KEYS),
     Disk("a leaf of long keys that is whole again and again", long_keys_again, ONE_ROW, is_store=True),
@@ -211,6 +226,23 @@ def look_at(programs: Programs, number: int) -> Outcome:
                 measured += f"; {name} in {ran.seconds:.2f} s, {ran.memory / MEGABYTE:.1f} MB"
                 wrong = wrong or too_dear(ran, least + disk.pages, len(made))
         return Outcome(wrong, measured=measured)
+
+
+def climb(programs: Programs, workers: int) -> Outcome:
+    """Whether batches that change both leaves of the tallest tree, and empty them, are answered, and what they left is found again."""
+    keys = [b"%c%d" % (first, number) for first in b"ac" for number in range(8)]
+    put = b"".join(b"put %s 1\n" % key for key in keys) + b"go\nscan % * 100\nflush\n"
+    rows = b"rows 18\n" + b"".join(b"%s %s\n" % pair for pair in sorted([(b"a", b"1"), (b"c", b"3"), *[(key, b"1") for key in keys]]))
+    lines = [(put, b"new\n" * 16 + rows + b"flushed 2\n"), (b"wipe % *\nscan % * 100\nflush\n", b"wiped 18\nrows 0\nflushed 3\n")]
+    with new_folder() as folder:
+        path = Path(folder) / "disk"
+        path.write_bytes(tall_tree() + bytes(MEGABYTE))
+        for text, printed in lines:
+            command = [programs.store, "--disk", path, "--workers", str(workers), "--clean-when-full"]
+            wrong = differs(run(command, text, Limits(CLIMBING)), 0, printed)
+            if wrong:
+                return Outcome(wrong)
+        return Outcome()
 
 
 def compare_times(programs: Programs) -> Outcome:
@@ -370,4 +402,5 @@ def cases(programs: Programs) -> list[Case]:
     damaged = [Case(f"damaged disks, part {part + 1} of {PARTS}", look_at_damaged, (programs, part)) for part in range(PARTS)]
     changed = [Case(f"a disk of version 2 with a byte changed, part {part + 1} of {PARTS}", change_each_byte, (programs, part)) for part in range(PARTS)]
     frames = [Case("the frames of docs/FORMAT.md", spell), Case("frames of version 2 that are none", refuse_frames, (programs,))]
-    return [*frames, *forged, *damaged, *changed, Case("whole keys and shared ones, a megabyte of each", compare_times, (programs,))]
+    climbed = [Case(f"a tree of {LEVELS} levels that is climbed, {workers} workers", climb, (programs, workers)) for workers in (1, 4)]
+    return [*frames, *forged, *climbed, *damaged, *changed, Case("whole keys and shared ones, a megabyte of each", compare_times, (programs,))]

@@ -102,7 +102,8 @@ fn climb_leaves(
 }
 
 // Climbs from these index pages, which were worked, and are `depth` levels below the root. Where it is refused, the tree is as
-// it was, and the pages come back as they were given.
+// it was, and the pages come back as they were given. It calls itself once a level, 64 times at most: what else it calls stays out of
+// its frame, which is on the stack so often.
 fn climb_parents(
     rt: &(impl Threads + Sync),
     crew: Crew,
@@ -141,6 +142,7 @@ fn climb_parents(
 
 // Ends a level whose parents climbed, or were refused: its pages come home, and its groups are replaced; or what was done to its parents is
 // undone, and the numbers of its new pieces are given back, so that the tree is as it was before.
+#[inline(never)]
 fn finish_level<D: WorkedPage>(
     rt: &(impl Threads + Sync),
     crew: Crew,

@@ -28,6 +28,7 @@ pub(crate) struct Changed {
 
 /// Cuts the groups of a level that are rewritten, draws the numbers of their new pieces, and works their parents, which are `depth`
 /// levels below the root. `dones` are the pages of the level that were worked. Where memory is refused, the tree is as it was.
+#[inline(never)]
 pub(crate) fn change_level<D: WorkedPage>(
     rt: &(impl Threads + Sync),
     crew: Crew,

@@ -25,6 +25,7 @@ use std::thread::Threads;
 
 /// Climbs from the root, which was worked and is the one page of this list: it is cut where it is fat, and levels grow above it. Where it
 /// is refused, the tree is as it was, and the page comes back as it was given.
+#[inline(never)]
 pub(crate) fn climb_root<D: WorkedPage>(
     rt: &(impl Threads + Sync),
     crew: Crew,

@@ -79,7 +79,8 @@ fn route_sorted(
 }
 
 // The runs of the leaves `levels` levels below these shares' pages. Where the pages of a level are many, workers share them. It calls
-// itself once a level, 64 times at most, and once for each halving of the workers.
+// itself once a level, 64 times at most, and once for each halving of the workers: what else it calls stays out of its frame, which is on
+// the stack so often.
 #[cycle(below)]
 fn runs_below<R: Threads + Sync>(
     rt: &R,
@@ -111,6 +112,7 @@ fn runs_below<R: Threads + Sync>(
 }
 
 // The runs below the shares of the first list, and then those below the shares of the other. Two threads find them at once.
+#[inline(never)]
 #[cycle(below)]
 fn runs_of_both<R: Threads + Sync>(
     rt: &R,
@@ -175,6 +177,7 @@ fn root_share<'a, 'k>(
 }
 
 // Each share's page hands it down: the shares of the next level, in the order of the keys.
+#[inline(never)]
 fn one_level_down<'a, 'k>(
     alloc: Global,
     tree: &Tree<Global>,
@@ -338,6 +341,7 @@ fn next_key<'a, 'k>(keyed: &'a [Keyed<'k>], reaching: &[usize], low: &'a [u8]) -
 }
 
 // Each share with its places in the order of the batch.
+#[inline(never)]
 fn each_in_batch_order(alloc: Global, shares: &[Share<'_, '_>]) -> Result<Vec<PageRun>, AllocError>
     requires { AllByRecursion HasEachPlaceOnce (lent_shares shares.now) }
     ensures { IfOk result (λ runs. AreInBatchOrder (lent_shares shares.now) runs.items) }
