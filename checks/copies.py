@@ -21,6 +21,9 @@ PUTS, PUT = b"put a 1\nput b 2\nput c 3\n", b"new\nnew\nnew\n"
 SCAN, SCANNED = b"scan % * 9\n", b"rows 3\na 1\nb 2\nc 3\n"
 KILLS = 25  # of copies of one store
 
+# The stream that goes to the file of a copy, the words, and how the file begins then.
+FILLED = [(">", (), b"replaced\n" * 3), (">", ("--stream",), b"replaced\n" * 3), ("2>", ("--progress",), b"\ropening "), (">>", ("--explain",), b"replaced\n" * 3)]
+
 
 def holds(programs: Programs, path: Path, scanned: bytes = SCANNED, length: int | None = None) -> str | None:
     """What is wrong with the store in this file, which has to have these pairs, or this length."""
@@ -174,6 +177,30 @@ def held(programs: Programs) -> Outcome:
                 fcntl.flock(other, how)
                 wrong = wrong or differs(run([programs.store, "--copy-to", copy], PUTS), 4, b"", DEVICE)
         return Outcome(wrong or is_empty(copy) or differs(run([programs.store, "--copy-to", copy], PUTS), 0, PUT) or holds(programs, copy))
+
+
+def filled_meanwhile(programs: Programs, stream: str, words: tuple[str, ...], begins: bytes) -> Outcome:
+    """A file that gets bytes of the session's own before its copy is made keeps them, and there is no copy."""
+    with new_folder() as folder:
+        store, copy = Path(folder) / "store", Path(folder) / "copy"
+        make(programs, store)
+        ran = run([programs.store, *words, "--disk", store, "--copy-to", copy], PUTS, Limits(closed=f"{stream} {copy}"))
+        text = copy.read_bytes()
+        is_right = ran.status == 4 and text.startswith(begins) and len(text) < 200
+        return Outcome(None if is_right else f"{ran.reported()}, and the file has {text[:200]!r} of {len(text)} bytes")
+
+
+def filled_by_another(programs: Programs) -> Outcome:
+    """So does one that gets them of a program that asks for no lock."""
+    with new_folder() as folder:
+        copy = Path(folder) / "copy"
+        dialog = Dialog(programs, "--copy-to", copy)
+        dialog.send(PUTS + b"go\n")
+        answers = b"".join(dialog.line() for _ in range(3))
+        copy.write_bytes(b"precious")
+        ended = dialog.end()
+        is_right = (answers, ended, copy.read_bytes()) == (PUT, (4, b"", DEVICE), b"precious")
+        return Outcome(None if is_right else f"answered was {answers!r}, ended {ended}, and the file has {copy.read_bytes()[:99]!r}")
 
 
 # ---- Sessions without a copy.
@@ -391,6 +418,8 @@ def cases(programs: Programs, refusing: Path, failing: Path) -> list[Case]:
         Case("no copy where no file can be", no_file, one),
         Case("no copy in a file that may not be so long", too_long, one),
         Case("no copy in a file that another has", held, one),
+        *(Case(f"no copy in a file that gets bytes meanwhile, {row[0]} {' '.join(row[1])}", filled_meanwhile, (programs, *row)) for row in FILLED),
+        Case("no copy in a file that another fills meanwhile", filled_by_another, one),
         *(Case(f"no copy after {row[4].decode().strip()}, {' '.join(row[0])}", ends_early, (programs, *row)) for row in ENDS_EARLY),
         Case("no file of a copy before all is admitted", not_begun, one),
         *(Case(f"a copy is refused: {row[2].decode().strip()} of {len(row[0])} bytes", refuse_copy, (programs, *row)) for row in REFUSED),

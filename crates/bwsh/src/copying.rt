@@ -27,24 +27,44 @@ use std::thread::Threads;
 #[derive(Drop)]
 pub(crate) struct Copying<'a, F> {
     path: &'a str,
-    disk: FileDisk<F>,
+    file: F,
     settings: Settings,
 }
 
-// The disk of the file for a copy, which is held and has no bytes. A file that has some stays as it was. The length of the copy is set once and
-// taken back: so a file that can't be so long, or is none that has a length, is seen now.
-fn empty_disk<R: Files>(rt: &R, path: &str, settings: Settings) -> io::Result<FileDisk<R::File>>
+// The file for a copy, which is held and has no bytes. One that has some stays as it was. The length of the copy is set once and taken
+// back: so a file that can't be so long, or is none that has a length, is seen now.
+fn empty_file<R: Files>(rt: &R, path: &str, settings: Settings) -> io::Result<R::File>
 where
     R::File: LockFile,
     requires good { first_bad_field settings ≡ None }
 {
     let mut how = OpenOptions::new();
     how.read(true).write(true).create(true);
-    let disk = FileDisk::of_file(how.open(rt, path)?)?;
+    let file = how.open(rt, path)?;
+    file.hold()?;
+    if file.metadata()?.len() > 0 {
+        return Err(ErrorKind::AlreadyExists.into());
+    }
+    file.set_len(disk_size(&settings))?;
+    file.set_len(0)?;
+    Ok(file)
+}
+
+// The disk of the file for a copy, with room for a store of these settings. A file that got bytes meanwhile stays as it is: a stream of the
+// session may go there.
+fn disk_with_room<F: Read + Write + Seek + OpenFile + LockFile + Drop>(
+    file: F,
+    settings: &Settings,
+) -> io::Result<FileDisk<F>>
+    requires good { first_bad_field settings.now ≡ None }
+    ensures { IfOk result
+        (λ disk. (⟦<FileDisk<F> as Disk>⟧.view disk).size ≡ disk_size settings.now) }
+{
+    let disk = FileDisk::of_file(file)?;
     if disk.len() > 0 {
         return Err(ErrorKind::AlreadyExists.into());
     }
-    disk.zeroed(disk_size(&settings))?.zeroed(0)
+    disk.zeroed(disk_size(settings))
 }
 
 // What a copy of this session needs, if it is to leave one. Where the settings are refused no file is opened.
@@ -67,10 +87,10 @@ where
     };
     let settings = request.settings;
     settings.check()?;
-    match empty_disk(rt, path, settings) {
-        Ok(disk) => Ok(Some(Copying {
+    match empty_file(rt, path, settings) {
+        Ok(file) => Ok(Some(Copying {
             path,
-            disk,
+            file,
             settings,
         })),
         Err(reason) => {
@@ -129,8 +149,8 @@ fn copy_into<R: Threads + Sync, D: Disk, F: Read + Write + Seek + OpenFile + Loc
     ensures { IfErr result
         (IsCopyEnd copy.entry.settings (contents store.now.store.tree)) }
 {
-    let Copying { disk, settings, .. } = copy;
-    let disk = match disk.zeroed(disk_size(&settings)) {
+    let Copying { file, settings, .. } = copy;
+    let disk = match disk_with_room(file, &settings) {
         Ok(disk) => disk,
         Err(reason) => {
             notes.failed(Source::Copy, Some(reason));
