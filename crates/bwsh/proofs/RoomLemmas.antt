@@ -18,7 +18,7 @@ use Rattle.bwsh.specs.declared.session.Ending.{Ending}
 use Rattle.bwsh.specs.declared.session.Ending.TheVariants.{Device}
 use Rattle.bwsh.specs.declared.session.Ending.TheVariants as endings
 use Rattle.bwsh.specs.declared.options.asked.Ways.{Ways}
-use Rattle.bwsh.specs.Session.{BeginsWith, Prints, Reads, Runs, RunsFirst, RunsOn, RunsOrder, Seen, after_order, flush_with_room, is_clean, is_full, later, map_after, own_lines, refusal_of, wants_clean, with_cleans}
+use Rattle.bwsh.specs.Session.{BeginsWith, Prints, Reads, Runs, RunsFirst, RunsOn, RunsOrder, Seen, after_order, flush_with_room, is_full, is_nothing_to_clean, later, map_after, own_lines, refusal_of, wants_clean, with_cleans}
 use Rattle.bwsh.proofs.BytesLemmas.{refusal-same}
 use Rattle.bwsh.proofs.FirstLemmas.{Leavable, RunsBy, RunsBy-asked, RunsBy-cut, RunsBy-goes_on, RunsBy-stops, RunsOrder-same, leave, leave_flush}
 use Rattle.bwsh.proofs.RunLemmas.{IsCut, first_shown}
@@ -147,7 +147,7 @@ early_by settings st file order now new early (Some fault) some p =
 
 -- whether the flush wants a clean is known by why it and a clean are refused
 module _ (settings : Settings) (st : Store) (file : Seen) where
-  wants_by : (r q : Option Fault) → refusal_of settings st file Flush ≡ r → refusal_of settings st file Clean ≡ q → wants_clean settings st file ≡ is_full r && not (is_clean q)
+  wants_by : (r q : Option Fault) → refusal_of settings st file Flush ≡ r → refusal_of settings st file Clean ≡ q → wants_clean settings st file ≡ is_full r && not (is_nothing_to_clean q)
   wants_by r q is_r is_q = rw (is_r, is_q) refl
 
   room_wanted : (most : ℕ) (next : Store → Reads → List Order) → wants_clean settings st file ≡ true → (shown : Reads)
@@ -264,7 +264,7 @@ module _ (ways : Ways) (honest : Bool) (settings : Settings) (first : Store) (fi
           RunsBy-stops ways honest settings st seen Flush mid new after bytes (λ shown. flush_with_room (suc most) settings st shown (orders_after_flush settings rest)) (orders_after_flush settings rest)
           (leave true settings rest) (endings.Fault Full) (at, is, full_alone settings st at mid new full_here a, tt) (room_made settings st at (suc most) (orders_after_flush settings rest) wants)
 
-      wanted : (fault : Fault) → fault ≢ NothingToClean → (is_full (Some Full) && not (is_clean (Some fault))) ≡ true
+      wanted : (fault : Fault) → fault ≢ NothingToClean → (is_full (Some Full) && not (is_nothing_to_clean (Some fault))) ≡ true
       wanted NothingToClean other = absurd (other refl)
       wanted _ other = refl
 

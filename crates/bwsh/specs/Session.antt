@@ -287,13 +287,13 @@ is_full (Some Full) = true
 is_full _ = false
 
 -- it is refused since there is nothing to clean
-abbrev pub is_clean : Option Fault → Bool
-is_clean (Some NothingToClean) = true
-is_clean _ = false
+abbrev pub is_nothing_to_clean : Option Fault → Bool
+is_nothing_to_clean (Some NothingToClean) = true
+is_nothing_to_clean _ = false
 
 -- a flush of a store, at which this is seen, takes a clean in front of it: the log is full, and there is something to clean
 abbrev pub wants_clean : Settings → Store → Seen → Bool
-wants_clean settings st seen = is_full (refusal_of settings st seen Flush) && not (is_clean (refusal_of settings st seen Clean))
+wants_clean settings st seen = is_full (refusal_of settings st seen Flush) && not (is_nothing_to_clean (refusal_of settings st seen Clean))
 
 -- a flush with as many cleans in front of it as it takes, at most this number, and then what is run on what they leave
 abbrev pub flush_with_room : ℕ → Settings → Store → Reads → (Store → Reads → List Order) → List Order
