@@ -21,7 +21,7 @@ LEAVES = 61_680  # empty leaves, a mebibyte of their frames
 SLOT, SLOTS = 256, 65_536  # bytes that a page takes in its table, and how many of them have room in that of these leaves, which doubles
 TIMES = 10  # the most memory that a disk may take beyond what its pages take, by its own length
 LEVELS = 64  # the most that a tree may have
-CLIMBING = 88  # KB of stack, of the 96 that are enough for a tree of so many, since a change goes up by calls: see the harness
+CLIMBING = 88  # KB of stack, of the 96 that are enough for a tree of that many, since a change goes up by calls: see the harness
 DAMAGED, PARTS = 400, 8
 WIDE = Settings(fan=64, max_key=255)  # where keys that share beginnings are longest beside the bytes that spell them
 KEYS, LONGEST = 64, 255  # such keys of a base, and their bytes

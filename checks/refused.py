@@ -103,7 +103,7 @@ def cases_of(crate: str, program: Path | None, library: Path) -> list[Case]:
 
 
 NO_MEMORY, DEVICE = b"fault 6 NoMemory\n", b"fault 9 Device\n"
-EXPLAINED = re.compile(rb"([^\n]+\n)?")  # what stands behind a fault: a line, or nothing where memory for it was refused
+EXPLAINED = re.compile(rb"([^\n]+\n)?")  # what stands after a fault: a line, or nothing where memory for it was refused
 LASTING = re.compile(rb"^flushed ", re.MULTILINE)  # begins the answer of a flush
 
 Pairs = dict[bytes, bytes]

@@ -69,7 +69,7 @@ def build(names: list[str], is_proved: bool) -> None:
         copied = Path(folder)
         library.copy_repository(copied, is_proved)
         crates = [add_crate(copied, name) for name in names]
-        print(f"building {', '.join(names)}, {'proved' if is_proved else 'unproved: a minute or two'}", file=sys.stderr, flush=True)
+        print(f"building {', '.join(names)}, {'proved' if is_proved else 'unproved: some minutes'}", file=sys.stderr, flush=True)
         list(pool.map(build_proved if is_proved else library.build_unproved, crates, [BUILT / name for name in names]))
 
 

@@ -87,7 +87,7 @@ pub as_roomy : (ways : Ways) → ways.clean_when_full ≡ true → (honest : Boo
 as_roomy ways full honest settings st left old new end now bytes p =
     subst (λ (w : Ways). RunsFirst w honest settings st left (Flush ∷ []) old new end now bytes) (roomy_is ways full) p
 
--- a flush with this number of cleans before it at most, of which nothing is done yet, prints after what stands there is, after what stood there
+-- a flush with this number of cleans before it at most, with nothing of it done yet, prints after what stands there is, after what stood there
 -- first, what a flush does that makes itself room
 abbrev pub LeadsRoom : Ways → Bool → Settings → Store → List ℕ → Option (List ℕ) → ℕ → Store → List ℕ → Option (List ℕ) → Type 0
 LeadsRoom ways honest settings first file old most st seen now =

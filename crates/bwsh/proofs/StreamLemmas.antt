@@ -247,7 +247,7 @@ module _ (ways : Ways) (honest : Bool) (settings : Settings) (st : Store) (left 
 
 -- ---- line after line
 
--- What lines that are left say, of which the next has the number n, prints after what stands there is, after what stood there first, what all lines
+-- What lines that are left say, the next having the number n, prints after what stands there is, after what stood there first, what all lines
 -- of the stream say.
 abbrev pub LeadsOn : Ways → Bool → Settings → Store → List ℕ → Option (List ℕ) → Option (List ℕ)
     → Settings → Store → List ℕ → List (Command Global) → ℕ → Option (List ℕ) → Option (List ℕ) → Type 0

@@ -438,12 +438,12 @@ IsReportedWith more end old new = IfSome (reported_text end) (λ text. IsBegun o
 abbrev pub IsReported : List Bytes → Result (Unit {0}) Ending → Option Bytes → Option Bytes → Type 0
 IsReported words end old new = (more : Bytes) × (AsksToExplain words ⊎ (more ≡ [])) × IsReportedWith more end old new
 
--- known bytes grow by what is written to show some sights one after the other, or a beginning of that, where a write failed
+-- known bytes grow by what is written to show some sights one after the other, or by a beginning of that
 abbrev pub IsProgress : Option Bytes → Option Bytes → Type 0
 IsProgress old new = (sights : List Sight) × IsBegun old new (flat (map shown_sight sights))
 
--- what holds these contents gets progress while it is shown: some sights, one after the other, or a beginning of that, where a write failed
--- and so it is shown no more; where it isn't shown, nothing
+-- what holds these contents gets progress while it is shown: some sights, one after the other, or a beginning of that, where it is shown no
+-- more (as after a write that failed); where it isn't shown, nothing
 abbrev pub Shows : {E : Type 0} → (E → Option Bytes) → Bool → E → Bool → E → Type 0
 Shows contents false old on new = (on ≡ false) × (new ≡ old)
 Shows contents true old true new = (sights : List Sight) × Appends (contents old) (contents new) (flat (map shown_sight sights))
@@ -607,8 +607,8 @@ Answers request known old new end =
     × (shown : Reads) × IsShown request start shown (session_orders request start shown text)
     × PrintsCopied (copy_of request) (map_left_from start (with_numbers request.ways.stat (orders_of [] (text_says text)))) old new (session_lines request start shown text) (session_end request start shown text) end
 
--- The same of a stream, for what some lines say, which are those of the known text: each of its orders is run and answered before the next line
--- is read, up to the first bad line.
+-- The same of a stream, for what some lines say, which are those of the known text: its orders are run and answered up to the first bad line.
+-- When lines are read isn't said: one that reads all of them first is as right.
 unfoldable pub Streams : Request → Option Bytes → Option Bytes → Option Bytes → Result (Unit {0}) Ending → Type 0
 Streams request known old new end =
     (said : List Says) × IfSome known (λ text. said ≡ text_says text) × (start : Start) × IsStart request start

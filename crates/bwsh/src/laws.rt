@@ -185,7 +185,7 @@ pub fn a_stream_orders_what_stands_before_a_bad_line()
 {}
 
 /// A session that is to leave a copy under good settings prints what it prints without that, and ends so; or that ends with all done, and it ends
-/// by a fault, which is why there is no copy. Where the settings are refused nothing is run.
+/// by some fault. Where the settings are refused nothing is run.
 pub fn a_copy_changes_only_the_end()
     ensures answers { (request : Request) → first_bad_field request.settings ≡ None →
         (known old new : Option Bytes) → (end : Result (Unit {0}) Ending) →
@@ -213,7 +213,7 @@ pub fn the_crew_does_not_matter()
 {}
 
 /// Progress changes standard error alone: what a session may print on its output, and how it may end, is the same with it and without. Where
-/// the words don't ask for it, nothing stands on standard error but the report of the end.
+/// the words don't ask for it, nothing stands on standard error but the report of the end, of those ends whose report a clause says.
 pub fn progress_changes_standard_error_alone()
     ensures same { (request : Request) → (asked : Bool) → (known old new : Option Bytes) →
         (end : Result (Unit {0}) Ending) → IsAnswered request known old new end →

@@ -470,8 +470,8 @@ where
         × Appends (O.contents out.old) (O.contents out.new) front))) }
 
     // How it ends, and what is read and printed, is right for the words and the text but for memory and devices.
-    // What goes to `err` reports this end, or a beginning of it; and more only where the words ask to explain it. Progress stands before that
-    // only where they ask for it.
+    // What goes to `err` reports this end, or a beginning of it, where all is done, a line is bad or a device failed; and more only where the
+    // words ask to explain it. Progress stands before that only where they ask for it. Of other ends no clause says what goes to `err`.
     ensures ends { EndsReported (map string_bytes words.now)
         (I.remaining input.old) (O.contents out.old) (O.contents out.new)
         (E.contents err.old) (E.contents err.new)
