@@ -2,11 +2,12 @@
 
 import random
 import re
+import subprocess
 from pathlib import Path
 
 from checks.dialogs import Dialog
 from checks.harness import PATIENCE, Case, Limits, Outcome, Programs, differs, new_folder, run
-from checks.refused import SAID, refuse
+from checks.refused import NO_MEMORY, SAID, refuse
 
 # Under these settings a page with three entries is thin, an index page too.
 QUEUE = ("--fan=16", "--chain=2", "--max-key=16", "--max-value=16", "--seg-size=1024")
@@ -189,6 +190,26 @@ def wrong_tidied(ran) -> str | None:
     return None if is_done or is_refused else f"status {ran.returncode}, printed {out[-60:]!r}, said {err!r}"
 
 
+def refuse_last(programs: Programs, library: Path) -> Outcome:
+    """The last allocations of a session are those by which its store is tidied: where one is refused that can't be done without, all is answered, and
+    that is a fault."""
+    text, out = queue(0, 6)
+
+    def refused(number: int) -> subprocess.CompletedProcess:
+        command, environment = [programs.store, *QUEUE, "--tidy=99"], {"LD_PRELOAD": str(library), "REFUSE": str(number)}
+        return subprocess.run(command, env=environment, input=text + b"flush\n", capture_output=True, timeout=PATIENCE)
+
+    last, none = 1, 1 << 20  # numbers of an allocation that there is, and of one that there isn't
+    while none - last > 1:
+        number = (last + none) // 2
+        last, none = (number, none) if SAID in refused(number).stderr else (last, number)
+    runs = [refused(number) for number in range(last, last - 10, -1)]
+    answered = [(ran.returncode, ran.stderr.replace(SAID, b"")) for ran in runs if ran.stdout == out + b"flushed 2\n"]
+    ended = answered.count((4, NO_MEMORY))
+    is_right = len(answered) == len(runs) and 0 < ended and ended + answered.count((0, b"")) == len(runs)
+    return Outcome(None if is_right else f"ended were {answered}", measured=f"{ended} of the allocations up to {last}")
+
+
 def cases(programs: Programs, library: Path) -> list[Case]:
     lanes = 8
     command = [programs.store, *QUEUE, "--tidy=99"]
@@ -197,6 +218,7 @@ def cases(programs: Programs, library: Path) -> list[Case]:
         *refusals,
         *(Case(f"answers alike, seed {seed}", answers_alike, (programs, seed)) for seed in range(4)),
         *(Case(f"kills, seed {seed}", killed, (programs, seed)) for seed in range(2)),
+        Case("the last allocation refused", refuse_last, (programs, library)),
         Case("merges emptied leaves", merged, (programs, "text")),
         Case("merges emptied leaves of a stream", merged, (programs, "stream")),
         Case("keeps a queue small", stays_small, (programs,)),

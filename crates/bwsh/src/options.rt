@@ -75,8 +75,9 @@ store in memory, and for a file that is made anew; otherwise they are ignored. W
 no settings of a store: they are for this session alone, which answers the same with any of them.
 --copy-to is done last, once all orders are done and answered, and its file is a store of its own.
 What stands at its path is never replaced: a file with any bytes there is a fault, as is one that
-can't be written or be so long, and settings that are refused; then nothing is run. Where there is
-no copy in the end the file is empty, and the exit status is not 0.
+can't be written or be so long, and settings that are refused; then nothing is run. Only exit status
+0 says that there is a copy. Else the file is empty, where its length could be set; after a kill it
+may be a store without pairs: remove it.
 A session with a flush, a clean or an upgrade, or --create, holds its file alone; any other shares
 it, and only reads it. Where another session is in the way it is a fault at once, and nothing is
 changed.
@@ -93,7 +94,8 @@ Lines of the batch file:
   flush             Runs these too, if there are any, and then writes what the log lacks
   clean             Runs these too, if there are any, and then frees the first segment of the log
   upgrade           Runs these too, if there are any, and then brings the log to version 2, in which
-                    keys share their beginnings; it is done once, and there is no way back
+                    keys share their beginnings; it is done once, and the way back is a copy
+                    (--copy-to), which has version 1
   verify            Runs these too, if there are any, and then checks the whole tree
   # ...             A comment
 Commands after the last go, flush, clean, upgrade or verify are run at the end.
