@@ -2,39 +2,15 @@
 ghost use Rattle.std.specs.Prelude.{◌≡◌, Some, IfSome, IsSome};
 ghost use Rattle.bwsh.specs.Session.{Shows};
 
+use crate::meter::Meter;
 use crate::progress::{LongCall, Progress};
 use std::io::Write;
-use std::sync::atomic::{AtomicU64, Ordering};
 use std::sync::{Condvar, CondvarTimeouts, Mutex, Wait};
 use std::thread::{Threads, join_mut};
 use std::time::{Clock, Duration};
 
 // Seconds that the watcher waits between two looks.
 const PAUSE: u64 = 1;
-
-/// Counts the segments that a call has read or written, for another thread to see.
-pub struct Meter {
-    segments: AtomicU64,
-}
-
-impl Meter {
-    /// None so far.
-    pub fn new() -> Meter {
-        Meter {
-            segments: AtomicU64::new(0),
-        }
-    }
-
-    /// Counts one more. After 2^64 the count begins anew.
-    pub fn count(&self) {
-        self.segments.fetch_add(1, Ordering::SeqCst);
-    }
-
-    // How many there are.
-    fn segments(&self) -> u64 {
-        self.segments.load(Ordering::SeqCst)
-    }
-}
 
 // Whether a call is done, for the thread that watches it.
 #[derive(Drop)]

@@ -1,4 +1,4 @@
-use Rattle.std.proofs.Common.{subst, sym, Bool}
+use Rattle.std.proofs.Common.{subst, Bool}
 use Rattle.bwsh.specs.Session.{Shows}
 use Rattle.bwsh.proofs.ProgressLemmas.{Shows-trans}
 use Rattle.bwsh.proofs.watching.watch.Goals as goal
