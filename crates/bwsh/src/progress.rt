@@ -168,13 +168,11 @@ impl Progress {
         }
     }
 
-    /// Shows that the store is copied now to the file at this path, if it is.
-    pub fn copying<E: Write>(&mut self, path: Option<&str>, err: &mut E)
+    /// Shows that the store is copied now to the file at this path.
+    pub fn copying<E: Write>(&mut self, path: &str, err: &mut E)
         ensures { Shows E.contents self.old.is_shown err.old self.new.is_shown err.new }
     {
-        if let Some(path) = path {
-            self.show(b"copying to ", path.as_bytes(), b"", err);
-        }
+        self.show(b"copying to ", path.as_bytes(), b"", err);
     }
 
     // Shows what is done to the file at a path, and to how many of its segments.
