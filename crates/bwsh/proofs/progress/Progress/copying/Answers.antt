@@ -3,5 +3,5 @@ use Rattle.std.specs.Prelude.{codes}
 use Rattle.bwsh.specs.Progress.{copying}
 use Rattle.bwsh.proofs.progress.Progress.copying.Goals as goal
 
-pub returns-in-Some : goal.returns-in-Some
-returns-in-Some g c = let path = c.as_bytes.result.now in c.show.ensures (copying path) (ap (λ (l : List ℕ). codes "copying to " ++ l) (sym (append-nil path)))
+pub returns : goal.returns
+returns g c = let path = c.as_bytes.result.now in c.show.ensures (copying path) (ap (λ (l : List ℕ). codes "copying to " ++ l) (sym (append-nil path)))
