@@ -157,7 +157,7 @@ fn copied_watched<R: Threads + Wait + Sync + Clock, D: Disk, C: Disk + Drop, E: 
         requires { IsTrue (is_crew crew) × (first_bad_field settings ≡ None)
             × (disk_size settings ≤ (C.view disk).size) }
         ensures { IfErr result
-            (λ e. IsCopyEnd settings.entry (contents store.entry.now.store.tree) e.0) }
+            (λ e. IsCopyEnd settings (contents store.entry.now.store.tree) e.0) }
     { store_copied(rt, crew, store, disk, settings) };
     watched(rt, meter, LongCall::Copying(path), progress, err, fill)
 }
