@@ -18,10 +18,10 @@ shown_more first more = ap flat (map-append shown_sight first more) ∙ flat-app
 
 -- ---- beginnings of what is written
 
-begun_longer : (old new : Option (List ℕ)) (bytes more : List ℕ) → IsBegun old new bytes → IsBegun old new (bytes ++ more)
+pub begun_longer : (old new : Option (List ℕ)) (bytes more : List ℕ) → IsBegun old new bytes → IsBegun old new (bytes ++ more)
 begun_longer old new bytes more (front, begins, a) = (front, front-longer bytes more front begins, a)
 
-begun_after : (old mid new : Option (List ℕ)) (first bytes : List ℕ) → Appends old mid first → IsBegun mid new bytes → IsBegun old new (first ++ bytes)
+pub begun_after : (old mid new : Option (List ℕ)) (first bytes : List ℕ) → Appends old mid first → IsBegun mid new bytes → IsBegun old new (first ++ bytes)
 begun_after old mid new first bytes a (front, begins, b) = (first ++ front, front-more first bytes front begins, Appends-trans old mid new first front a b)
 
 pub on_err : {X E : Type 0} (r : Result X E) (P : Type 0) → P → OnErr r P

@@ -1,15 +1,18 @@
 -- What progress shows: one line on standard error, rewritten in place.
-use Rattle.std.specs.Prelude.{[], ◌∷◌, ◌++◌, codes}
+use Rattle.std.specs.Prelude.{ℕ, [], ◌∷◌, ◌++◌, codes}
 use Rattle.std.specs.Fmt.{decimal}
 use Rattle.keys.specs.Bytes.{Bytes}
 use Rattle.bwsh.specs.declared.progress.Counts.{Counts}
 use Rattle.bwsh.specs.declared.progress.Counts.TheVariants.{Orders, Lines}
 
--- how far a session is: in numbers; or in a long call on the file at a path; or nothing, where the line is erased
+-- how far a session is: in numbers; or in a long call on the file at a path, at its start and after so many segments that it read or wrote;
+-- or nothing, where the line is erased
 pub data Sight : Type 0 where
   counts : Counts → Sight
   opening : Bytes → Sight
   copying : Bytes → Sight
+  opening_after : Bytes → ℕ → Sight
+  copying_after : Bytes → ℕ → Sight
   erased : Sight
 
 -- the text of such numbers
@@ -17,11 +20,17 @@ abbrev pub counts_text : Counts → Bytes
 counts_text (Orders run read) = decimal run ++ codes " of " ++ decimal read ++ codes " orders run"
 counts_text (Lines read run) = decimal read ++ (codes " lines read, " ++ (decimal run ++ codes " batches run"))
 
+-- the text of so many segments with which this is done
+abbrev pub segments_text : ℕ → Bytes → Bytes
+segments_text segments done = codes ", " ++ (decimal segments ++ (codes " segments " ++ done))
+
 -- what is shown of it
 abbrev pub sight_text : Sight → Bytes
 sight_text (counts numbers) = counts_text numbers
 sight_text (opening path) = codes "opening " ++ path
 sight_text (copying path) = codes "copying to " ++ path
+sight_text (opening_after path segments) = codes "opening " ++ (path ++ segments_text segments (codes "read"))
+sight_text (copying_after path segments) = codes "copying to " ++ (path ++ segments_text segments (codes "written"))
 sight_text erased = []
 
 -- a text that takes the place of the line: a carriage return, the text, and the sequence that erases what follows to the end

@@ -8,12 +8,15 @@ ghost use Rattle.flush_log.specs.Disk.{IsSettled};
 ghost use Rattle.flush_log.specs.Segments.{disk_size};
 ghost use Rattle.recovery.specs.StoreOfDisk.{store_of_disk};
 ghost use Rattle.bwsh.specs.Options.{copy_of, request_of};
-ghost use Rattle.bwsh.specs.Session.{CopiesTo, IsCopyEnd, IsUncopied};
+ghost use Rattle.bwsh.specs.Session.{CopiesTo, IsCopyEnd, IsUncopied, Shows};
 
+use crate::meter::{Meter, Metered};
 use crate::notes::{Notes, Reasoned, Source};
 use crate::opening::store_fault;
 use crate::options::Options;
+use crate::progress::{LongCall, Progress, Reports};
 use crate::session::Ending;
+use crate::watching::watched;
 use engine::{Crew, Disk, FileDisk, LockFile, Store};
 use flush_log::disk_size;
 use keys::Settings;
@@ -21,7 +24,9 @@ use std::fs::{OpenFile, OpenOptions};
 use std::io;
 use std::io::{ErrorKind, Read, Seek, Write};
 use std::rt::Files;
+use std::sync::Wait;
 use std::thread::Threads;
+use std::time::Clock;
 
 /// The file of a copy that is to be made, and the settings of the store in it. The file is held, and has no bytes.
 #[derive(Drop)]
@@ -100,14 +105,6 @@ where
     }
 }
 
-// The path of the copy, if one is to be left.
-pub(crate) fn path_of<'a, F>(copy: &Option<Copying<'a, F>>) -> Option<&'a str> {
-    match copy {
-        Some(copy) => Some(copy.path),
-        None => None,
-    }
-}
-
 // Copies the store onto a disk that has room for it, under these settings, and returns the copy, which is flushed; or why there is none, and the disk.
 fn store_copied<R: Threads + Sync, D: Disk, E: Disk>(
     rt: &R,
@@ -136,32 +133,78 @@ fn store_copied<R: Threads + Sync, D: Disk, E: Disk>(
     }
 }
 
+// The same while another thread shows how far it is, by the meter.
+fn copied_watched<R: Threads + Wait + Sync + Clock, D: Disk, C: Disk + Drop, E: Write + Send>(
+    rt: &R,
+    crew: Crew,
+    store: &Store<D>,
+    path: &str,
+    disk: C,
+    settings: Settings,
+    meter: &Meter,
+    progress: &mut Progress,
+    err: &mut E,
+) -> Result<Store<C>, (Ending, C)>
+    requires crew { IsTrue (is_crew crew) }
+    requires good { first_bad_field settings ≡ None }
+    requires room { disk_size settings ≤ (C.view disk).size }
+    ensures refused { IfErr result
+        (λ e. IsCopyEnd settings (contents store.now.store.tree) e.0) }
+    ensures shows { Shows E.contents progress.old.is_shown err.old
+        progress.new.is_shown err.new }
+{
+    let fill = move || -> Result<Store<C>, (Ending, C)>
+        requires { IsTrue (is_crew crew) × (first_bad_field settings ≡ None)
+            × (disk_size settings ≤ (C.view disk).size) }
+        ensures { IfErr result
+            (λ e. IsCopyEnd settings (contents store.entry.now.store.tree) e.0) }
+    { store_copied(rt, crew, store, disk, settings) };
+    watched(rt, meter, LongCall::Copying(path), progress, err, fill)
+}
+
 // Copies the store into the file. Where that is refused the file has no bytes again, where its length can still be set.
-fn copy_into<R: Threads + Sync, D: Disk, F: Read + Write + Seek + OpenFile + LockFile + Drop>(
+fn copy_into<
+    R: Threads + Wait + Sync + Clock,
+    D: Disk,
+    F: Read + Write + Seek + OpenFile + LockFile + Drop,
+    E: Write + Send,
+>(
     rt: &R,
     crew: Crew,
     store: &Store<D>,
     copy: Copying<'_, F>,
-    notes: &mut Notes,
+    reports: &mut Reports,
+    err: &mut E,
 ) -> Result<(), Ending>
     requires crew { IsTrue (is_crew crew) }
     requires good { first_bad_field copy.settings ≡ None }
-    ensures { IfErr result
+    ensures refused { IfErr result
         (IsCopyEnd copy.entry.settings (contents store.now.store.tree)) }
+    ensures shows { Shows E.contents reports.old.progress.is_shown err.old
+        reports.new.progress.is_shown err.new }
 {
-    let Copying { file, settings, .. } = copy;
+    let Copying {
+        path,
+        file,
+        settings,
+    } = copy;
     let disk = match disk_with_room(file, &settings) {
         Ok(disk) => disk,
         Err(reason) => {
-            notes.failed(Source::Copy, Some(reason));
+            reports.notes.failed(Source::Copy, Some(reason));
             return Err(Ending::Device);
         }
     };
-    match store_copied(rt, crew, store, disk, settings) {
+    let meter = Meter::new();
+    let disk = Metered::new(disk, &meter);
+    let progress = &mut reports.progress;
+    match copied_watched(
+        rt, crew, store, path, disk, settings, &meter, progress, err,
+    ) {
         Ok(_copy) => Ok(()),
         Err(refused) => {
-            notes.failed(Source::Copy, refused.1.reason());
-            let _emptied = refused.1.zeroed(0);
+            reports.notes.failed(Source::Copy, refused.1.reason());
+            let _emptied = refused.1.into_inner().zeroed(0);
             Err(refused.0)
         }
     }
@@ -169,24 +212,29 @@ fn copy_into<R: Threads + Sync, D: Disk, F: Read + Write + Seek + OpenFile + Loc
 
 // Leaves the copy of the store that the session is asked for, if it is.
 pub(crate) fn leave_copy<
-    R: Threads + Sync,
+    R: Threads + Wait + Sync + Clock,
     D: Disk,
     F: Read + Write + Seek + OpenFile + LockFile + Drop,
+    E: Write + Send,
 >(
     rt: &R,
     crew: Crew,
     store: &Store<D>,
     copy: Option<Copying<'_, F>>,
-    notes: &mut Notes,
+    reports: &mut Reports,
+    err: &mut E,
 ) -> Result<(), Ending>
     requires crew { IsTrue (is_crew crew) }
     requires good { IfSome copy (λ c. first_bad_field c.settings ≡ None) }
-    ensures { CopiesTo (option_map (λ c. c.settings) copy.entry)
+    ensures copies { CopiesTo (option_map (λ c. c.settings) copy.entry)
         (contents store.now.store.tree) result }
+    ensures shows { Shows E.contents reports.old.progress.is_shown err.old
+        reports.new.progress.is_shown err.new }
 {
     let Some(copy) = copy else {
         return Ok(());
     };
-    notes.copying();
-    copy_into(rt, crew, store, copy, notes)
+    reports.notes.copying();
+    reports.progress.copying(copy.path, err);
+    copy_into(rt, crew, store, copy, reports, err)
 }

@@ -7,6 +7,7 @@ mod copying;
 mod explain;
 mod laws;
 mod line;
+mod meter;
 mod notes;
 mod number;
 mod opening;
@@ -19,6 +20,7 @@ mod session;
 mod show;
 mod stream;
 mod token;
+mod watching;
 mod words;
 
 use crate::program::run_program;

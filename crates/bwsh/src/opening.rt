@@ -4,17 +4,23 @@ ghost use Rattle.crew.specs.Crew.{is_crew};
 ghost use Rattle.keys.specs.Bytes.{Bytes};
 ghost use Rattle.keys.specs.Limits.{first_bad_field};
 ghost use Rattle.flush_log.specs.Segments.{disk_size};
-ghost use Rattle.bwsh.specs.Session.{Opens, IsHonestStore, new_start, found_start};
+ghost use Rattle.bwsh.specs.Session.{Opens, IsHonestStore, Shows, new_start, found_start};
 
+use crate::meter::{Meter, Metered};
 use crate::notes::{Notes, Reasoned, Source};
+use crate::progress::{LongCall, Reports};
 use crate::session::Ending;
+use crate::watching::watched;
 use engine::{Crew, Disk, FileDisk, LockFile, MemDisk, Store};
 use flush_log::disk_size;
 use keys::{Fault, Settings};
 use std::alloc::Global;
 use std::io;
+use std::io::Write;
 use std::rt::Files;
+use std::sync::Wait;
 use std::thread::Threads;
+use std::time::Clock;
 
 // Why a session ends whose store answered this.
 pub(crate) fn store_fault(fault: Fault) -> Ending
@@ -124,25 +130,65 @@ fn store_found<R: AllocGlobal + Threads + Sync, D: Disk + Reasoned + Drop>(
     }
 }
 
-// The store that the file holds.
-pub(crate) fn store_in_file<R: AllocGlobal + Threads + Sync + Files>(
+// The same while another thread shows how far it is, by the meter.
+fn found_watched<
+    R: AllocGlobal + Threads + Wait + Sync + Clock,
+    D: Disk + Reasoned + Drop,
+    E: Write + Send,
+>(
+    rt: &R,
+    crew: Crew,
+    path: &str,
+    disk: D,
+    meter: &Meter,
+    reports: &mut Reports,
+    err: &mut E,
+) -> Result<Store<D>, Ending>
+    requires crew { IsTrue (is_crew crew) }
+    ensures opens { (file : Bytes) × Opens D.view (found_start file) result }
+    ensures fine { IfOk result (λ store. store.has_failed ≡ false) }
+    ensures shows { Shows E.contents reports.old.progress.is_shown err.old
+        reports.new.progress.is_shown err.new }
+{
+    let Reports { notes, progress } = reports;
+    let find = move || -> Result<Store<D>, Ending>
+        requires { IsTrue (is_crew crew) }
+        ensures { ((file : Bytes) × Opens D.view (found_start file) result)
+            × IfOk result (λ store. store.has_failed ≡ false) }
+    { store_found(rt, crew, disk, notes) };
+    watched(rt, meter, LongCall::Opening(path), progress, err, find)
+}
+
+// The store that the file holds. The meter counts the segments of it that are read and written.
+pub(crate) fn store_in_file<
+    'm,
+    R: AllocGlobal + Threads + Wait + Sync + Files + Clock,
+    E: Write + Send,
+>(
     rt: &R,
     crew: Crew,
     path: &str,
     writes: bool,
-    notes: &mut Notes,
-) -> Result<Store<FileDisk<R::File>>, Ending>
+    meter: &'m Meter,
+    reports: &mut Reports,
+    err: &mut E,
+) -> Result<Store<Metered<'m, FileDisk<R::File>>>, Ending>
 where
     R::File: LockFile,
     requires crew { IsTrue (is_crew crew) }
     ensures opens { (file : Bytes) ×
-        Opens ⟦<FileDisk<R::File> as Disk>⟧.view (found_start file) result }
+        Opens ⟦<Metered<'m, FileDisk<R::File>> as Disk>⟧.view (found_start file) result }
     ensures fine { IfOk result (λ store. store.has_failed ≡ false) }
+    ensures shows { Shows E.contents reports.old.progress.is_shown err.old
+        reports.new.progress.is_shown err.new }
 {
     match old_disk(rt, path, writes) {
-        Ok(disk) => store_found(rt, crew, disk, notes),
+        Ok(disk) => {
+            let disk = Metered::new(disk, meter);
+            found_watched(rt, crew, path, disk, meter, reports, err)
+        }
         Err(reason) => {
-            notes.failed(Source::File, Some(reason));
+            reports.notes.failed(Source::File, Some(reason));
             Err(Ending::Device)
         }
     }

@@ -9,6 +9,7 @@ use crate::session::{session, unread_words};
 use engine::LockFile;
 use std::io::{ErrorKind, Read, Write};
 use std::rt::{Env, Files};
+use std::sync::Wait;
 use std::thread::Threads;
 use std::time::Clock;
 use std::{env, io};
@@ -31,7 +32,7 @@ fn words_after_name(words: &[String]) -> &[String]
 /// Does what all these words of the command line ask for, the first being the program's name, and returns the exit
 /// status of the session. Where they cannot be read, that alone is reported, and the status is that of
 /// `unread_words`.
-pub fn run_words<R: AllocGlobal + Threads + Sync + Files + Clock, I: Read, O: Write, E: Write>(
+pub fn run_words<R: AllocGlobal + Threads + Wait + Sync + Files + Clock, I: Read, O: Write, E: Write + Send>(
     rt: &R,
     words: io::Result<Vec<String>>,
     input: &mut I,
@@ -60,10 +61,10 @@ where
 /// Does what the words of the command line ask for, and returns the exit status. No clause of the library says which
 /// words an environment gives; a session with some words ends so, or they cannot be read.
 pub fn run_program<
-    R: Env + AllocGlobal + Threads + Sync + Files + Clock,
+    R: Env + AllocGlobal + Threads + Wait + Sync + Files + Clock,
     I: Read,
     O: Write,
-    E: Write,
+    E: Write + Send,
 >(rt: &R, input: &mut I, out: &mut O, err: &mut E) -> u8
 where
     R::File: LockFile,

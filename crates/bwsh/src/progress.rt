@@ -2,7 +2,7 @@
 ghost use Rattle.std.specs.Prelude.{true, false, ◌≡◌, ◌++◌, Some, OnOk, OnErr};
 ghost use Rattle.std.specs.Io.KnownBytes.{Appends};
 ghost use Rattle.keys.specs.Bytes.{Bytes};
-ghost use Rattle.bwsh.specs.Progress.{Sight, counts_text, in_place, sight_text};
+ghost use Rattle.bwsh.specs.Progress.{Sight, counts_text, in_place, segments_text, sight_text};
 ghost use Rattle.bwsh.specs.Session.{IsBegun, Shows};
 
 use crate::notes::Notes;
@@ -13,7 +13,7 @@ use std::fmt::{InlineText, Write as _};
 use std::io::Write;
 use std::time::{Clock, Instant};
 
-// Bytes that hold the text of numbers: two of at most 20 digits, and words.
+// Bytes that hold the text of numbers: at most two of 20 digits each, and words.
 const TEXT: usize = 64;
 
 // What is written before a text and after it, so that it takes the place of the line: a carriage return, and the sequence that
@@ -56,21 +56,36 @@ pub enum Ended {
     Batch,
 }
 
-// Writes a text of two parts in place of the line. Where that fails, a beginning of it stands there.
-fn write_in_place<E: Write>(text: &[u8], rest: &[u8], err: &mut E) -> Result<(), Ending>
-    ensures ok { OnOk result
-        (Appends (E.contents err.old) (E.contents err.new) (in_place (text.now ++ rest.now))) }
-    ensures err { OnErr result
-        (IsBegun (E.contents err.old) (E.contents err.new) (in_place (text.now ++ rest.now))) }
+/// A call of a session that can take long, on the file at a path.
+#[derive(Clone, Copy)]
+pub enum LongCall<'a> {
+    /// The store that the file holds is opened: its segments are read.
+    Opening(&'a str),
+    /// The store is copied to the file: its segments are written.
+    Copying(&'a str),
+}
+
+// Writes a text of three parts in place of the line. Where that fails, a beginning of it stands there.
+fn write_in_place<E: Write>(
+    text: &[u8],
+    path: &[u8],
+    rest: &[u8],
+    err: &mut E,
+) -> Result<(), Ending>
+    ensures ok { OnOk result (Appends (E.contents err.old) (E.contents err.new)
+        (in_place (text.now ++ (path.now ++ rest.now)))) }
+    ensures err { OnErr result (IsBegun (E.contents err.old) (E.contents err.new)
+        (in_place (text.now ++ (path.now ++ rest.now)))) }
 {
     write_bytes(START, err)?;
     write_bytes(text, err)?;
+    write_bytes(path, err)?;
     write_bytes(rest, err)?;
     write_bytes(END, err)
 }
 
 /// How far a session is, and when that was shown.
-#[derive(Drop)]
+#[derive(Clone, Copy)]
 pub struct Progress {
     /// Whether it is shown: it is asked for, and standard error took each line so far.
     pub is_shown: bool,
@@ -108,7 +123,7 @@ impl Progress {
     }
 
     // Whether a second has gone by since numbers were shown; then they are shown now. A clock that can't be read says no.
-    fn is_due<R: Clock>(&mut self, rt: &R) -> bool
+    pub(crate) fn is_due<R: Clock>(&mut self, rt: &R) -> bool
         ensures { self.new.is_shown ≡ self.old.is_shown }
     {
         let Ok(now) = Instant::now(rt) else {
@@ -123,13 +138,13 @@ impl Progress {
         true
     }
 
-    // Shows a text of two parts in place of the line. Where that can't be written, nothing is shown any more.
-    fn show<E: Write>(&mut self, text: &[u8], rest: &[u8], err: &mut E)
-        ensures { (sight : Sight) → sight_text sight ≡ text.now ++ rest.now →
+    // Shows a text of three parts in place of the line. Where that can't be written, nothing is shown any more.
+    fn show<E: Write>(&mut self, text: &[u8], path: &[u8], rest: &[u8], err: &mut E)
+        ensures { (sight : Sight) → sight_text sight ≡ text.now ++ (path.now ++ rest.now) →
             Shows E.contents self.old.is_shown err.old self.new.is_shown err.new }
     {
         if self.is_shown {
-            self.is_shown = write_in_place(text, rest, err).is_ok();
+            self.is_shown = write_in_place(text, path, rest, err).is_ok();
             self.has_line = true;
         }
     }
@@ -140,7 +155,7 @@ impl Progress {
     {
         let mut text = InlineText::<TEXT>::new();
         if write!(text, "{counts}").is_ok() {
-            self.show(text.as_str().as_bytes(), b"", err);
+            self.show(text.as_str().as_bytes(), b"", b"", err);
         }
     }
 
@@ -149,16 +164,45 @@ impl Progress {
         ensures { Shows E.contents self.old.is_shown err.old self.new.is_shown err.new }
     {
         if let Some(path) = disk {
-            self.show(b"opening ", path.as_bytes(), err);
+            self.show(b"opening ", path.as_bytes(), b"", err);
         }
     }
 
-    /// Shows that the store is copied now to the file at this path, if it is.
-    pub fn copying<E: Write>(&mut self, path: Option<&str>, err: &mut E)
+    /// Shows that the store is copied now to the file at this path.
+    pub fn copying<E: Write>(&mut self, path: &str, err: &mut E)
         ensures { Shows E.contents self.old.is_shown err.old self.new.is_shown err.new }
     {
-        if let Some(path) = path {
-            self.show(b"copying to ", path.as_bytes(), err);
+        self.show(b"copying to ", path.as_bytes(), b"", err);
+    }
+
+    // Shows what is done to the file at a path, and to how many of its segments.
+    fn show_segments<E: Write>(
+        &mut self,
+        text: &[u8],
+        path: &str,
+        segments: u64,
+        done: &str,
+        err: &mut E,
+    )
+        ensures { (sight : Sight) →
+            sight_text sight ≡ text.now ++ (path.now ++ segments_text segments done.now) →
+            Shows E.contents self.old.is_shown err.old self.new.is_shown err.new }
+    {
+        let mut rest = InlineText::<TEXT>::new();
+        if write!(rest, ", {segments} segments {done}").is_ok() {
+            self.show(text, path.as_bytes(), rest.as_str().as_bytes(), err);
+        }
+    }
+
+    // Shows that a long call goes on, and how many segments it has read or written.
+    pub(crate) fn goes_on<E: Write>(&mut self, call: LongCall<'_>, segments: u64, err: &mut E)
+        ensures { Shows E.contents self.old.is_shown err.old self.new.is_shown err.new }
+    {
+        match call {
+            LongCall::Opening(path) => self.show_segments(b"opening ", path, segments, "read", err),
+            LongCall::Copying(path) => {
+                self.show_segments(b"copying to ", path, segments, "written", err)
+            }
         }
     }
 
@@ -198,7 +242,7 @@ impl Progress {
         ensures { Shows E.contents self.old.is_shown err.old self.new.is_shown err.new }
     {
         if self.has_line {
-            self.show(b"", b"", err);
+            self.show(b"", b"", b"", err);
         }
     }
 }

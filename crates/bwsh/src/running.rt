@@ -10,7 +10,7 @@ ghost use Rattle.verify.specs.Report.{report};
 ghost use Rattle.bwsh.specs.Session.{RunsOn, RunsFirst, RunsOrder, RunsFrom, Shows, Start, Opens, IsHonestStore, map_after, map_left, step_in, numbers_of};
 
 use crate::batch_file::Order;
-use crate::copying::{Copying, leave_copy, path_of};
+use crate::copying::{Copying, leave_copy};
 use crate::notes::{Reasoned, Source};
 use crate::opening::store_fault;
 use crate::options::Ways;
@@ -25,6 +25,7 @@ use keys::Fault;
 use std::alloc::Global;
 use std::io::Write;
 use std::rt::Files;
+use std::sync::Wait;
 use std::thread::Threads;
 use std::time::Clock;
 
@@ -287,10 +288,10 @@ fn run_orders<R: AllocGlobal + Threads + Sync + Clock, D: Disk, O: Write, E: Wri
 
 // Runs the orders on the store that was opened, and hands on to the device what was written. Then the store is copied, if it is to be.
 pub(crate) fn run_opened<
-    R: AllocGlobal + Threads + Sync + Files + Clock,
+    R: AllocGlobal + Threads + Wait + Sync + Files + Clock,
     D: Disk + Reasoned + Drop,
     O: Write,
-    E: Write,
+    E: Write + Send,
 >(
     rt: &R,
     crew: Crew,
@@ -318,6 +319,5 @@ where
     let done = run_orders(rt, crew, ways, &mut store, orders, out, reports, err);
     reports.notes.failed(Source::File, store.disk().reason());
     flush(done, out)?;
-    reports.progress.copying(path_of(&copy), err);
-    leave_copy(rt, crew, &store, copy, &mut reports.notes)
+    leave_copy(rt, crew, &store, copy, reports, err)
 }

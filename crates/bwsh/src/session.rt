@@ -20,6 +20,7 @@ use crate::batch_file::{Order, TextFault, parse};
 use crate::copying::new_copy;
 use crate::explain::explained;
 use crate::line::Why;
+use crate::meter::Meter;
 use crate::notes::{Notes, Source};
 use crate::opening::{new_store_in_file, store_in_file, store_in_memory};
 use crate::options::{Options, options};
@@ -33,6 +34,7 @@ use std::alloc::{AllocError, AllocFailed, Global};
 use std::fmt::{InlineText, Write as _};
 use std::io::{ErrorKind, Read, Write};
 use std::rt::Files;
+use std::sync::Wait;
 use std::thread::Threads;
 use std::time::Clock;
 use std::{fmt, io};
@@ -175,7 +177,7 @@ fn has_writing(orders: &[Order]) -> bool
 }
 
 // Reads all of the input, and has it run.
-fn run_file<R: AllocGlobal + Threads + Sync + Files + Clock, I: Read, O: Write, E: Write>(
+fn run_file<R: AllocGlobal + Threads + Wait + Sync + Files + Clock, I: Read, O: Write, E: Write + Send>(
     rt: &R,
     request: &Options,
     input: &mut I,
@@ -196,6 +198,7 @@ where
     crew.check()?;
     let copy = new_copy(rt, request, &mut reports.notes)?;
     reports.progress.opening(&request.disk, err);
+    let meter = Meter::new();
     match &request.disk {
         None => {
             let opened = store_in_memory(rt.alloc(), request.settings, &mut reports.notes);
@@ -207,7 +210,7 @@ where
         }
         Some(path) => {
             let writes = has_writing(&orders);
-            let opened = store_in_file(rt, crew, path, writes, &mut reports.notes);
+            let opened = store_in_file(rt, crew, path, writes, &meter, reports, err);
             run_opened(rt, crew, ways, copy, opened, &orders, out, reports, err)
         }
     }
@@ -242,7 +245,7 @@ where
 /// bytes.
 ///
 /// `reports` gets what an explanation of the end needs, and its progress goes to `err`, where it is shown.
-pub fn run<R: AllocGlobal + Threads + Sync + Files + Clock, I: Read, O: Write, E: Write>(
+pub fn run<R: AllocGlobal + Threads + Wait + Sync + Files + Clock, I: Read, O: Write, E: Write + Send>(
     rt: &R,
     request: &Options,
     input: &mut I,
@@ -298,7 +301,7 @@ fn answer_words<O: Write>(alloc: Global, error: clap::Error, out: &mut O) -> Res
 
 // Does what the options ask for: prints the version, or runs the batch file. `more` gets the explanation of its end, and `err` its
 // progress, where they are asked for.
-fn obey_options<R: AllocGlobal + Threads + Sync + Files + Clock, I: Read, O: Write, E: Write>(
+fn obey_options<R: AllocGlobal + Threads + Wait + Sync + Files + Clock, I: Read, O: Write, E: Write + Send>(
     rt: &R,
     request: &Options,
     input: &mut I,
@@ -333,7 +336,7 @@ where
 }
 
 // Does what the words ask for. `more` gets the explanation of its end, and `err` its progress, where they are asked for.
-fn obey<R: AllocGlobal + Threads + Sync + Files + Clock, I: Read, O: Write, E: Write>(
+fn obey<R: AllocGlobal + Threads + Wait + Sync + Files + Clock, I: Read, O: Write, E: Write + Send>(
     rt: &R,
     words: &[String],
     input: &mut I,
@@ -427,7 +430,7 @@ pub fn unread_words<E: Write>(error: io::Error, err: &mut E) -> u8
 ///
 /// Where they ask for `--progress`, `err` gets one line before all that, about once a second, each in place of the one before, and at the end
 /// it is erased. Where it can't be written, the session goes on without.
-pub fn session<R: AllocGlobal + Threads + Sync + Files + Clock, I: Read, O: Write, E: Write>(
+pub fn session<R: AllocGlobal + Threads + Wait + Sync + Files + Clock, I: Read, O: Write, E: Write + Send>(
     rt: &R,
     words: &[String],
     input: &mut I,

@@ -12,7 +12,8 @@ ghost use Rattle.bwsh.specs.Options.{request_of};
 ghost use Rattle.bwsh.specs.Session.{IsHonestStore, Opens, RunsFirst, Shows, Start, Streams, StreamsFrom, StreamsOn, stream_ended, map_left};
 
 use crate::batch_file::Order;
-use crate::copying::{Copying, leave_copy, new_copy, path_of};
+use crate::copying::{Copying, leave_copy, new_copy};
+use crate::meter::Meter;
 use crate::line::{LineReader, Says, Why};
 use crate::notes::{Notes, Reasoned, Source};
 use crate::opening::{new_store_in_file, store_in_file, store_in_memory};
@@ -26,6 +27,7 @@ use keys::{Command, Fault};
 use std::alloc::Global;
 use std::io::{BufRead, BufReader, ErrorKind, Read, Write};
 use std::rt::Files;
+use std::sync::Wait;
 use std::thread::Threads;
 use std::time::Clock;
 
@@ -291,11 +293,11 @@ fn ended(done: Result<Option<BadLine>, Ending>) -> Result<(), Ending>
 
 // Runs the lines of the input on the store that was opened, and hands on to the device what was written. Then the store is copied, if it is to be.
 fn run_opened<
-    R: AllocGlobal + Threads + Sync + Files + Clock,
+    R: AllocGlobal + Threads + Wait + Sync + Files + Clock,
     D: Disk + Reasoned + Drop,
     I: BufRead,
     O: Write,
-    E: Write,
+    E: Write + Send,
 >(
     rt: &R,
     crew: Crew,
@@ -323,12 +325,11 @@ where
     let done = run_lines(rt, crew, ways, &mut store, input, out, reports, err);
     reports.notes.failed(Source::File, store.disk().reason());
     flush(ended(done), out)?;
-    reports.progress.copying(path_of(&copy), err);
-    leave_copy(rt, crew, &store, copy, &mut reports.notes)
+    leave_copy(rt, crew, &store, copy, reports, err)
 }
 
 // Runs the lines of the input as they come, on the store that is asked for.
-fn run_request<R: AllocGlobal + Threads + Sync + Files + Clock, I: BufRead, O: Write, E: Write>(
+fn run_request<R: AllocGlobal + Threads + Wait + Sync + Files + Clock, I: BufRead, O: Write, E: Write + Send>(
     rt: &R,
     request: &Options,
     input: &mut I,
@@ -347,6 +348,7 @@ where
     let (crew, ways) = (request.crew, request.ways);
     let copy = new_copy(rt, request, &mut reports.notes)?;
     reports.progress.opening(&request.disk, err);
+    let meter = Meter::new();
     match &request.disk {
         None => {
             let opened = store_in_memory(rt.alloc(), request.settings, &mut reports.notes);
@@ -357,7 +359,7 @@ where
             run_opened(rt, crew, ways, copy, opened, input, out, reports, err)
         }
         Some(path) => {
-            let opened = store_in_file(rt, crew, path, true, &mut reports.notes);
+            let opened = store_in_file(rt, crew, path, true, &meter, reports, err);
             run_opened(rt, crew, ways, copy, opened, input, out, reports, err)
         }
     }
@@ -382,10 +384,10 @@ fn ask_input<I: Read>(input: &mut I, notes: &mut Notes) -> Result<(), Ending>
 
 /// Runs the lines of the input as they come, on the store that is asked for; `session::run` says more.
 pub(crate) fn run_stream<
-    R: AllocGlobal + Threads + Sync + Files + Clock,
+    R: AllocGlobal + Threads + Wait + Sync + Files + Clock,
     I: Read,
     O: Write,
-    E: Write,
+    E: Write + Send,
 >(
     rt: &R,
     request: &Options,

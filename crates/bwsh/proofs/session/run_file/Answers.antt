@@ -85,4 +85,6 @@ pub returns-in-Some-clause-shows : goal.returns-in-Some-clause-shows
 returns-in-Some-clause-shows g c = Shows-trans g.E.Write.contents _ _ _ _ _ _ c.opening.ensures c.run_opened-in-Some.ensures.shows
 
 pub returns-clause-shows : goal.returns-clause-shows
-returns-clause-shows g c = Shows-trans g.E.Write.contents _ _ _ _ _ _ c.opening.ensures c.run_opened-in-Some-2.ensures.shows
+returns-clause-shows g c =
+    Shows-trans g.E.Write.contents _ _ _ _ _ _ c.opening.ensures
+    (Shows-trans g.E.Write.contents _ _ _ _ _ _ c.store_in_file-opened.ensures.shows c.run_opened-in-Some-2.ensures.shows)

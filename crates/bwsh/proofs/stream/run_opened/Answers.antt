@@ -25,7 +25,7 @@ returns-clause-runs g c start opens =
     let copy = option_map (λ w. w.settings) c.args.copy in
     let run = c.run_lines-done in
     StreamsFrom-opened c.args.ways _ _ start g.D.Disk.view c.args.opened opens c.in_ok-store.store (g.O.Write.contents run.new.out) _ run.result run.new.store.store (Ok tt) c.in_ok-store.was
-    run.ensures.runs c.flush.ensures.bytes (ended_as c.ended.result (stream_ended run.result) (Ok tt) c.ended.ensures c.in_ok-flush.ensures.end) copy c.leave_copy.result c.leave_copy.ensures
+    run.ensures.runs c.flush.ensures.bytes (ended_as c.ended.result (stream_ended run.result) (Ok tt) c.ended.ensures c.in_ok-flush.ensures.end) copy c.leave_copy.result c.leave_copy.ensures.copies
 
 pub returns-in_err-store-clause-shows : goal.returns-in_err-store-clause-shows
 returns-in_err-store-clause-shows g c = Shows-same g.E.Write.contents c.args.reports.now.progress.is_shown c.args.err.now
@@ -34,4 +34,4 @@ pub returns-in_err-flush-clause-shows : goal.returns-in_err-flush-clause-shows
 returns-in_err-flush-clause-shows g c = c.run_lines-done.ensures.shows
 
 pub returns-clause-shows : goal.returns-clause-shows
-returns-clause-shows g c = Shows-trans g.E.Write.contents _ _ _ _ _ _ c.run_lines-done.ensures.shows c.copying.ensures
+returns-clause-shows g c = Shows-trans g.E.Write.contents _ _ _ _ _ _ c.run_lines-done.ensures.shows c.leave_copy.ensures.shows

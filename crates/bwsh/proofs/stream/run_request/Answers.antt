@@ -49,4 +49,6 @@ pub returns-in-Some-clause-shows : goal.returns-in-Some-clause-shows
 returns-in-Some-clause-shows g c = Shows-trans g.E.Write.contents _ _ _ _ _ _ c.opening.ensures c.run_opened-in-Some.ensures.shows
 
 pub returns-in-Some-2-clause-shows : goal.returns-in-Some-2-clause-shows
-returns-in-Some-2-clause-shows g c = Shows-trans g.E.Write.contents _ _ _ _ _ _ c.opening.ensures c.run_opened-in-Some-2.ensures.shows
+returns-in-Some-2-clause-shows g c =
+    Shows-trans g.E.Write.contents _ _ _ _ _ _ c.opening.ensures
+    (Shows-trans g.E.Write.contents _ _ _ _ _ _ c.store_in_file-opened.ensures.shows c.run_opened-in-Some-2.ensures.shows)
