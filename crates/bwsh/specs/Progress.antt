@@ -5,8 +5,8 @@ use Rattle.keys.specs.Bytes.{Bytes}
 use Rattle.bwsh.specs.declared.progress.Counts.{Counts}
 use Rattle.bwsh.specs.declared.progress.Counts.TheVariants.{Orders, Lines}
 
--- how far a session is: in numbers; or in a long call on the file at a path, at its start and after so many segments that it read or wrote;
--- or nothing, where the line is erased
+-- how far a session is: in numbers; or in a long call on the file at a path, at its start, and after some segments were read or written; or
+-- nothing, where the line is erased
 pub data Sight : Type 0 where
   counts : Counts → Sight
   opening : Bytes → Sight
@@ -20,7 +20,7 @@ abbrev pub counts_text : Counts → Bytes
 counts_text (Orders run read) = decimal run ++ codes " of " ++ decimal read ++ codes " orders run"
 counts_text (Lines read run) = decimal read ++ (codes " lines read, " ++ (decimal run ++ codes " batches run"))
 
--- the text of so many segments with which this is done
+-- the text of a number of segments to which this was done
 abbrev pub segments_text : ℕ → Bytes → Bytes
 segments_text segments done = codes ", " ++ (decimal segments ++ (codes " segments " ++ done))
 

@@ -198,9 +198,7 @@ fn copy_into<
     let meter = Meter::new();
     let disk = Metered::new(disk, &meter);
     let progress = &mut reports.progress;
-    match copied_watched(
-        rt, crew, store, path, disk, settings, &meter, progress, err,
-    ) {
+    match copied_watched(rt, crew, store, path, disk, settings, &meter, progress, err) {
         Ok(_copy) => Ok(()),
         Err(refused) => {
             reports.notes.failed(Source::Copy, refused.1.reason());

@@ -32,13 +32,12 @@ fn words_after_name(words: &[String]) -> &[String]
 /// Does what all these words of the command line ask for, the first being the program's name, and returns the exit
 /// status of the session. Where they cannot be read, that alone is reported, and the status is that of
 /// `unread_words`.
-pub fn run_words<R: AllocGlobal + Threads + Wait + Sync + Files + Clock, I: Read, O: Write, E: Write + Send>(
-    rt: &R,
-    words: io::Result<Vec<String>>,
-    input: &mut I,
-    out: &mut O,
-    err: &mut E,
-) -> u8
+pub fn run_words<
+    R: AllocGlobal + Threads + Wait + Sync + Files + Clock,
+    I: Read,
+    O: Write,
+    E: Write + Send,
+>(rt: &R, words: io::Result<Vec<String>>, input: &mut I, out: &mut O, err: &mut E) -> u8
 where
     R::File: LockFile,
     ensures read { IfOk words (λ all. EndsReported (map string_bytes (drop 1 all.items))

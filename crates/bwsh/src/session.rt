@@ -177,7 +177,12 @@ fn has_writing(orders: &[Order]) -> bool
 }
 
 // Reads all of the input, and has it run.
-fn run_file<R: AllocGlobal + Threads + Wait + Sync + Files + Clock, I: Read, O: Write, E: Write + Send>(
+fn run_file<
+    R: AllocGlobal + Threads + Wait + Sync + Files + Clock,
+    I: Read,
+    O: Write,
+    E: Write + Send,
+>(
     rt: &R,
     request: &Options,
     input: &mut I,
@@ -245,7 +250,12 @@ where
 /// bytes.
 ///
 /// `reports` gets what an explanation of the end needs, and its progress goes to `err`, where it is shown.
-pub fn run<R: AllocGlobal + Threads + Wait + Sync + Files + Clock, I: Read, O: Write, E: Write + Send>(
+pub fn run<
+    R: AllocGlobal + Threads + Wait + Sync + Files + Clock,
+    I: Read,
+    O: Write,
+    E: Write + Send,
+>(
     rt: &R,
     request: &Options,
     input: &mut I,
@@ -301,7 +311,12 @@ fn answer_words<O: Write>(alloc: Global, error: clap::Error, out: &mut O) -> Res
 
 // Does what the options ask for: prints the version, or runs the batch file. `more` gets the explanation of its end, and `err` its
 // progress, where they are asked for.
-fn obey_options<R: AllocGlobal + Threads + Wait + Sync + Files + Clock, I: Read, O: Write, E: Write + Send>(
+fn obey_options<
+    R: AllocGlobal + Threads + Wait + Sync + Files + Clock,
+    I: Read,
+    O: Write,
+    E: Write + Send,
+>(
     rt: &R,
     request: &Options,
     input: &mut I,
@@ -430,13 +445,12 @@ pub fn unread_words<E: Write>(error: io::Error, err: &mut E) -> u8
 ///
 /// Where they ask for `--progress`, `err` gets one line before all that, about once a second, each in place of the one before, and at the end
 /// it is erased. Where it can't be written, the session goes on without.
-pub fn session<R: AllocGlobal + Threads + Wait + Sync + Files + Clock, I: Read, O: Write, E: Write + Send>(
-    rt: &R,
-    words: &[String],
-    input: &mut I,
-    out: &mut O,
-    err: &mut E,
-) -> u8
+pub fn session<
+    R: AllocGlobal + Threads + Wait + Sync + Files + Clock,
+    I: Read,
+    O: Write,
+    E: Write + Send,
+>(rt: &R, words: &[String], input: &mut I, out: &mut O, err: &mut E) -> u8
 where
     R::File: LockFile,
     ensures status { (result ≡ 0) ⊎ (result ≡ 2) ⊎ (result ≡ 3) ⊎ (result ≡ 4) }

@@ -13,8 +13,8 @@ ghost use Rattle.bwsh.specs.Session.{IsHonestStore, Opens, RunsFirst, Shows, Sta
 
 use crate::batch_file::Order;
 use crate::copying::{Copying, leave_copy, new_copy};
-use crate::meter::Meter;
 use crate::line::{LineReader, Says, Why};
+use crate::meter::Meter;
 use crate::notes::{Notes, Reasoned, Source};
 use crate::opening::{new_store_in_file, store_in_file, store_in_memory};
 use crate::options::{Options, Ways};
@@ -329,7 +329,12 @@ where
 }
 
 // Runs the lines of the input as they come, on the store that is asked for.
-fn run_request<R: AllocGlobal + Threads + Wait + Sync + Files + Clock, I: BufRead, O: Write, E: Write + Send>(
+fn run_request<
+    R: AllocGlobal + Threads + Wait + Sync + Files + Clock,
+    I: BufRead,
+    O: Write,
+    E: Write + Send,
+>(
     rt: &R,
     request: &Options,
     input: &mut I,

@@ -9,29 +9,32 @@ use std::sync::{Condvar, CondvarTimeouts, Mutex, Wait};
 use std::thread::{Threads, join_mut};
 use std::time::{Clock, Duration};
 
-// Seconds that the watcher waits between two looks.
-const PAUSE: u64 = 1;
+// Milliseconds between two looks of the watcher: some more than the second after which a line is due, since clocks aren't exact.
+const PAUSE: u64 = 1_100;
 
 // Whether a call is done, for the thread that watches it.
 #[derive(Drop)]
-struct Door {
+struct Latch {
     is_done: Mutex<bool>,
     changed: Condvar,
 }
 
-impl Door {
+impl Latch {
     // The call is done: the thread that watches it needn't wait.
-    fn close<R: Wait>(&self, rt: &R) {
+    fn set<R: Wait>(&self, rt: &R) {
         *self.is_done.lock(rt) = true;
         self.changed.notify_all();
     }
 
     // Whether the call is done. Where it isn't, it has until the pause is over.
-    fn is_closed<R: Wait + Clock>(&self, rt: &R) -> bool {
+    fn is_set<R: Wait + Clock>(&self, rt: &R) -> bool {
         let is_done = self.is_done.lock(rt);
-        let (is_done, _) = self
-            .changed
-            .wait_timeout_while(rt, is_done, Duration::from_secs(PAUSE), |is_done| !*is_done);
+        let (is_done, _) = self.changed.wait_timeout_while(
+            rt,
+            is_done,
+            Duration::from_millis(PAUSE),
+            |is_done| !*is_done,
+        );
         *is_done
     }
 }
@@ -39,7 +42,7 @@ impl Door {
 // Shows how far the call is after each pause, until it is done, or nothing is shown any more, or the clock can't be read.
 fn watch<R: Wait + Clock, E: Write>(
     rt: &R,
-    door: &Door,
+    latch: &Latch,
     meter: &Meter,
     call: LongCall<'_>,
     progress: &mut Progress,
@@ -48,7 +51,7 @@ fn watch<R: Wait + Clock, E: Write>(
     ensures { Shows E.contents progress.old.is_shown err.old progress.new.is_shown err.new }
 {
     for _ in rt.forever() {
-        if door.is_closed(rt) || !progress.is_shown || !progress.is_due(rt) {
+        if latch.is_set(rt) || !progress.is_shown || !progress.is_due(rt) {
             break;
         }
         progress.goes_on(call, meter.segments(), err);
@@ -57,12 +60,7 @@ fn watch<R: Wait + Clock, E: Write>(
 
 /// Does the work, which counts on the meter. Where progress is shown another thread watches it, and shows how far it is: about once a second,
 /// the first time after a second. Where no thread can be made, it is done all the same.
-pub fn watched<
-    R: Threads + Wait + Clock + Sync,
-    E: Write + Send,
-    T: Drop,
-    W: FnOnce() -> T + Drop,
->(
+pub fn watched<R: Threads + Wait + Clock + Sync, E: Write + Send, T: Drop, W: FnOnce() -> T + Drop>(
     rt: &R,
     meter: &Meter,
     call: LongCall<'_>,
@@ -77,7 +75,7 @@ pub fn watched<
     if !progress.is_shown {
         return work();
     }
-    let door = Door {
+    let latch = Latch {
         is_done: Mutex::new(false),
         changed: Condvar::new(),
     };
@@ -87,13 +85,13 @@ pub fn watched<
         ensures { IfSome work.entry (λ w. IfSome result (W.post w)) × IsSome result }
     {
         let done = work.take()?();
-        door.close(rt);
+        latch.set(rt);
         Some(done)
     };
     let mut watches = ||
         ensures { Shows E.contents progress.entry.now.is_shown err.entry.now
             progress.exit.now.is_shown err.exit.now }
-    { watch(rt, &door, meter, call, progress, err) };
+    { watch(rt, &latch, meter, call, progress, err) };
     match join_mut(rt, &mut watches, &mut works).1 {
         Some(done) => done,
         None => unreachable!(),
