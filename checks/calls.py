@@ -25,16 +25,18 @@ EVER = 1_000_000
 
 @dataclass(frozen=True)
 class Fails:
-    """Calls of one kind that fail with this error: `count` of them from the number `first` on, counted from 0. Reads and writes may be cut to a byte."""
+    """Calls of one kind that fail with this error: `count` of them from the number `first` on, counted from 0. Reads and writes may be cut to a byte,
+    and those of the file may take some milliseconds more."""
 
     call: str
     first: int = 0
     count: int = EVER
     error: int = errno.EIO
     cuts: bool = False
+    wait: int = 0
 
     def environment(self, library: Path, file: object) -> dict[str, str]:
-        numbers = {"FAIL_FROM": str(self.first), "FAIL_COUNT": str(self.count), "FAIL_ERROR": str(self.error)}
+        numbers = {"FAIL_FROM": str(self.first), "FAIL_COUNT": str(self.count), "FAIL_ERROR": str(self.error), "FAIL_WAIT": str(self.wait)}
         words = {"LD_PRELOAD": str(library), "FAIL_CALL": self.call, "FAIL_FILE": str(file)}
         return {**words, **numbers, **({"FAIL_CUT": "1"} if self.cuts else {})}
 

@@ -6,8 +6,9 @@
    cut, read, write, sync       setting its length, a read, a write, a sync
    thread                       starting a thread: that ends the program with FAIL_ERROR as its status
 
-   Where FAIL_CUT is set, each read and each write of the file or of a stream takes a byte. It is loaded in front of the C library; `calls.py`
-   builds and runs it. It includes nothing, since the kit has a compiler and no headers. */
+   Where FAIL_CUT is set, each read and each write of the file or of a stream takes a byte. Where FAIL_WAIT is set, those of the file take as
+   many milliseconds more. It is loaded in front of the C library; `calls.py` builds and runs it. It includes nothing, since the kit has a
+   compiler and no headers. */
 typedef __SIZE_TYPE__ size_t;
 
 int *__errno_location(void);
@@ -17,11 +18,11 @@ int strcmp(const char *, const char *);
 long syscall(long, ...);
 void *dlsym(void *, const char *);
 
-enum { READ = 0, WRITE = 1, OPEN = 2, FLOCK = 73, FDATASYNC = 75, FTRUNCATE = 77, EXIT_GROUP = 231, STATX = 332 };
+enum { READ = 0, WRITE = 1, OPEN = 2, NANOSLEEP = 35, FLOCK = 73, FDATASYNC = 75, FTRUNCATE = 77, EXIT_GROUP = 231, STATX = 332 };
 enum { O_WRITES = 03, LOCK_EX = 2 };
 
 static const char *kind, *path;
-static long first, count, error, made;
+static long first, count, error, pause, made;
 static int cuts, file = -1;
 
 __attribute__((constructor)) static void start(void) {
@@ -31,6 +32,7 @@ __attribute__((constructor)) static void start(void) {
     count = atol(getenv("FAIL_COUNT"));
     error = atol(getenv("FAIL_ERROR"));
     cuts = getenv("FAIL_CUT") != 0;
+    pause = getenv("FAIL_WAIT") ? atol(getenv("FAIL_WAIT")) : 0;
 }
 
 /* Counts a call of this kind, and says whether it fails. */
@@ -44,6 +46,13 @@ static int fails(const char *call) {
     }
     *__errno_location() = error;
     return 1;
+}
+
+static void delay(int fd) {
+    long duration[2] = {pause / 1000, pause % 1000 * 1000000}; /* seconds and nanoseconds */
+    if (fd == file && pause) {
+        syscall(NANOSLEEP, duration, 0);
+    }
 }
 
 static size_t taken(size_t size) { return cuts && size > 1 ? 1 : size; }
@@ -72,6 +81,7 @@ long read(int fd, void *buf, size_t size) {
     if (fd != 0 && fd != file) {
         return syscall(READ, fd, buf, size);
     }
+    delay(fd);
     return fails(fd ? "read" : "input") ? -1 : syscall(READ, fd, buf, taken(size));
 }
 
@@ -80,6 +90,7 @@ long write(int fd, const void *bytes, size_t size) {
         return syscall(WRITE, fd, bytes, size);
     }
     const char *call = fd == 1 ? "output" : fd == 2 ? "error" : "write";
+    delay(fd);
     return fails(call) ? -1 : syscall(WRITE, fd, bytes, taken(size));
 }
 

@@ -5,6 +5,7 @@ import subprocess
 import time
 from pathlib import Path
 
+from checks.calls import Fails
 from checks.dialogs import Dialog
 from checks.harness import PATIENCE, Case, Limits, Outcome, Programs, Ran, differs, new_folder, run
 from checks.refused import ANSWERS, BUDGET, TEXT, Session, refuse
@@ -16,6 +17,9 @@ TURN = 1.1  # seconds, after which a line is due
 ORDERS = 300  # verifies, at which a session may take some seconds
 PAIRS = 60_000  # for each of them
 LONGEST = 50  # seconds that a session may take
+SLOW = Fails("none", wait=300)  # reads and writes of a file that take 0.3 s more each
+WIDE = ("--seg-size=512", "--max-key=16", "--max-value=16", "--fan=8")  # settings under which twelve segments hold these pairs
+LOADED = b"".join(b"put key%03d value%d\n" % (number, number) for number in range(200))
 
 # Words, input, and what goes to the output and to standard error of a session on a file that has `put a 1` and a flush. In a session that reads
 # all first a bad line is found before the file is opened.
@@ -161,6 +165,32 @@ def copied(programs: Programs) -> Outcome:
         return Outcome(wrong or differs(refused, 4, b"", b"fault 1 BadSettings fan\n"))
 
 
+def wrong_segments(ran: Ran, path: Path, first: bytes, done: bytes, segments: int) -> str | None:
+    """What is wrong with how a session ended that read or wrote a slow file: it shows more and more of its segments, after each second."""
+    text = first + str(path).encode()
+    counts = [int(count) for count in re.findall(rb"\r" + re.escape(text) + rb", (\d+) segments " + done, ran.err)]
+    lines = shown(text, *(text + b", %d segments " % count + done for count in counts))
+    is_right = (ran.status, ran.err) == (0, lines) and 2 <= len(counts) and counts == sorted(set(counts)) and counts[-1] <= segments
+    return None if is_right else f"{ran.reported()}, where {segments} segments are due at most"
+
+
+def slow(programs: Programs, library: Path, words: tuple[str, ...]) -> Outcome:
+    """A recovery and a copy that take some seconds, since each call of their file does."""
+    with new_folder() as folder:
+        path, copy = Path(folder) / "file", Path(folder) / "copy"
+        ran = run([programs.store, *WIDE, "--stat", "--create", "--disk", path], LOADED + b"flush\n")
+        segments = int(ran.out.split()[-7])
+        words = (*words, "--progress")
+        opened = run([programs.store, *words, "--disk", path], b"get key000\n", environment=SLOW.environment(library, path))
+        wrong = wrong_segments(opened, path, b"opening ", b"read", segments)
+        copied = run([programs.store, *WIDE, *words, "--copy-to", copy], LOADED, environment=SLOW.environment(library, copy))
+        wrong = wrong or wrong_segments(copied, copy, b"copying to ", b"written", segments + 1)
+        seen = run([programs.store, "--disk", copy], b"scan % * 999\n").out
+        is_same = seen == run([programs.store, "--disk", path], b"scan % * 999\n").out and seen.startswith(b"rows 200\n")
+        wrong = wrong or (None if opened.out == b"value value0\n" and copied.out == b"new\n" * 200 and is_same else "other answers")
+        return Outcome(wrong, measured=f"{segments} segments: {opened.err.count(START)} and {copied.err.count(START)} lines")
+
+
 def full(programs: Programs) -> Outcome:
     """A log that is full ends a session with progress as it does without."""
     words = ["--max-key=16", "--max-value=16", "--seg-size=512", "--segments=3", "--fan=4"]
@@ -170,7 +200,7 @@ def full(programs: Programs) -> Outcome:
     return Outcome(differs(ran, 4, plain.out, plain.err) or (None if plain.err == b"fault 10 Full\n" else plain.reported()))
 
 
-def cases(programs: Programs, library: Path) -> list[Case]:
+def cases(programs: Programs, library: Path, failing: Path) -> list[Case]:
     session = Session("in memory", ("--progress",), TEXT, ANSWERS)
     given = ([programs.store, *session.words], library, 1, 1, BUDGET, session.text, session.wrong)
     return [
@@ -181,6 +211,7 @@ def cases(programs: Programs, library: Path) -> list[Case]:
         *(Case(f"beside a session, {number}", beside, (programs, number)) for number in range(len(SESSIONS))),
         Case("where nothing is to be shown", elsewhere, (programs,)),
         Case("a copy", copied, (programs,)),
+        *(Case(f"a slow file {' '.join(words)}", slow, (programs, failing, words)) for words in ((), ("--stream",), ("--workers=4",))),
         Case("a full log", full, (programs,)),
         *(Case(f"standard error that can't be written, {way}", unwritable, (programs, way)) for way in ("2>&-", "2>/dev/full", "pipe")),
     ]
