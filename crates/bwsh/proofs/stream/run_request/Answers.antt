@@ -32,8 +32,8 @@ returns-in-Some-clause-runs g c =
     Streams-run (request_of request) _ _ _ _ (new_start request.settings []) (IsStart-anew request c.requires c.in-Some.path c.in-Some.is c.if-request.true []) _
     (λ memory. absurd (in_file request c.in-Some.path c.in-Some.is memory)) _ c.in_ok-copy.ensures.asked (c.run_opened-in-Some.ensures.runs (new_start request.settings []) (c.new_store_in_file-opened.ensures.opens []))
 
-pub returns-in-Some-2-clause-runs : goal.returns-in-Some-2-clause-runs
-returns-in-Some-2-clause-runs g c =
+pub returns-clause-runs : goal.returns-clause-runs
+returns-clause-runs g c =
     let request = c.args.request.now in
     let (file, opens) = c.store_in_file-opened.ensures.opens in
     Streams-run (request_of request) _ _ _ _ (found_start file) (IsStart-found request c.requires c.in-Some-2.path c.in-Some-2.is c.if-request.false c.in_ok-copy.ensures.admitted file) _
@@ -48,7 +48,7 @@ returns-in-None-clause-shows g c = Shows-trans g.E.Write.contents _ _ _ _ _ _ c.
 pub returns-in-Some-clause-shows : goal.returns-in-Some-clause-shows
 returns-in-Some-clause-shows g c = Shows-trans g.E.Write.contents _ _ _ _ _ _ c.opening.ensures c.run_opened-in-Some.ensures.shows
 
-pub returns-in-Some-2-clause-shows : goal.returns-in-Some-2-clause-shows
-returns-in-Some-2-clause-shows g c =
+pub returns-clause-shows : goal.returns-clause-shows
+returns-clause-shows g c =
     Shows-trans g.E.Write.contents _ _ _ _ _ _ c.opening.ensures
     (Shows-trans g.E.Write.contents _ _ _ _ _ _ c.store_in_file-opened.ensures.shows c.run_opened-in-Some-2.ensures.shows)
