@@ -158,7 +158,7 @@ DISKS = [
     Disk(f"{LEAVES:,} empty leaves that no tree reaches", empty_leaves, (4, b"", b"fault 16 BadStructure 10 1\n"), pages=SLOT * SLOTS),
     Disk(f"{LEAVES:,} empty leaves, four workers", empty_leaves, (4, b"", b"fault 16 BadStructure 10 1\n"), ("--workers", "4"), pages=SLOT * SLOTS),
     Disk("a log of 65,534 segments", many_segments, ONE_ROW, is_store=True),
-    Disk(f"a tree of {LEVELS} levels", tall_tree, TWO_ROWS, is_store=True),
+    Disk(f"a tree of {LEVELS} levels", tall_tree, TWO_ROWS),
     Disk("leaves of long keys that share beginnings", long_keys, (4, b"", b"fault 16 BadStructure 10 1\n"), pages=LONG_KEYS),
     Disk("leaves of long keys, four workers", long_keys, (4, b"", b"fault 16 BadStructure 10 1\n"), ("--workers", "4"), pages=LONG_KEYS),
     Disk("a leaf of long keys that is whole again and again", long_keys_again, ONE_ROW, is_store=True),

@@ -85,7 +85,7 @@ fn write_in_place<E: Write>(
 }
 
 /// How far a session is, and when that was shown.
-#[derive(Clone, Copy)]
+#[derive(Drop)]
 pub struct Progress {
     /// Whether it is shown: it is asked for, and standard error took each line so far.
     pub is_shown: bool,
