@@ -170,7 +170,7 @@ def wrong_segments(ran: Ran, path: Path, first: bytes, done: bytes, segments: in
     text = first + str(path).encode()
     counts = [int(count) for count in re.findall(rb"\r" + re.escape(text) + rb", (\d+) segments " + done, ran.err)]
     lines = shown(text, *(text + b", %d segments " % count + done for count in counts))
-    is_right = (ran.status, ran.err) == (0, lines) and 2 <= len(counts) and counts == sorted(set(counts)) and counts[-1] <= segments
+    is_right = (ran.status, ran.err) == (0, lines) and 2 <= len(set(counts)) and counts == sorted(counts) and counts[-1] <= segments
     return None if is_right else f"{ran.reported()}, where {segments} segments are due at most"
 
 
