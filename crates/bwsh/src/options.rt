@@ -262,7 +262,7 @@ fn ways(matches: &ArgMatches<'_>) -> Ways
 /// [--segments N] [--workers N] [--grain N] [--tidy N] [--disk PATH] [--copy-to PATH] [--create] [--version] [--explain]
 /// [--stat] [--clean-when-full] [--stream] [--progress]`, in any order, `--fan=N` too, and `--help` or `-h`. A number that
 /// is not given has its default. Whether the numbers are in range is for `Settings::check` and `Crew::check` to say.
-// It stays out of its caller, which would keep what it takes of the stack (20 KB) while a session runs.
+// It stays out of its caller, which would keep what it takes of the stack (25 KB) while a session runs.
 #[inline(never)]
 pub fn options(alloc: Global, words: &[String]) -> Result<Options, Error>
     ensures ok { IfOk result (λ o. AsksFor (texts words.now) (request_of o)) }
