@@ -8,7 +8,8 @@ prover prints its name. `refused:` is the goal or the clause at which the prover
 whose function the prover has to accept, so that a check that refuses everything fails.
 
 Only the functions that are changed, and those that they call, are checked, over the libraries that the gate has built. Edits of one crate that
-change different functions, of which none calls another, share a check (`CALLS` lists those that do call one another).
+change different functions share a check, since the prover reads each function against the contracts of those that it calls. The controls of a crate
+have a check of their own. The checks of a crate are made one after the other, and keep what they have proved of its other functions.
 """
 
 import re
@@ -17,7 +18,6 @@ import subprocess
 import sys
 import tempfile
 import time
-from collections.abc import Iterator
 from concurrent.futures import ThreadPoolExecutor
 from dataclasses import dataclass
 from pathlib import Path
@@ -27,10 +27,8 @@ from tools import kit
 TOP = Path(__file__).resolve().parent.parent
 EDITS = Path(__file__).resolve().parent / "bodies"
 PARTS = ("src", "specs", "proofs")  # of a crate
-# Functions of the edits that call another function of the edits, by crate: they aren't checked together.
-CALLS = {
-    "claim_board": (),
-}
+# An error at an answer that cites a name which the edit took away.
+OF_FORM = re.compile(r"has no field|is not in scope|has no `|was not admitted|depends on")
 
 
 @dataclass(frozen=True)
@@ -44,6 +42,10 @@ class Edit:
     changes: tuple[tuple[str, str], ...]
     function: str
     goal: str | None
+
+    @property
+    def is_control(self) -> bool:
+        return self.goal is None
 
     @property
     def label(self) -> str:
@@ -91,7 +93,7 @@ def all_edits() -> list[Edit]:
 
 
 def groups_of(edits: list[Edit]) -> list[list[Edit]]:
-    """Returns the edits in groups that are checked together: edits of one crate, each of another function, none of which calls another."""
+    """Returns the edits of a crate in groups that are checked together: broken functions, each another one, or right functions."""
     groups: list[list[Edit]] = []
     for edit in edits:
         group = next((group for group in groups if fits(edit, group)), None)
@@ -103,15 +105,13 @@ def groups_of(edits: list[Edit]) -> list[list[Edit]]:
 
 
 def fits(edit: Edit, group: list[Edit]) -> bool:
-    taken = {other.function for other in group}
-    alone = CALLS.get(edit.crate, ())
-    return group[0].crate == edit.crate and edit.function not in taken and not any(name in alone for name in (edit.function, *taken))
+    return edit.is_control == group[0].is_control and edit.function not in {other.function for other in group}
 
 
-def run_check(workspace: kit.Workspace, crate: str, folder: Path, functions: list[str]) -> tuple[int, str]:
-    """Checks these functions of a copy of a crate, and returns the prover's status and what it printed."""
+def run_check(workspace: kit.Workspace, crate: str, folder: Path, kept: Path, functions: list[str]) -> tuple[int, str]:
+    """Checks these functions of a copy of a crate over what earlier checks have kept, and returns the prover's status and what it printed."""
     names = [word for function in functions for word in ("--only", function)]
-    words = [kit.RATTLE, "check", *workspace.check_words(crate), *names]
+    words = [kit.RATTLE, "check", *workspace.check_words(crate), "--incremental", kept, *names]
     ran = subprocess.run(words, cwd=folder, stdin=subprocess.DEVNULL, stdout=subprocess.PIPE, stderr=subprocess.STDOUT, text=True, errors="replace")
     return ran.returncode, ran.stdout
 
@@ -123,29 +123,30 @@ def verdict_of(edit: Edit, status: int, printed: str) -> Verdict:
     if line is None:
         return Verdict(edit, f"the prover has no line '{full_name}: ..'; its last line: {printed.rstrip().rsplit(chr(10), 1)[-1]}")
     is_accepted = line == f"{full_name}: proved"
-    if edit.goal is None:
-        return Verdict(edit, None if is_accepted else f"the right function is refused: {first_error(edit, printed)}")
+    refused_at = refusals_of(edit, line, printed)
+    if edit.is_control:
+        return Verdict(edit, None if is_accepted else f"the right function is refused: {'; '.join(refused_at) or line}")
     if is_accepted:
         return Verdict(edit, "the broken function is accepted")
-    if status != 1 or not any(edit.goal in error for error in errors_of(edit, printed)):
-        return Verdict(edit, f"refused, but not at '{edit.goal}': {first_error(edit, printed)}")
+    if status != 1 or edit.goal not in refused_at:
+        return Verdict(edit, f"refused, but not at '{edit.goal}': {'; '.join(refused_at) or line}")
     return Verdict(edit, None)
 
 
-def errors_of(edit: Edit, printed: str) -> Iterator[str]:
-    """Yields the errors that the prover found in the function's own proof or in its source."""
-    places = (f"proofs/{edit.function.replace('::', '/')}/", edit.file)
-    for line in printed.splitlines():
-        if ": error" in line and any(place in line.split(": error")[0] for place in places):
-            yield line
+def refusals_of(edit: Edit, line: str, printed: str) -> list[str]:
+    """Returns the goals of the function that the prover found no proof for, and those whose answer in the function's proof is wrong for it. An answer
+    that cites what the edit took away is none of them: it shows that the text has another form, and nothing of a contract."""
+    found = re.search(r"did not prove ((?:`[^`]+`(?:, )?)+)", line)
+    goals = re.findall(r"`([^`]+)`", found[1]) if found else []
+    folder = f"proofs/{edit.function.replace('::', '/')}/"
+    for error in printed.splitlines():
+        at_goal = re.match(r"(\S+):\d+:\d+: error: `([^`]+)`: (.*)", error)
+        if at_goal and folder in at_goal[1] and not OF_FORM.search(at_goal[3]):
+            goals.append(at_goal[2])
+    return goals
 
 
-def first_error(edit: Edit, printed: str) -> str:
-    own = next(errors_of(edit, printed), None)
-    return own or next((line for line in printed.splitlines() if ": error" in line), "no error is printed")
-
-
-def check_group(workspace: kit.Workspace, group: list[Edit]) -> list[Verdict]:
+def check_group(workspace: kit.Workspace, group: list[Edit], kept: Path) -> list[Verdict]:
     """Checks a group of edits in one copy of their crate."""
     crate = group[0].crate
     with tempfile.TemporaryDirectory(prefix="bodies-") as room:
@@ -154,8 +155,14 @@ def check_group(workspace: kit.Workspace, group: list[Edit]) -> list[Verdict]:
             if (workspace.top / "crates" / crate / part).is_dir():
                 shutil.copytree(workspace.top / "crates" / crate / part, folder / part)
         wrong = {edit.label: edit.apply(folder) for edit in group}
-        status, printed = run_check(workspace, crate, folder, [edit.function for edit in group])
+        status, printed = run_check(workspace, crate, folder, kept, [edit.function for edit in group])
     return [Verdict(edit, wrong[edit.label]) if wrong[edit.label] else verdict_of(edit, status, printed) for edit in group]
+
+
+def check_crate(workspace: kit.Workspace, edits: list[Edit]) -> list[Verdict]:
+    """Checks the edits of a crate, group by group."""
+    with tempfile.TemporaryDirectory(prefix="bodies-kept-") as kept:
+        return [verdict for group in groups_of(edits) for verdict in check_group(workspace, group, Path(kept))]
 
 
 def chosen(edits: list[Edit], names: list[str]) -> list[Edit]:
@@ -163,15 +170,19 @@ def chosen(edits: list[Edit], names: list[str]) -> list[Edit]:
 
 
 def check_all(names: list[str], lanes: int) -> tuple[int, int]:
-    """Checks the edits of these names, or all, some groups at a time; prints a line for each, and returns how many passed and how many failed."""
+    """Checks the edits of these names, or all, some crates at a time; prints a line for each, and returns how many passed and how many failed."""
     workspace = kit.Workspace(TOP)
-    groups = groups_of(chosen(all_edits(), names))
+    by_crate: dict[str, list[Edit]] = {}
+    for edit in chosen(all_edits(), names):
+        by_crate.setdefault(edit.crate, []).append(edit)
+    # The crates whose libraries are the largest take longest, and begin.
+    crates = sorted(by_crate.values(), key=lambda edits: -len(workspace.crates[edits[0].crate].below()))
     passed, failed, start = 0, 0, time.monotonic()
     with ThreadPoolExecutor(lanes) as pool:
-        for verdicts in pool.map(lambda group: check_group(workspace, group), groups):
+        for verdicts in pool.map(lambda edits: check_crate(workspace, edits), crates):
             for verdict in verdicts:
                 passed, failed = passed + (verdict.wrong is None), failed + (verdict.wrong is not None)
-                ending = verdict.wrong or ("accepted, as is right" if verdict.edit.goal is None else "refused, as is right")
+                ending = verdict.wrong or ("accepted, as it is right" if verdict.edit.is_control else "refused, as it is broken")
                 print(f"{'FAILED ' * (verdict.wrong is not None)}{verdict.edit.label}: {ending}", flush=True)
     print(f"bodies: {passed} passed, {failed} failed, in {time.monotonic() - start:.0f} s", flush=True)
     return passed, failed
