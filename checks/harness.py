@@ -11,7 +11,7 @@ from dataclasses import dataclass, field
 from pathlib import Path
 
 MEGABYTE = 1_000_000
-STACK = 56  # KB: of the 64 that are enough for every input the system may leave out 8, as it places the stack by chance
+STACK = 56  # KB: of the 64 that are enough for every input the system may leave out 8, as it places the stack by chance; a build without a proof takes more
 SLOW = 4  # how many times slower than a usual one a machine may be
 PATIENCE = 60  # seconds until a program is ended
 LOOK = 0.002  # seconds from one look at a program to the next
@@ -31,7 +31,7 @@ class Programs:
 class Limits:
     """What a program is started with. A stream of `closed` is closed as a shell spells it, as '>&-'."""
 
-    stack: int | None = STACK  # KB
+    stack: int | None = STACK  # KB, or what the environment's STACK says, where that is more
     memory: int | None = None  # KB, of addresses
     file_blocks: int | None = None  # of 512 bytes, the greatest length of a file that it may write
     closed: str = ""
@@ -42,7 +42,7 @@ class Limits:
         if self.file_blocks is not None:
             words += ["trap '' XFSZ", f"ulimit -f {self.file_blocks}"]
         if self.stack is not None:
-            words.append(f"ulimit -s {self.stack}")
+            words.append(f"ulimit -s {max(self.stack, int(os.environ.get('STACK', 0)))}")
         if self.memory is not None:
             words.append(f"ulimit -v {self.memory}")
         given = [f"{name}={shlex.quote(value)}" for name, value in environment.items()]

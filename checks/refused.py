@@ -18,7 +18,7 @@ from checks import rules
 from checks.harness import Case, Outcome, Programs, differs, new_folder, run, shortened
 
 HERE = Path(__file__).resolve().parent
-CRATES = HERE.parent / "crates"
+TESTS = HERE.parent / "tests"  # a folder for each crate that has some
 TOOLS = Path(shutil.which("rt") or "/opt/rattle/bin/rt").resolve().parent.parent / "toolchain"
 SAYS_SO = "each allocation refused in turn"
 SAID = b"<refused>"  # by the library, when it refuses
@@ -79,10 +79,10 @@ def reported(failed: list[str], runs: int) -> str | None:
 
 def tests_that_say_so(crate: str) -> list[str]:
     """The names of the crate's tests whose comment asks for it."""
-    source = CRATES / crate / "src"
+    source = TESTS / crate
     names = []
-    for path in sorted(source.rglob("*.rt")):
-        module = "::".join(path.relative_to(source).with_suffix("").parts)
+    for path in sorted(source.rglob("*.rt.in")):
+        module = "::".join(path.relative_to(source).with_suffix("").with_suffix("").parts)
         for comment, name in COMMENTED_TEST.findall(path.read_text()):
             if SAYS_SO in re.sub(r"\s*\n//\s*", " ", comment):
                 names.append(f"{module}::{name}")
@@ -217,7 +217,7 @@ def unread(programs: Programs, library: Path) -> Outcome:
 
 
 def cases(programs: Programs, library: Path) -> list[Case]:
-    crates = sorted(path.name for path in CRATES.iterdir() if path.is_dir())
+    crates = sorted(path.name for path in TESTS.iterdir() if path.is_dir() and path.name[0] not in "_.")
     of_tests = [case for crate in crates for case in cases_of(crate, programs.tests.get(crate), library)]
     names = [" ".join(["a session", session.name, *(word for word in session.words if word not in SMALL)]) for session in SESSIONS]
     of_sessions = [Case(name, refuse_session, (programs, library, number)) for number, name in enumerate(names)]

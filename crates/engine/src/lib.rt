@@ -14,8 +14,6 @@ mod refusal;
 mod step;
 pub mod step_laws;
 mod store;
-#[cfg(test)]
-mod tests;
 
 pub use crate::file_store::{OpenFault, open_or_create};
 pub use crate::step::{Answer, Step};

@@ -235,21 +235,3 @@ impl<D: Disk> Store<D> {
         disk
     }
 }
-
-#[cfg(test)]
-impl<D: Disk> Store<D> {
-    // The tree, for tests to look at.
-    pub(crate) fn tree(&self) -> &Tree<Global> {
-        &self.tree
-    }
-
-    // Where the log begins and ends, and the number of its last commit.
-    pub(crate) fn head_tail_and_sequence(&self) -> (u64, u64, u64) {
-        (self.log.head, self.log.tail, self.log.sequence)
-    }
-
-    // The version of the log.
-    pub(crate) fn version(&self) -> Version {
-        self.version
-    }
-}

@@ -1,0 +1,24 @@
+"""The tests of the engine: what no clause says, in Rattle, of the engine's own calls and those of the crates below it. `tests/build.py` builds them without a proof."""
+
+import re
+import subprocess
+from pathlib import Path
+
+from checks.harness import Case, Outcome, Programs
+from checks.refused import TOOLS
+
+RUNNER = TOOLS.parent / "bin/rattle-test"
+PATIENCE = 300  # seconds that a test may take
+RESULT = re.compile(r"^test result: ok\. (\d+) passed; 0 failed; 0 ignored; 0 filtered out$", re.MULTILINE)
+
+
+def run_all(program: Path) -> Outcome:
+    ran = subprocess.run([RUNNER, "--seconds", str(PATIENCE), program], capture_output=True, text=True, errors="replace")
+    found = RESULT.search(ran.stdout)
+    if ran.returncode or not found:
+        return Outcome("\n".join(line for line in (ran.stdout + ran.stderr).splitlines() if not line.endswith("... ok"))[-2_000:])
+    return Outcome(measured=f"{found[1]} tests")
+
+
+def cases(programs: Programs) -> list[Case]:
+    return [Case(f"the tests of {crate}", run_all, (program,)) for crate, program in programs.tests.items()]
