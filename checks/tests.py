@@ -1,13 +1,13 @@
-"""The tests of the engine: what no clause says, in Rattle, of the engine's own calls and those of the crates below it. `tests/build.py` builds them without a proof."""
+"""The tests of the engine, in Rattle: calls of the engine and of the crates below it, for what no clause says. `tests/build.py` builds them without proofs."""
 
 import re
 import subprocess
 from pathlib import Path
 
-from checks.harness import Case, Outcome, Programs
-from checks.refused import TOOLS
+from tools.building import KIT
+from tools.cases import Case, Outcome, Programs
 
-RUNNER = TOOLS.parent / "bin/rattle-test"
+RUNNER = KIT / "bin/rattle-test"
 PATIENCE = 300  # seconds that a test may take
 RESULT = re.compile(r"^test result: ok\. (\d+) passed; 0 failed; 0 ignored; 0 filtered out$", re.MULTILINE)
 
