@@ -59,7 +59,8 @@ def read(out: IO[bytes], expected: str) -> None:
 
 
 def measure(program: Path, work: Workload, path: Path) -> tuple[float, float, int, float]:
-    """Returns the seconds of the load and of the first flush, how many bytes of memory the flush took, and the median seconds of a flush after one put."""
+    """Returns the seconds of the load and of the first flush, how many bytes of memory the flush took, and the median seconds of a flush after one
+    put."""
     with open(path, "rb") as file:
         process = subprocess.Popen([program, *SETTINGS], stdin=file, stdout=subprocess.PIPE)
     out = pipe_of(process.stdout)

@@ -251,7 +251,8 @@ def is_older(program: Path, other: Path) -> bool:
 
 
 def build_library(options: argparse.Namespace) -> list[str]:
-    """Builds the programs over the library that are missing or older than the program, and returns the parts that cannot be measured for want of one."""
+    """Builds the programs over the library that are missing or older than the program, and returns the parts that cannot be measured for want of
+    one."""
     programs = {part: options.library / f"{name}_bench" for part, name in OVER_LIBRARY.items() if part in options.only}
     due = [OVER_LIBRARY[part] for part, program in programs.items() if is_older(program, options.program)]
     if due:

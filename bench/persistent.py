@@ -21,7 +21,7 @@ from typing import Any
 sys.path.insert(0, str(Path(__file__).resolve().parent.parent))
 
 from bench.peer_programs import NATIVE_PEERS, PEER, build_native_peer, build_rust_peer
-from bench.stores import StoreProgram
+from bench.stores import StoreProgram, StoreSettings
 from bench.tables import print_table
 from bench.timing import TimedProgram
 from bench.workload import LONG
@@ -31,7 +31,7 @@ HERE = Path(__file__).resolve().parent
 PAIRS = 500_000
 SHORT = 1_000
 SPACING = 65  # short batches that have one flush, to see the flush apart from the batches
-SETTINGS: dict[str, tuple[list[str], int]] = {"fan 64, chain 16": (["--fan", "64", "--chain", "16"], 1_048_576), "defaults": ([], 65_536)}  # with --seg-size
+SETTINGS: StoreSettings = {"fan 64, chain 16": (["--fan", "64", "--chain", "16"], 1_048_576), "defaults": ([], 65_536)}
 LOGGED = f"{PEER} and a log of commands"
 SORTED, RELAXED = "LMDB, batches sorted before", "SQLite, WAL, NORMAL"
 PYTHON = [sys.executable, "-I"]
@@ -59,8 +59,8 @@ BOTH = (FEW, MANY)
 
 
 class RandomPairs:
-    """The pairs in the order in which they are put, which is random: keys of 16 bytes, values of 100. Values are random with six bits in each byte, so that the
-    compression that some stores use by default (Snappy) does not make them smaller."""
+    """The pairs in the order in which they are put, which is random: keys of 16 bytes, values of 100. Values are random with six bits in each byte,
+    so that the compression that some stores use by default (Snappy) does not make them smaller."""
 
     def __init__(self, count: int) -> None:
         source = random.Random(2)
@@ -102,8 +102,8 @@ class RandomPairs:
 
 @dataclass
 class StoreTimes:
-    """What one run took, in seconds by the clock and of the processor: until the text was read and the store open; from there to the last commit; and a new
-    process from its start to the answer to a get. And how many bytes the files have on the disk."""
+    """What one run took, in seconds by the clock and of the processor: until the text was read and the store open; from there to the last commit; and
+    a new process from its start to the answer to a get. And how many bytes the files have on the disk."""
 
     ready: float
     load: float
@@ -206,8 +206,8 @@ def drop_from_memory(folder: Path) -> None:
 
 
 def time_recovery(store: MeasuredStore, key: str, value: str) -> tuple[float, float]:
-    """Returns what a new process takes from its start to the answer to one get, which must be this value: seconds by the clock, and of the processor, up to the
-    end of the process."""
+    """Returns what a new process takes from its start to the answer to one get, which must be this value: seconds by the clock, and of the processor,
+    up to the end of the process."""
     command, asked = store.question(key)
     start = time.monotonic()
     child = subprocess.Popen(command, stdin=subprocess.PIPE, stdout=subprocess.PIPE)
@@ -285,7 +285,8 @@ def measure(program: Path, count: int, repeats: int, where: str) -> Figures:
                     runs.setdefault(name, {}).setdefault(commits.name(), []).append(run_once(store, texts, commits, pairs))
         printed, kind = time_printing(program, pairs, folder), file_system(disks)
     taken = {name: {commits: summary(each) for commits, each in by.items()} for name, by in runs.items()}
-    return {"pairs": count, "repeats": repeats, "file system": kind, "stores": taken, "printing at most": printed, PYTHON_START: python_start(repeats)}
+    figures = {"pairs": count, "repeats": repeats, "file system": kind, "stores": taken}
+    return {**figures, "printing at most": printed, PYTHON_START: python_start(repeats)}
 
 
 def rate(figures: Figures, name: str, commits: Commits) -> float:
@@ -335,7 +336,8 @@ def print_text(figures: Figures) -> None:
     for name in SETTINGS:
         for commits in BOTH:
             took = figures["stores"][name][commits.name()]
-            rows.append([f"{name}, {commits.name()}", f"{took['ready']:.2f}", f"{figures['printing at most'][commits.name()]:.2f}", f"{took['load']:.2f}"])
+            seconds = (took["ready"], figures["printing at most"][commits.name()], took["load"])
+            rows.append([f"{name}, {commits.name()}", *(f"{each:.2f}" for each in seconds)])
     print_table(["bwsh, s", "reading the text, in no figure", "printing, at most, in the figure", "the figure"], rows)
 
 

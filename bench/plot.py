@@ -167,7 +167,8 @@ def goals(figures: Mapping[str, Any], settings: Sequence[str]) -> str:
     left, top, rows = 380, 64, figures["rows"]
     parts: list[str] = []
     for at, name in enumerate([*settings, "BTreeMap"]):
-        parts += [bar(left + 150 * at, 14, 12, 12, COLOURS[name]), text(left + 150 * at + 18, 24, name if name in settings else "BTreeMap, other stores")]
+        shown = name if name in settings else "BTreeMap, other stores"
+        parts += [bar(left + 150 * at, 14, 12, 12, COLOURS[name]), text(left + 150 * at + 18, 24, shown)]
     parts.append(text(left - 10, 24, "times as fast as the peer; black: the goal", "end", 12))
     parts += goal_rows(rows, settings, top, left)
     height = top + STEP * len(rows) + 40

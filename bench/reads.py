@@ -1,5 +1,6 @@
 #!/usr/bin/env python3
-"""Measures calls that copy nothing (`Store::get`, `range`, `range_back`) beside std's BTreeMap, and `copy_to` beside a load in key order; README.md says what is measured, and how."""
+"""Measures calls that copy nothing (`Store::get`, `range`, `range_back`) beside std's BTreeMap, and `copy_to` beside a load in key order; README.md
+says what is measured, and how."""
 
 import argparse
 import subprocess

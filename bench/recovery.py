@@ -35,7 +35,8 @@ def recovered_stores(work: Workload) -> list[StoreText]:
 def written_stores(work: Workload) -> list[StoreText]:
     """Returns the stores that are measured beside the peer's."""
     orders = [work.keys, *(work.random.sample(work.keys, len(work.keys)) for _ in range(3))]
-    return [StoreText("each key put once", [Puts(work.keys, 10)]), StoreText("each key put four times", [Puts([key for keys in orders for key in keys], 10)])]
+    four_times = [key for keys in orders for key in keys]
+    return [StoreText("each key put once", [Puts(work.keys, 10)]), StoreText("each key put four times", [Puts(four_times, 10)])]
 
 
 def read_alone(path: Path) -> Seconds:

@@ -24,6 +24,10 @@ def sessions(work: Workload) -> list[list[Phase]]:
     pairs = len(work.keys)
     few = work.shuffled[: pairs // 5]
     starts = work.shuffled[: pairs // 50]
+
+    def printed() -> list[int]:
+        return work.lines_of_scans(starts, 100)
+
     load = Phase(LOAD, pairs, LONG, lambda: work.puts(work.keys))
     return [
         [
@@ -46,10 +50,10 @@ def sessions(work: Workload) -> list[list[Phase]]:
         ],
         [
             load,
-            Phase("scans of 100 rows", len(starts), 1_000, lambda: work.scans(starts, 100), lambda: work.lines_of_scans(starts, 100)),
-            Phase("scans of 100 rows, one a batch", len(starts), 1, lambda: work.scans(starts, 100), lambda: work.lines_of_scans(starts, 100)),
-            Phase("open scans of 100 rows", len(starts), 1_000, lambda: work.open_scans(starts, 100), lambda: work.lines_of_scans(starts, 100)),
-            Phase("open scans of 100 rows, one a batch", len(starts), 1, lambda: work.open_scans(starts, 100), lambda: work.lines_of_scans(starts, 100)),
+            Phase("scans of 100 rows", len(starts), 1_000, lambda: work.scans(starts, 100), printed),
+            Phase("scans of 100 rows, one a batch", len(starts), 1, lambda: work.scans(starts, 100), printed),
+            Phase("open scans of 100 rows", len(starts), 1_000, lambda: work.open_scans(starts, 100), printed),
+            Phase("open scans of 100 rows, one a batch", len(starts), 1, lambda: work.open_scans(starts, 100), printed),
             Phase("first row, 10,000 times in a batch", 50_000, 10_000, lambda: ["scan % * 1"] * 50_000, lambda: [2] * 50_000),
             Phase("one scan of all pairs", 1, 1, lambda: ["scan % * 4294967295"], lambda: [1 + pairs]),
         ],

@@ -1,7 +1,8 @@
 #!/usr/bin/env python3
 """Runs random sessions on stores in files without end, and compares each with a model, up to the first difference.
 
-There are kills, crashes, failing calls and refused allocations in them. All is drawn from the seed, and nothing depends on the clock. README.md says how.
+There are kills, crashes, failing calls and refused allocations in them. All is drawn from the seed, and nothing depends on the clock. README.md says
+how.
 """
 
 import argparse
@@ -46,7 +47,8 @@ def arguments() -> argparse.Namespace:
     parser.add_argument("--last", type=int, metavar="N", help="the number of the last store; without it there is none")
     parser.add_argument("--seconds", type=float, help="how long it goes on; without it until Ctrl-C")
     parser.add_argument("--store", type=Path, default=MEMORY_FOLDER, metavar="FOLDER", help="where the folder of its files is made")
-    parser.add_argument("--plant", choices=PLANTS, help="plants a fault that has to be found: a line of the answers is lost, a bit of the log flips, syncs are lost")
+    plants = "plants a fault that has to be found: a line of the answers is lost, a bit of the log flips, syncs are lost"
+    parser.add_argument("--plant", choices=PLANTS, help=plants)
     return parser.parse_args()
 
 

@@ -15,7 +15,8 @@ from bench.timing import Sample, TimedProgram
 from bench.workload import LONG, Workload
 from tools.processes import Command, pipe_of, status_bytes, wait_for_end
 
-SETTINGS: dict[str, tuple[list[str], int]] = {"fan 32, chain 16": (["--fan", "32", "--chain", "16"], 1_048_576), "defaults": ([], 65_536)}  # with --seg-size
+StoreSettings = dict[str, tuple[list[str], int]]  # by name: the words, and --seg-size
+SETTINGS: StoreSettings = {"fan 32, chain 16": (["--fan", "32", "--chain", "16"], 1_048_576), "defaults": ([], 65_536)}
 ROOM = 800  # bytes of the log for each put: more than are written
 AT_END = sys.maxsize
 MARK = "get -\ngo\n"  # prints `missing`, and so shows that all before it is done
@@ -27,10 +28,12 @@ class Timed(Protocol):
     """Something that took seconds of the processor, and seconds by the clock."""
 
     @property
-    def cpu(self) -> float: ...
+    def cpu(self) -> float:
+        ...
 
     @property
-    def wall(self) -> float: ...
+    def wall(self) -> float:
+        ...
 
 
 @dataclass
@@ -114,7 +117,8 @@ class StoreProgram:
         return [*self.open_command(), "--create", *self.settings, "--seg-size", str(self.seg_size), "--segments", str(segments)]
 
     def write(self, store: StoreText, text: Path) -> Sample:
-        """Makes the store. The time goes from the reply to the first batch, when the text was read and the file made, to the line of the last flush."""
+        """Makes the store. The time goes from the reply to the first batch, when the text was read and the file made, to the line of the last
+        flush."""
         os.sync()
         running = TimedProgram(self.create_command(store.count()), text)
         running.phase([1])
@@ -133,9 +137,9 @@ class StoreProgram:
         return Seconds(cpu, wall)
 
     def recovery_memory(self, text: Path, rows: str) -> tuple[int, int]:
-        """Returns the peak memory until the store was recovered, and the memory in use then, in bytes. The program has more short batches than the pipe holds
-        replies, so it waits, having done little else, until these are read. `ru_maxrss` does not show it: that of a child counts what its parent, this script,
-        had in use when the child began. Ends this script unless a scan of all pairs then has the digest `rows`."""
+        """Returns the peak memory until the store was recovered, and the memory in use then, in bytes. The program has more short batches than the
+        pipe holds replies, so it waits, having done little else, until these are read. `ru_maxrss` does not show it: that of a child counts what its
+        parent, this script, had in use when the child began. Ends this script unless a scan of all pairs then has the digest `rows`."""
         text.write_text(MARK * MARKS + "scan % * 4294967295\n")
         with open(text, "rb") as file:
             child = subprocess.Popen(self.open_command(), stdin=file, stdout=subprocess.PIPE, pipesize=PIPE)

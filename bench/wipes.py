@@ -92,7 +92,8 @@ class KeyQueue:
         return [f"{number:016}" for number in range(start, end)]
 
     def phase(self, name: str, batch: int, each: int, remove: Callable[[list[str]], list[str]]) -> Phase:
-        """Returns a phase of batches of `batch` puts. After `each` puts as many of the oldest keys are removed. The keys follow those of the last phase."""
+        """Returns a phase of batches of `batch` puts. After `each` puts as many of the oldest keys are removed. The keys follow those of the last
+        phase."""
         commands: list[str] = []
         for start in range(self.next, self.next + BATCHES * batch, each):
             commands += self.work.puts(self.keys(start, start + each))
@@ -161,7 +162,8 @@ def write_held(text: Path, session: WipeSession) -> None:
 
 
 def hold(running: TimedProgram) -> float:
-    """Reads the first line of such a batch: the program waits there, so all before it is done, and nothing after it. Returns its processor seconds."""
+    """Reads the first line of such a batch: the program waits there, so all before it is done, and nothing after it. Returns its processor
+    seconds."""
     running.read_lines(1, hashlib.blake2b())
     return running.cpu()
 

@@ -64,8 +64,8 @@ def status_for(err: bytes) -> int:
 PUT_AND_GET = b"put a 1\ngo\nget a\n"
 BOTH = b"new\nvalue 1\n"
 
-# Which calls fail, the input, the exit status, the output, and the errors. A write of no bytes comes first, to see whether the output is open. Nothing is
-# written after a fault, even if the output would take it; a call that was interrupted is made again.
+# Which calls fail, the input, the exit status, the output, and the errors. A write of no bytes comes first, to see whether the output is open.
+# Nothing is written after a fault, even if the output would take it; a call that was interrupted is made again.
 STREAMS = {
     "the input fails": [
         (FailingCalls("input"), b"put a 1\ngo\n", 4, b"", DEVICE),
@@ -229,8 +229,8 @@ def cut_file(programs: Programs, library: Path) -> Outcome:
         return Outcome(None if (first, ended) == (b"ok 1 1 1\n", (4, b"", DEVICE)) else f"{first!r}, and then {ended}")
 
 
-# ---- How many syncs a session makes of its file: whether the file is new, the lines, and the number. An old file is synced before it is read, and a new
-# store once; a flush and an upgrade make three syncs, or none if there is nothing to write.
+# ---- How many syncs a session makes of its file: whether the file is new, the lines, and the number. An old file is synced before it is read, and a
+# new store once; a flush and an upgrade make three syncs, or none if there is nothing to write.
 SYNCS = [
     (True, b"", 1),
     (False, b"get a\n", 1),
@@ -300,8 +300,8 @@ LOCKED = [b"put a 1\nflush\n", b"clean\n", b"upgrade\n"]
 
 
 def lock(programs: Programs, library: Path) -> Outcome:
-    """Runs sessions that read a file, write to it and make a store in it while another process has locked it for itself, and while another shares it; and one
-    after that."""
+    """Runs sessions that read a file, write to it and make a store in it while another process has locked it for itself, and while another shares it;
+    and one after that."""
     with failing_store(programs, library) as store:
         store.make(b"", b"")
         before = store.file.read_bytes()
@@ -339,13 +339,14 @@ def full_pipe() -> tuple[int, int]:
 
 
 def close_first(programs: Programs, library: Path) -> Outcome:
-    """Checks that a session closes its file before it writes a fault to standard error. Here standard error is a full pipe, so the write has to wait. So the
-    line cannot get into the file if that has the descriptor of a standard error that was closed."""
+    """Checks that a session closes its file before it writes a fault to standard error. Here standard error is a full pipe, so the write has to wait.
+    So the line cannot get into the file if that has the descriptor of a standard error that was closed."""
     with failing_store(programs, library) as store:
         store.make(b"", b"")
         reader, writer = full_pipe()
         command: Command = [store.program, f"--disk={store.file}"]
-        with subprocess.Popen(command, stdin=subprocess.PIPE, stdout=subprocess.PIPE, stderr=writer, env=NO_VARIABLES) as child, open(reader, "rb") as errors:
+        pipe = subprocess.PIPE
+        with subprocess.Popen(command, stdin=pipe, stdout=pipe, stderr=writer, env=NO_VARIABLES) as child, open(reader, "rb") as errors:
             os.close(writer)
             pipe_of(child.stdin).write(b"get a\ngo\nclean\n")
             pipe_of(child.stdin).close()
@@ -364,7 +365,10 @@ def cases(programs: Programs, library: Path) -> list[Case]:
         *(Case(name, fail_streams, (*arguments, name)) for name in STREAMS),
         Case("making anew fails", fail_to_create, arguments),
         *(Case(f"a file without its new store is empty, {name}", stay_empty, (*arguments, name)) for name in EXAMPLES),
-        *(Case(f"calls of a file fail: {row[0].call}, error {row[0].error}, on {row[1]!r}", fail_on_old_file, (*arguments, *row)) for row in ON_OLD_FILE),
+        *(
+            Case(f"calls of a file fail: {fails.call}, error {fails.error}, on {text!r}", fail_on_old_file, (*arguments, fails, text, out, err))
+            for fails, text, out, err in ON_OLD_FILE
+        ),
         *(Case(f"the third {call} is interrupted or fails", fail_third, (*arguments, call)) for call in ("read", "write")),
         Case("a file is cut while a session holds it", cut_file, arguments),
         Case("how many syncs a session makes", count_syncs, arguments),

@@ -1,5 +1,5 @@
-"""Command lines: which settings, crew and file the words name, which are refused, and which ask for help. The first bytes of a file have the settings with
-which it was made; a fault names a setting or a crew that is out of range."""
+"""Command lines: which settings, crew and file the words name, which are refused, and which ask for help. The first bytes of a file have the settings
+with which it was made; a fault names a setting or a crew that is out of range."""
 
 import shlex
 import struct

@@ -1,4 +1,5 @@
-"""Copies of the store that sessions make at their end (`--copy-to`): what a copy holds, when none is made, and what the file at its path holds then."""
+"""Copies of the store that sessions make at their end (`--copy-to`): what a copy holds, when none is made, and what the file at its path holds
+then."""
 
 import fcntl
 import os
@@ -19,7 +20,12 @@ SCAN, SCANNED = b"scan % * 9\n", b"rows 3\na 1\nb 2\nc 3\n"
 KILLS = 25  # of copies of one store
 
 # The stream that is redirected to the file of a copy, the words, and how the file begins then.
-REDIRECTED = [(">", (), b"replaced\n" * 3), (">", ("--stream",), b"replaced\n" * 3), ("2>", ("--progress",), b"\ropening "), (">>", ("--explain",), b"replaced\n" * 3)]
+REDIRECTED: list[tuple[str, tuple[str, ...], bytes]] = [
+    (">", (), b"replaced\n" * 3),
+    (">", ("--stream",), b"replaced\n" * 3),
+    ("2>", ("--progress",), b"\ropening "),
+    (">>", ("--explain",), b"replaced\n" * 3),
+]
 
 
 def wrong_store(programs: Programs, path: Path, scanned: bytes = SCANNED, length: int | None = None) -> str | None:
@@ -73,7 +79,8 @@ def copy_with_numbers(programs: Programs) -> Outcome:
     """Copies a store without pairs, with --stat. The numbers are those of the store, and are printed before it is copied."""
     with new_folder() as folder:
         copy = Path(folder) / "copy"
-        wrong = differs(run([programs.store, *SMALL_STORE, "--stat", "--copy-to", copy]), 0, b"stat sequence 1 head 0 tail 33 segments 1 of 4 pages 1 pairs 0\n")
+        ran = run([programs.store, *SMALL_STORE, "--stat", "--copy-to", copy])
+        wrong = differs(ran, 0, b"stat sequence 1 head 0 tail 33 segments 1 of 4 pages 1 pairs 0\n")
         return Outcome(wrong or wrong_store(programs, copy, b"rows 0\n", 1_536))
 
 
@@ -111,7 +118,8 @@ def copy_of_stream(programs: Programs) -> Outcome:
 
 
 def copy_over(programs: Programs) -> Outcome:
-    """Copies to a file that is there. If it has bytes, also if it is the store's own, it keeps them and nothing is run; an empty one becomes the copy."""
+    """Copies to a file that is there. If it has bytes, also if it is the store's own, it keeps them and nothing is run; an empty one becomes the
+    copy."""
     with new_folder() as folder:
         store, copy = Path(folder) / "store", Path(folder) / "copy"
         before = make(programs, store)
@@ -201,7 +209,8 @@ def write_to_copy(programs: Programs) -> Outcome:
         copy.write_bytes(b"precious")
         ended = dialog.finish()
         is_right = (answers, ended, copy.read_bytes()) == (PUT, (4, b"", DEVICE), b"precious")
-        return Outcome(None if is_right else f"the answers are {answers!r}, the session ended with {ended}, and the file has {copy.read_bytes()[:99]!r}")
+        found = f"the answers are {answers!r}, the session ended with {ended}, and the file has {copy.read_bytes()[:99]!r}"
+        return Outcome(None if is_right else found)
 
 
 # ---- Sessions without a copy.
@@ -224,7 +233,8 @@ def end_early(programs: Programs, words: tuple[str, ...], text: bytes, status: i
 
 
 def refuse_before_copy(programs: Programs) -> Outcome:
-    """Runs sessions that are refused for a bad line, a crew, settings or a closed stream: no file of a copy is made, whether the store is in a file or not."""
+    """Runs sessions that are refused for a bad line, a crew, settings or a closed stream: no file of a copy is made, whether the store is in a file
+    or not."""
     with new_folder() as folder:
         store, copy = Path(folder) / "store", Path(folder) / "copy"
         before = make(programs, store)
@@ -244,21 +254,25 @@ def refuse_before_copy(programs: Programs) -> Outcome:
 # ---- Copies that are refused.
 
 LONG_KEY = b"put 0123456789abcdef0 1\n"
-LONG_VALUE = b"put a 0123456789abcdef0\n"
 MANY = b"".join(b"put sixteen_bytes_%d sixteen_bytes_v1\n" % pair for pair in range(10, 60))
 
 # The input, the answers, the fault, and the end of the line that explains it.
 REFUSED_COPIES = [
     (LONG_KEY, b"new\n", b"fault 2 KeyTooLong 0\n", b"a key is too long for it; it takes a greater --max-key\n"),
     (PUTS + LONG_KEY, PUT + b"new\n", b"fault 2 KeyTooLong 0\n", b"a key is too long for it; it takes a greater --max-key\n"),
-    (PUTS + b"put d 0123456789abcdef0\n", PUT + b"new\n", b"fault 3 ValueTooLong 3\n", b"a value is too long for it; it takes a greater --max-value\n"),
+    (
+        PUTS + b"put d 0123456789abcdef0\n",
+        PUT + b"new\n",
+        b"fault 3 ValueTooLong 3\n",
+        b"a value is too long for it; it takes a greater --max-value\n",
+    ),
     (MANY, 50 * b"new\n", b"fault 10 Full\n", b"its log has no room for all pairs; it takes more --segments, or a greater --seg-size\n"),
 ]
 
 
 def refuse_copy(programs: Programs, text: bytes, out: bytes, err: bytes, end: bytes) -> Outcome:
-    """Copies pairs that are too long for the settings of the copy, or do not fit in its log: all answers are printed, the file is empty, and the store has the
-    same bytes."""
+    """Copies pairs that are too long for the settings of the copy, or do not fit in its log: all answers are printed, the file is empty, and the
+    store has the same bytes."""
     with new_folder() as folder:
         store, copy = Path(folder) / "store", Path(folder) / "copy"
         made = run([programs.store, "--create", "--disk", store], text + b"flush\n")
@@ -296,7 +310,8 @@ CALLS = [
 
 
 def fail_calls(programs: Programs, library: Path, fails: FailingCalls, is_done: bool, length: int | None) -> Outcome:
-    """Fails calls on the copy's file. Nothing is run, or all answers are printed; the store has the same bytes; the copy's file is empty if that can be."""
+    """Fails calls on the copy's file. Nothing is run, or all answers are printed; the store has the same bytes; the copy's file is empty if that can
+    be."""
     with new_folder() as folder:
         store, copy = Path(folder) / "store", Path(folder) / "copy"
         make(programs, store)
@@ -368,8 +383,8 @@ def closed_pipe(programs: Programs) -> Outcome:
 
 
 def check_killed(programs: Programs, copy: Path, pairs: int) -> tuple[str | None, str]:
-    """Returns what is wrong with the file at the path of a killed session's copy, and what the file has: no bytes, no store, a store without pairs, or the
-    whole copy."""
+    """Returns what is wrong with the file at the path of a killed session's copy, and what the file has: no bytes, no store, a store without pairs,
+    or the whole copy."""
     if not copy.exists() or copy.stat().st_size == 0:
         return None, "no bytes"
     ran = run([programs.store, "--disk", copy, "--stat"])
@@ -405,10 +420,10 @@ def kill(programs: Programs) -> Outcome:
 
 
 def cases(programs: Programs, refusing: Path, failing: Path) -> list[Case]:
-    arguments = (programs,)
+    arguments, lanes = (programs,), range(1, LANES + 1)
     return [
         Case("kills while a store is copied", kill, arguments),
-        *(Case(f"allocations of a copy refused, part {lane} of {LANES}", refuse_allocations, (programs, refusing, lane)) for lane in range(1, LANES + 1)),
+        *(Case(f"allocations of a copy refused, part {lane} of {LANES}", refuse_allocations, (programs, refusing, lane)) for lane in lanes),
         Case("copies what a session leaves", copy_all, (programs, ())),
         Case("copies what a stream leaves", copy_all, (programs, ("--stream",))),
         Case("copies after the numbers", copy_with_numbers, arguments),
@@ -419,7 +434,10 @@ def cases(programs: Programs, refusing: Path, failing: Path) -> list[Case]:
         Case("no copy where no file can be", copy_to_no_file, arguments),
         Case("no copy in a file that may not be so long", copy_too_long, arguments),
         Case("no copy in a file that another has", copy_over_locked, arguments),
-        *(Case(f"no copy in a file that gets bytes meanwhile, {row[0]} {' '.join(row[1])}", redirect_to_copy, (programs, *row)) for row in REDIRECTED),
+        *(
+            Case(f"no copy in a file that gets bytes meanwhile, {stream} {' '.join(words)}", redirect_to_copy, (programs, stream, words, begins))
+            for stream, words, begins in REDIRECTED
+        ),
         Case("no copy in a file that another fills meanwhile", write_to_copy, arguments),
         *(Case(f"no copy after {row[4].decode().strip()}, {' '.join(row[0])}", end_early, (programs, *row)) for row in END_EARLY),
         Case("no file of a copy before all is admitted", refuse_before_copy, arguments),

@@ -1,4 +1,5 @@
-"""Sessions over a pipe: the answers to a line arrive before the next line is sent; bad lines, closed pipes, kills, and a stream that goes on for long."""
+"""Sessions over a pipe: the answers to a line arrive before the next line is sent; bad lines, closed pipes, kills, and a stream that goes on for
+long."""
 
 import random
 from pathlib import Path
@@ -88,8 +89,8 @@ def go_on(programs: Programs) -> Outcome:
                 return Outcome(f"the answers to batch {number} are {answers}")
         memory = peak_memory(dialog.process.pid, programs.store.name)
         ended = dialog.finish()
-        wrong = None if ended == (0, b"", b"") and cleans > 100 and memory < MEMORY else f"{cleans} cleans, {memory} bytes, and the session ended with {ended}"
-        return Outcome(wrong)
+        is_right = ended == (0, b"", b"") and cleans > 100 and memory < MEMORY
+        return Outcome(None if is_right else f"{cleans} cleans, {memory} bytes, and the session ended with {ended}")
 
 
 def kill(programs: Programs, seed: int) -> Outcome:

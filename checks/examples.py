@@ -1,5 +1,5 @@
-"""The programs of `examples/`: sessions that are killed again and again in the middle of their work on a file, which a new session reads after each kill; and
-the two programs that docs/EMBEDDING.md quotes."""
+"""The programs of `examples/`: sessions that are killed again and again in the middle of their work on a file, which a new session reads after each
+kill; and the two programs that docs/EMBEDDING.md quotes."""
 
 import random
 import re
@@ -164,8 +164,8 @@ class KilledExample:
     restarts: list[int] = field(default_factory=list)
 
     def kill(self, count: int, share: float | None) -> tuple[str | None, bool]:
-        """Runs `count` more commands, kills the session when it has printed this share of the answers, and reads the file. Returns what is wrong, and whether
-        the session ended before its kill."""
+        """Runs `count` more commands, kills the session when it has printed this share of the answers, and reads the file. Returns what is wrong, and
+        whether the session ended before its kill."""
         model = play(self.name, self.restarts, self.done)
         opened = model.open()
         commands = [model.next(self.done + at) for at in range(count)]
@@ -180,8 +180,8 @@ class KilledExample:
         return self.check(commands, max(len(printed) - len(opened), 0)), status == 0
 
     def check(self, commands: list[ExampleCommand], answered: int) -> str | None:
-        """Returns what is wrong with the file after this many of these commands were answered. It has to hold those up to the last durable one, or up to the
-        next one."""
+        """Returns what is wrong with the file after this many of these commands were answered. It has to hold those up to the last durable one, or up
+        to the next one."""
         ends = [0, *(at for at, command in enumerate(commands, 1) if command.is_durable)]
         last, further = (self.done + max(end for end in ends if end <= most) for most in (answered, answered + 1))
         wrong = self.wrong_file(last)
@@ -232,7 +232,8 @@ def kill_example(programs: Programs, name: str, seed: int) -> Outcome:
 
 
 def close(programs: Programs, name: str, closed: str) -> Outcome:
-    """Closes the output or the input of an example. It makes no file, and an old file keeps its bytes: no answer is written to it, and no line read from it."""
+    """Closes the output or the input of an example. It makes no file, and an old file keeps its bytes: no answer is written to it, and no line read
+    from it."""
     program = programs.examples / name
     if why := why_left_out(program):
         return Outcome(left_out=why)
@@ -262,7 +263,8 @@ def indented(text: str) -> list[str]:
 
 
 def compare_embedding() -> Outcome:
-    """Checks that docs/EMBEDDING.md quotes the first program and the proof exactly, and of the crate with a contract each line of its head, and its function."""
+    """Checks that docs/EMBEDDING.md quotes the first program and the proof exactly, and of the crate with a contract each line of its head, and its
+    function."""
     document = indented((TOP / "docs/EMBEDDING.md").read_text())
     first, caller, proof = [block for block in document if len(block.splitlines()) > 8]
     quoted = [TOP / "examples" / path for path in ("first_steps/src/main.rt.in", "put_then_get/proofs/put_then_get/Answers.antt.in")]

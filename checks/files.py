@@ -156,7 +156,8 @@ BLOCKS = 256  # of 512 bytes: fewer than a store of the default length takes
 
 
 def fail_to_create(programs: Programs, length: int | None) -> Outcome:
-    """Fails to make a store since no file may be so long. An old file of any length keeps its bytes; where there was none, at most an empty one remains."""
+    """Fails to make a store since no file may be so long. An old file of any length keeps its bytes; where there was none, at most an empty one
+    remains."""
     with new_folder() as folder:
         path = Path(folder) / "file"
         before = b"" if length is None else b"\xa5" * length

@@ -1,4 +1,5 @@
-"""Files that are made to do harm, each read with a small stack: the answer must be right, and take no more time and memory than the file's size gives."""
+"""Files that are made to do harm, each read with a small stack: the answer must be right, and take no more time and memory than the file's size
+gives."""
 
 import random
 from collections.abc import Callable
@@ -34,6 +35,7 @@ SHARED_PAIR = shared_leaf(0, b"", {b"a": b"1"})
 LONG_KEYS = 60 * MEGABYTE  # what a megabyte of bases with the longest keys takes in memory, where each key is whole
 TOO_DEEP = b"fault 16 BadStructure 7 %d\n"  # rule 7: the depth is above chain
 NO_STORE = (4, b"", b"fault 12 NotAStore\n")
+LOST_PAGE = (4, b"", b"fault 16 BadStructure 10 1\n")  # rule 10: the tree does not reach the page
 
 
 @dataclass(frozen=True)
@@ -157,7 +159,7 @@ DISKS = [
     HostileDisk(f"{MANY:,} free frames with rising ids", rising, ONE_ROW, is_store=True),
     HostileDisk(f"{MANY:,} runs without a base, with colliding ids", colliding_runs, ONE_ROW, is_store=True),
     HostileDisk(f"{LEAVES:,} empty leaves that no tree reaches", empty_leaves, (4, b"", b"fault 16 BadStructure 10 1\n"), pages=SLOT * SLOTS),
-    HostileDisk(f"{LEAVES:,} empty leaves, four workers", empty_leaves, (4, b"", b"fault 16 BadStructure 10 1\n"), ("--workers", "4"), pages=SLOT * SLOTS),
+    HostileDisk(f"{LEAVES:,} empty leaves, four workers", empty_leaves, LOST_PAGE, ("--workers", "4"), pages=SLOT * SLOTS),
     HostileDisk("a log of 65,534 segments", many_segments, ONE_ROW, is_store=True),
     HostileDisk(f"a tree of {LEVELS} levels", tall_tree, TWO_ROWS),
     HostileDisk("leaves of long keys that share beginnings", long_keys, (4, b"", b"fault 16 BadStructure 10 1\n"), pages=LONG_KEYS),
@@ -277,7 +279,8 @@ NO_BASES = [
 
 
 def refuse_frames(programs: Programs) -> Outcome:
-    """Checks that bytes which are no frame of version 2 are refused at their place, whatever follows, and that its frames are refused in a log of version 1."""
+    """Checks that bytes which are no frame of version 2 are refused at their place, whatever follows, and that its frames are refused in a log of
+    version 1."""
     refused = [(what, frame(6, 0, counted(low) + count.to_bytes(2, "big") + bytes.fromhex(entries)), 2) for what, low, count, entries in NO_BASES]
     refused += [("a shared leaf in a log of version 1", SHARED_PAIR, 0), ("a shared index page there", shared_index(0, b"", {b"": 1}), 0)]
     refused += [("a frame of kind 8", frame(8, 0), 2), ("a shared leaf that is read as an index page", b"\7" + SHARED_PAIR[1:], 2)]
@@ -334,8 +337,8 @@ def small_leaf(chance: random.Random, pid: int, low: bytes, end: bytes, leaf: Ca
 
 
 def small_tree(chance: random.Random, version: int) -> bytes:
-    """Makes a file with a tree of three levels and frames of older pages. The runs of a page follow its base. In a log of version 2 some bases have whole keys,
-    as before an upgrade."""
+    """Makes a file with a tree of three levels and frames of older pages. The runs of a page follow its base. In a log of version 2 some bases have
+    whole keys, as before an upgrade."""
     leaves: list[Callable[..., bytes]] = [full_leaf, shared_leaf][: 1 + bool(version)]
     indexes: list[Callable[..., bytes]] = [full_index, shared_index][: 1 + bool(version)]
     lows = [b"", b"c", b"cf", b"k", b"kk", b"t"]
@@ -403,7 +406,8 @@ def change_each_byte(programs: Programs, part: int) -> Outcome:
 def cases(programs: Programs) -> list[Case]:
     forged = [Case(disk.name, check_disk, (programs, number)) for number, disk in enumerate(DISKS)]
     damaged = [Case(f"damaged disks, part {part + 1} of {PARTS}", check_damaged, (programs, part)) for part in range(PARTS)]
-    changed = [Case(f"a disk of version 2 with a byte changed, part {part + 1} of {PARTS}", change_each_byte, (programs, part)) for part in range(PARTS)]
+    name = "a disk of version 2 with a byte changed"
+    changed = [Case(f"{name}, part {part + 1} of {PARTS}", change_each_byte, (programs, part)) for part in range(PARTS)]
     frames = [Case("the frames of docs/FORMAT.md", check_writing), Case("frames of version 2 that are none", refuse_frames, (programs,))]
     climbed = [Case(f"a tree of {LEVELS} levels that is climbed, {workers} workers", climb, (programs, workers)) for workers in (1, 4)]
     return [*frames, *forged, *climbed, *damaged, *changed, Case("whole keys and shared ones, a megabyte of each", compare_times, (programs,))]

@@ -106,7 +106,8 @@ EXPLAINED: list[tuple[tuple[str, ...], bytes, bytes | None, bytes, bytes]] = [
 
 
 def print_version(programs: Programs) -> Outcome:
-    """Checks that the version is printed without reading the input, also beside words that would be refused otherwise, and that --version twice is refused."""
+    """Checks that the version is printed without reading the input, also beside words that would be refused otherwise, and that --version twice is
+    refused."""
     words: Command = [programs.store, "--version", "--fan=65", "--workers=0", "--disk=/no/such"]
     wrong = differs(run(words, limits=Limits(redirections="<&-")), 0, b"bwsh 0.1.0\n")
     again = run([programs.store, "--version", "--version"])
@@ -154,13 +155,15 @@ def explain_files(programs: Programs) -> Outcome:
         path = Path(folder) / "store"
         path.write_bytes(b"0123456789")
         text = b"put a 1\nflush\n"
-        wrong = wrong_explanation(run_explained(programs, path, text), b"fault 12 NotAStore\n", path, b"; --create makes a new one, and what stands there is lost\n")
+        ran = run_explained(programs, path, text)
+        wrong = wrong_explanation(ran, b"fault 12 NotAStore\n", path, b"; --create makes a new one, and what stands there is lost\n")
         with path.open("rb+") as held:
             fcntl.flock(held, fcntl.LOCK_EX)
             ran = run_explained(programs, path, text)
         wrong = wrong or wrong_explanation(ran, b"fault 9 Device\n", path, b"; another program holds or shares it: wait until that has ended\n")
         ran = run_explained(programs, Path(folder), text)
-        return Outcome(wrong or wrong_explanation(ran, b"fault 9 Device\n", Path(folder), b"Is a directory (os error 21); a store stands in a file\n"))
+        end = b"Is a directory (os error 21); a store stands in a file\n"
+        return Outcome(wrong or wrong_explanation(ran, b"fault 9 Device\n", Path(folder), end))
 
 
 def run_explained(programs: Programs, path: Path, text: bytes) -> RunResult:
@@ -175,7 +178,8 @@ def wrong_explanation(ran: RunResult, first: bytes, path: Path, end: bytes) -> s
 
 
 def explain_streams(programs: Programs) -> Outcome:
-    """Explains closed streams: the input with the system's reason, the output without one. Nothing is explained if all is done or the words are refused."""
+    """Explains closed streams: the input with the system's reason, the output without one. Nothing is explained if all is done or the words are
+    refused."""
     words: Command = [programs.store, "--explain"]
     closed = run(words, limits=Limits(redirections="<&-"))
     wrong = differs(closed, 4, b"", b"fault 9 Device\nstandard input: Bad file descriptor (os error 9)\n")
@@ -235,7 +239,8 @@ def print_numbers_of_file(programs: Programs) -> Outcome:
 
 
 def clean_when_full(programs: Programs) -> Outcome:
-    """Checks --clean-when-full. The eighteenth flush would leave no segment free, and one clean makes room. The order `clean` does the same as without it."""
+    """Checks --clean-when-full. The eighteenth flush would leave no segment free, and one clean makes room. The order `clean` does the same as
+    without it."""
     words: Command = [programs.store, *SMALL_STORE, "--clean-when-full"]
     out = b"new\nflushed 2\n" + b"".join(b"replaced\nflushed %d\n" % number for number in range(3, 19))
     out += b"replaced\ncleaned 1\nflushed 20\nvalue 0123456789abcdef\n"

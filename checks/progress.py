@@ -20,8 +20,8 @@ SLOW = FailingCalls("none", wait=300)  # each read and write of a file takes 0.3
 WIDE = ("--seg-size=512", "--max-key=16", "--max-value=16", "--fan=8")  # settings under which twelve segments hold these pairs
 LOADED = b"".join(b"put key%03d value%d\n" % (number, number) for number in range(200))
 
-# The words, the input, the status, the output and the errors of a session on a file that has `put a 1` and a flush, and whether it opens the file. A session
-# without --stream finds a bad line before it opens its file.
+# The words, the input, the status, the output and the errors of a session on a file that has `put a 1` and a flush, and whether it opens the file. A
+# session without --stream finds a bad line before it opens its file.
 SESSIONS = [
     ((), b"get a\nput b 2\nflush\n", 0, b"value 1\nnew\nflushed 3\n", b"", True),
     (("--stream",), b"get a\nput b 2\nflush\n", 0, b"value 1\nnew\nflushed 3\n", b"", True),
@@ -67,7 +67,8 @@ def print_nothing(programs: Programs) -> Outcome:
         wrong = wrong or f"help: {help_run.describe()}; refused words: {refused.describe()}"
     with new_folder() as folder:
         path = Path(folder) / "none"
-        return Outcome(wrong or differs(run([*words, "--disk", path], b"get a\n"), 4, b"", progress_of(f"opening {path}".encode()) + b"fault 9 Device\n"))
+        opening = progress_of(f"opening {path}".encode())
+        return Outcome(wrong or differs(run([*words, "--disk", path], b"get a\n"), 4, b"", opening + DEVICE))
 
 
 def run_without_errors(programs: Programs, way: str) -> Outcome:
@@ -78,7 +79,8 @@ def run_without_errors(programs: Programs, way: str) -> Outcome:
         other.write_bytes(path.read_bytes())
         text = b"put b 2\nflush\n"
         whole = run([programs.store, "--disk", other], text)
-        ran = run_piped(programs, path, text) if way == "pipe" else run([programs.store, "--progress", "--disk", path], text, Limits(redirections=way))
+        command: Command = [programs.store, "--progress", "--disk", path]
+        ran = run_piped(programs, path, text) if way == "pipe" else run(command, text, Limits(redirections=way))
         wrong = differs(whole, 0, b"new\nflushed 3\n") or differs(ran, 0, b"new\nflushed 3\n")
         return Outcome(wrong or (None if path.read_bytes() == other.read_bytes() else "the files differ"))
 
@@ -94,7 +96,8 @@ def run_piped(programs: Programs, path: Path, text: bytes) -> RunResult:
 
 
 def count_orders(programs: Programs) -> Outcome:
-    """Runs a session of some seconds. Its lines are at least a second apart and count its orders up, and the answers are the same as without progress."""
+    """Runs a session of some seconds. Its lines are at least a second apart and count its orders up, and the answers are the same as without
+    progress."""
     puts = b"".join(b"put k%d v\n" % number + b"go\n" * (number % 1_000 == 999) for number in range(PAIRS))
     text = puts + VERIFIES * b"verify\n"
     start = time.monotonic()
@@ -147,7 +150,8 @@ def kill(programs: Programs) -> Outcome:
 
 
 def make_copy(programs: Programs) -> Outcome:
-    """Checks that a session with --copy-to shows that it copies, after its answers, in memory and from a file, and shows nothing if the copy is refused."""
+    """Checks that a session with --copy-to shows that it copies, after its answers, in memory and from a file, and shows nothing if the copy is
+    refused."""
     with new_folder() as folder:
         path, first, second = (Path(folder) / name for name in ("file", "first", "second"))
         make(programs, path)
@@ -161,7 +165,8 @@ def make_copy(programs: Programs) -> Outcome:
 
 
 def wrong_segments(ran: RunResult, path: Path, first: bytes, done: bytes, segments: int) -> str | None:
-    """Returns what is wrong with the ending of a session that read or wrote a slow file. It has to show more and more segments, at most `segments`."""
+    """Returns what is wrong with the ending of a session that read or wrote a slow file. It has to show more and more segments, at most
+    `segments`."""
     text = first + str(path).encode()
     counts = [int(count) for count in re.findall(rb"\r" + re.escape(text) + rb", (\d+) segments " + done, ran.err)]
     lines = progress_of(text, *(text + b", %d segments " % count + done for count in counts))

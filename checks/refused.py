@@ -1,4 +1,5 @@
-"""Refused allocations: tests of the crates whose comment asks for it, and sessions of the program, each run once for every allocation, which is refused.
+"""Refused allocations: tests of the crates whose comment asks for it, and sessions of the program, each run once for every allocation, which is
+refused.
 
     python3 -m checks.refused PROGRAM TEST    # at the top of the repository: one test of a built program of tests
 """
@@ -56,8 +57,8 @@ Pairs = dict[bytes, bytes]
 
 @dataclass(frozen=True)
 class RefusedSession:
-    """A session whose allocations are refused: its words, its batch file and its answers. If it runs on a file, `old` has the batch file and the answers of
-    the session that makes the file, and `states` the pairs that the file holds before, None if there is no file, and after each flush."""
+    """A session whose allocations are refused: its words, its batch file and its answers. If it runs on a file, `old` has the batch file and the
+    answers of the session that makes the file, and `states` the pairs that the file holds before, None if there is no file, and after each flush."""
 
     name: str
     words: tuple[str, ...]
@@ -77,8 +78,8 @@ class RefusedSession:
         return err == fault or "--explain" in self.words and EXPLANATION.fullmatch(err, len(fault)) is not None
 
     def wrong_file(self, ran: subprocess.CompletedProcess[bytes], path: Path) -> str | None:
-        """Returns what is wrong with the file after the session. It holds the pairs of the last flush that was answered, or of the next one, if the allocation
-        for its answer was refused. A new file may hold no pairs before the first flush."""
+        """Returns what is wrong with the file after the session. It holds the pairs of the last flush that was answered, or of the next one, if the
+        allocation for its answer was refused. A new file may hold no pairs before the first flush."""
         flushes = len(FLUSHED.findall(ran.stdout))
         is_next = FLUSHED.match(self.answers, len(ran.stdout)) is not None
         expected = [self.states[flushes], *self.states[flushes + 1 : flushes + 1 + is_next]]
@@ -102,6 +103,7 @@ FLUSHING_OUT = b"value 1\nnew\nflushed %d\nreplaced\nnew\nflushed %d\nnew\nrows 
 FLUSHING_STATES = ({b"a": b"1"}, {b"a": b"1", b"b": b"2"}, {b"a": b"3", b"b": b"2", b"c": b"4"})
 MAKING_STATES = (None, {b"a": b"1"}, {b"a": b"3", b"b": b"2", b"c": b"4"})
 MAKING = b"put a 1\nflush\nput a 3\nput b 2\nput c 4\nflush\n"
+MAKING_OUT = b"new\nflushed 2\nreplaced\nnew\nnew\nflushed 3\n"
 CLEANING = b"put b 1\nflush\nget a\n"
 CLEANING_OUT = b"new\ncleaned 1\nflushed 20\nvalue 0123456789abcdef\n"
 CLEANING_STATES = (FULL_PAIRS, {**FULL_PAIRS, b"b": b"1"})
@@ -114,7 +116,7 @@ SESSIONS = [
     *(RefusedSession("on a file", words, FLUSHING, FLUSHING_OUT % (3, 4), OLD, FLUSHING_STATES) for words in OPTIONS),
     RefusedSession("on a file", ("--stat",), b"get a\n", b"value 1\n" + STAT % (55, 4, 1, 1), OLD, FLUSHING_STATES),
     RefusedSession("on a file", ("--stream", "--clean-when-full", "--explain"), CLEANING, CLEANING_OUT, (FULL, FULL_OUT), CLEANING_STATES),
-    RefusedSession("that makes its file", ("--stream", "--create", *SMALL_STORE), MAKING, b"new\nflushed 2\nreplaced\nnew\nnew\nflushed 3\n", None, MAKING_STATES),
+    RefusedSession("that makes its file", ("--stream", "--create", *SMALL_STORE), MAKING, MAKING_OUT, None, MAKING_STATES),
 ]
 
 

@@ -163,8 +163,8 @@ IN_A_BATCH = 10
 
 
 def grown_and_shrunk() -> tuple[bytes, bytes]:
-    """Puts many keys with small pages, in batches of ten, and deletes them: the tree grows to several levels, and shrinks to an empty leaf. 389 and 1,000 have
-    no divisor in common, so each key comes once, in no order."""
+    """Puts many keys with small pages, in batches of ten, and deletes them: the tree grows to several levels, and shrinks to an empty leaf. 389 and
+    1,000 have no divisor in common, so each key comes once, in no order."""
     puts = [b"put %d v\n" % (place * 389 % KEYS) for place in range(KEYS)]
     deletes = [b"get %d\ndel %d\n" % (key, key) for key in range(KEYS)]
     lines = [line + (b"go\n" if at % IN_A_BATCH == IN_A_BATCH - 1 else b"") for at, line in enumerate(puts + deletes)]

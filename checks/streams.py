@@ -1,4 +1,5 @@
-"""Sessions whose standard streams are closed. A file that is opened then gets the descriptor of a stream, and could get what is written to the stream."""
+"""Sessions whose standard streams are closed. A file that is opened then gets the descriptor of a stream, and could get what is written to the
+stream."""
 
 import re
 from collections.abc import Iterator
@@ -20,8 +21,8 @@ OLD_ANSWER = answer_to_read_all(OLD_PAIRS, 1, 1)
 
 @dataclass(frozen=True)
 class StreamSession:
-    """A session on an old file, or on one that it makes: its words, its batch file, and how it ends if no stream is closed, without its progress. If it makes a
-    copy, `copied` has the pairs of the copy."""
+    """A session on an old file, or on one that it makes: its words, its batch file, and how it ends if no stream is closed, without its progress. If
+    it makes a copy, `copied` has the pairs of the copy."""
 
     name: str
     words: tuple[str, ...]
@@ -84,8 +85,8 @@ def make_old_file(programs: Programs, path: Path) -> bytes:
 
 
 def wrong_ending(ran: RunResult, session: StreamSession, closed: str) -> str | None:
-    """Returns what is wrong with the ending of a session with closed streams, of which the closed ones cannot be seen. A bad line that can be read is found
-    before a closed output, except with --stream. If only standard error is closed, a session may go on or end by fault 9."""
+    """Returns what is wrong with the ending of a session with closed streams, of which the closed ones cannot be seen. A bad line that can be read is
+    found before a closed output, except with --stream. If only standard error is closed, a session may go on or end by fault 9."""
     status, out, err = session.ending
     if closed == "2>&-" and (ran.status, ran.out) == (4, b""):
         return None

@@ -1,4 +1,5 @@
-"""The tests of the engine, in Rattle: calls of the engine and of the crates below it, for what no clause says. `tests/build.py` builds them without proofs."""
+"""The tests of the engine, in Rattle: calls of the engine and of the crates below it, for what no clause says. `tests/build.py` builds them without
+proofs."""
 
 import re
 import subprocess

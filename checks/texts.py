@@ -95,8 +95,20 @@ TEXTS = [
     HostileText("a wipe of all", lambda: puts(65_535) + b"wipe % *\nscan % * 9\n", (0, b"new\n" * 65_535 + b"wiped 65535\nrows 0\n", b"")),
     HostileText("wipes and scans in turn, each where the last one ended", lambda: wipes_and_scans(b""), (0, answers_to_wipes_and_scans(), b"")),
     HostileText("wipes and scans in turn, from the first key on", lambda: wipes_and_scans(b"%"), (0, answers_to_wipes_and_scans(), b"")),
-    HostileText("deletes and scans in turn", deletes_and_scans, (0, answers_to_deletes_and_scans(), b""), ("--fan", "64", "--chain", "16"), seconds=5, memory=150 * MEGABYTE),
-    HostileText("batches of one command", lambda: b"get a\ngo\n" * SMALL, (0, b"missing\n" * SMALL, b""), memory=SMALL * (PER_ORDER + 9) + 5 * MEGABYTE),
+    HostileText(
+        "deletes and scans in turn",
+        deletes_and_scans,
+        (0, answers_to_deletes_and_scans(), b""),
+        ("--fan", "64", "--chain", "16"),
+        seconds=5,
+        memory=150 * MEGABYTE,
+    ),
+    HostileText(
+        "batches of one command",
+        lambda: b"get a\ngo\n" * SMALL,
+        (0, b"missing\n" * SMALL, b""),
+        memory=SMALL * (PER_ORDER + 9) + 5 * MEGABYTE,
+    ),
 ]
 
 

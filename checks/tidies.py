@@ -13,6 +13,7 @@ from tools.processes import PATIENCE, Command, Dialog, Limits, new_folder, run
 QUEUE = ("--fan=16", "--chain=2", "--max-key=16", "--max-value=16", "--seg-size=1024")
 SMALL = (*QUEUE[:-1], "--seg-size=1024", "--segments=16")
 EACH = 50  # keys of a batch
+LANES = 8  # cases with a part of the allocations each
 
 
 def key(place: int) -> bytes:
@@ -53,8 +54,8 @@ def without_counts(out: bytes) -> list[bytes]:
 
 
 def merge(programs: Programs, kind: str) -> Outcome:
-    """Tidies a queue through which a thousand pairs went. Its fifty pairs are in four of 61 leaves, so 68 pages become 11 after a flush. The counts follow from
-    the rules, as in the engine's own test. A second flush writes the merged pages; without the option it would write nothing."""
+    """Tidies a queue through which a thousand pairs went. Its fifty pairs are in four of 61 leaves, so 68 pages become 11 after a flush. The counts
+    follow from the rules, as in the engine's own test. A second flush writes the merged pages; without the option it would write nothing."""
     text, out = queue(0, 20)
     words = ("--stream",) if kind == "stream" else ()
     ran = run([programs.store, *QUEUE, *words, "--tidy=4294967295"], text + b"verify\nflush\nverify\nflush\n")
@@ -81,7 +82,8 @@ def random_lines(seed: int) -> bytes:
         place = key(chance.randrange(400))
         lines.append(
             chance.choice(
-                [b"put %s %d" % (place, chance.randrange(9)), b"add %s 1" % place, b"del " + place, b"get " + place, b"wipe %s %s" % (place, key(400))]
+                [b"put %s %d" % (place, chance.randrange(9)), b"add %s 1" % place, b"del " + place, b"get " + place]
+                + [b"wipe %s %s" % (place, key(400))]
                 + 4 * [b"put %s 2" % place, b"del " + place]
                 + [b"scan %s * 20" % place, b"go", b"flush"]
             )
@@ -185,8 +187,8 @@ def wrong_tidied(ran: subprocess.CompletedProcess[bytes]) -> str | None:
 
 
 def refuse_last(programs: Programs, library: Path) -> Outcome:
-    """Refuses each of the last ten allocations of a session, which merge its pages. All is answered, and the session ends by fault 6 if it cannot do without
-    the allocation."""
+    """Refuses each of the last ten allocations of a session, which merge its pages. All is answered, and the session ends by fault 6 if it cannot do
+    without the allocation."""
     text, out = queue(0, 6)
 
     def run_refused(number: int) -> subprocess.CompletedProcess[bytes]:
@@ -205,9 +207,11 @@ def refuse_last(programs: Programs, library: Path) -> Outcome:
 
 
 def cases(programs: Programs, library: Path) -> list[Case]:
-    lanes = 8
     command: Command = [programs.store, *QUEUE, "--tidy=99"]
-    refusals = [Case(f"each allocation refused, part {lane} of {lanes}", refuse_each, (command, library, lane, lanes, 60, TIDIED, wrong_tidied)) for lane in range(1, lanes + 1)]
+    refusals = [
+        Case(f"each allocation refused, part {lane} of {LANES}", refuse_each, (command, library, lane, LANES, 60, TIDIED, wrong_tidied))
+        for lane in range(1, LANES + 1)
+    ]
     return [
         *refusals,
         *(Case(f"answers alike, seed {seed}", compare_answers, (programs, seed)) for seed in range(4)),

@@ -81,7 +81,8 @@ def kill(programs: Programs, path: Path, delay: float) -> tuple[bytes, float]:
 
 
 def check_killed(programs: Programs, path: Path, out: bytes, slot: Slot, ending: Ending) -> tuple[bool, str | None]:
-    """Returns whether an upgrade was done in which a session was killed, and what is wrong with what is recovered: the store as it was, in one version."""
+    """Returns whether an upgrade was done in which a session was killed, and what is wrong with what is recovered: the store as it was, in one
+    version."""
     disk = path.read_bytes()
     is_done = read_slot(disk, read_settings(disk)).version == 2
     wrong = "an upgrade was reported that was not recovered" if answer_to_upgrade(slot) in out and not is_done else None

@@ -6,18 +6,19 @@ Before each example the file has bytes 0xff, fewer or more than a store has, and
 from dataclasses import dataclass
 from pathlib import Path
 
-from tools.cases import Case, Outcome, Programs, differs, first_difference
+from tools.cases import SMALL_STORE, Case, Outcome, Programs, differs, first_difference
 from tools.log.writing import Settings, Slot, delta_index, delta_leaf, disk_with, free, full_index, full_leaf, segments_of, shared_index, shared_leaf
 from tools.processes import new_folder, run
 
 S = Settings(fan=4, chain=2, max_key=16, max_value=16, seg_size=256, segments=4)
-WORDS = ("--fan=4", "--chain=2", "--max-key=16", "--max-value=16", "--seg-size=256", "--segments=4", "--workers=2", "--grain=1", "--create", "--disk=store")
+WORDS = (*SMALL_STORE, "--workers=2", "--grain=1", "--create", "--disk=store")
 LONG = b"0123456789abcdef"
 
 
 @dataclass(frozen=True)
 class WorkedExample:
-    """An example of the log by its number: how many bytes the file has before, the lines, how the session ends, and the frames and the slots of the file."""
+    """An example of the log by its number: how many bytes the file has before, the lines, how the session ends, and the frames and the slots of the
+    file."""
 
     number: str
     held: int
@@ -95,7 +96,11 @@ EXAMPLES = [
         + b"".join(b"put %c123456789abcdef 0123456789abcdef\n" % letter for letter in b"defg")
         + b"flush\nclean\n",
         (4, 3 * b"new\n" + b"flushed 2\n" + 4 * b"new\n" + b"flushed 3\n", b"fault 11 NothingToClean\n"),
-        [NEW, delta_leaf(0, dict.fromkeys((b"a", b"b", b"c"), b"123456789")), delta_leaf(0, {b"%c123456789abcdef" % letter: LONG for letter in b"defg"})],
+        [
+            NEW,
+            delta_leaf(0, dict.fromkeys((b"a", b"b", b"c"), b"123456789")),
+            delta_leaf(0, {b"%c123456789abcdef" % letter: LONG for letter in b"defg"}),
+        ],
         [Slot(2, 0, 93, 0, 1), Slot(3, 0, 256, 0, 1)],
     ),
     WorkedExample(

@@ -7,6 +7,7 @@ import shutil
 import subprocess
 import sys
 import tempfile
+from collections.abc import Callable
 from concurrent.futures import ThreadPoolExecutor
 from pathlib import Path
 
@@ -28,7 +29,8 @@ SESSIONS = {
 
 
 def add_crate(copied: Path, name: str) -> Path:
-    """Adds the crate of this example to a copy of the repository. Its files lose the ending `.in`, without which the gate would ask for their crate."""
+    """Adds the crate of this example to a copy of the repository. Its files lose the ending `.in`, without which the gate would ask for their
+    crate."""
     crate = copied / "crates" / name
     for source in sorted((HERE / name).rglob("*.in")):
         made = crate / source.relative_to(HERE / name).with_suffix("")
@@ -70,7 +72,8 @@ def build(names: list[str], is_proved: bool) -> None:
         library.copy_repository(copied, is_proved)
         crates = [add_crate(copied, name) for name in names]
         print(f"building {', '.join(names)}, {'proved' if is_proved else 'unproved: some minutes'}", file=sys.stderr, flush=True)
-        list(pool.map(build_proved if is_proved else library.build_unproved, crates, [BUILT / name for name in names]))
+        builders: dict[bool, Callable[[Path, Path], None]] = {True: build_proved, False: library.build_unproved}
+        list(pool.map(builders[is_proved], crates, [BUILT / name for name in names]))
 
 
 def show(name: str) -> None:

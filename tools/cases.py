@@ -8,7 +8,8 @@ from typing import Any
 from tools.processes import RunResult, abbreviate
 
 SLOW = 4  # how many times slower than the machine on which bounds of time were set a machine may be
-SMALL_STORE = ("--fan=4", "--chain=2", "--max-key=16", "--max-value=16", "--seg-size=256", "--segments=4")  # a store whose pages and log are soon full
+# The words of a store whose pages and log are soon full.
+SMALL_STORE = ("--fan=4", "--chain=2", "--max-key=16", "--max-value=16", "--seg-size=256", "--segments=4")
 
 
 @dataclass(frozen=True)

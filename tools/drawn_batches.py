@@ -6,8 +6,8 @@ from tools.model import OrderedMap
 
 
 def drawn_range(chance: random.Random, key: bytes) -> tuple[bytes, bytes | None]:
-    """Returns the bounds of a range: nearly always of the keys that begin like this one, seldom of all from this beginning up to some other key or to the
-    end."""
+    """Returns the bounds of a range: nearly always of the keys that begin like this one, seldom of all from this beginning up to some other key or to
+    the end."""
     length = max(1, len(key) - chance.choices([0, 1, 2, 3], [60, 30, 8, 2])[0])
     others = [key[:length] + b"~", b"%x" % chance.randrange(1 << 16), None]
     return key[:length], chance.choices(others, [500, 2, 1])[0]
@@ -31,8 +31,8 @@ def drawn_command(chance: random.Random, pairs: OrderedMap, weights: list[int], 
 
 
 def drawn_batches(chance: random.Random, batches: int, most: int, keys: int) -> tuple[bytes, bytes]:
-    """Returns a batch file of random batches, in turn two that mostly put and two that mostly delete, with a scan of all pairs after them, and the answers
-    to it. Each batch has fewer than `most` commands, and there are `keys` keys."""
+    """Returns a batch file of random batches, in turn two that mostly put and two that mostly delete, with a scan of all pairs after them, and the
+    answers to it. Each batch has fewer than `most` commands, and there are `keys` keys."""
     pairs, text, answers = OrderedMap(), bytearray(), list[bytes]()
     for batch in range(batches):
         weights = [240, 40, 40, 5, 10] if batch % 4 < 2 else [40, 240, 40, 5, 10]

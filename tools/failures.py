@@ -22,8 +22,8 @@ ANSWERS = b"new\nvalue 1\nrows 1\nA 1\nok 1 1 1\ndeleted\nnew\nwiped 1\nmissing\
 
 @dataclass(frozen=True)
 class FailingCalls:
-    """Calls of one kind that fail with this error: `count` of them from the number `first` on, which is counted from 0. `cuts` has reads and writes take a
-    byte at a time. `wait` has those of the file take so many milliseconds more."""
+    """Calls of one kind that fail with this error: `count` of them from the number `first` on, which is counted from 0. `cuts` has reads and writes
+    take a byte at a time. `wait` has those of the file take so many milliseconds more."""
 
     call: str
     first: int = 0
@@ -51,8 +51,8 @@ def wrong_test(ran: subprocess.CompletedProcess[bytes]) -> str | None:
 
 
 def wrong_session(ran: subprocess.CompletedProcess[bytes], answers: bytes, is_fault: Callable[[bytes], bool]) -> str | None:
-    """Returns what is wrong with how a session ended. It has to answer all, or to end by one of the faults that `is_fault` accepts because an allocation was
-    refused; then its answers are a beginning of the right ones, in whole lines."""
+    """Returns what is wrong with how a session ended. It has to answer all, or to end by one of the faults that `is_fault` accepts because an
+    allocation was refused; then its answers are a beginning of the right ones, in whole lines."""
     out, err = ran.stdout, ran.stderr.replace(REFUSED, b"")
     is_done = (ran.returncode, out, err) == (0, answers, b"")
     is_beginning = answers.startswith(out) and (not out or out.endswith(b"\n"))
@@ -70,8 +70,8 @@ def refuse_each(
     wrong_run: Callable[[subprocess.CompletedProcess[bytes]], str | None] = wrong_test,
     prepare: Callable[[], object] = lambda: None,
 ) -> Outcome:
-    """Runs a command again and again, with the allocation of one number refused, from `first` on in steps, until there is no allocation of that number.
-    Calls `prepare` before each run, and `wrong_run` after it, which returns what is wrong. Leaves the rest out after `budget` seconds."""
+    """Runs a command again and again, with the allocation of one number refused, from `first` on in steps, until there is no allocation of that
+    number. Calls `prepare` before each run, and `wrong_run` after it, which returns what is wrong. Leaves the rest out after `budget` seconds."""
     failed: list[str] = []
     end = time.monotonic() + budget
     for number in itertools.count(first, step):

@@ -23,8 +23,8 @@ Lines = list[bytes]
 
 
 def changes(number: int) -> dict[bytes, bytes | None]:
-    """Returns the batch of this number: to each key its new value, or None to delete it. The first change is a put, so there is always something to flush;
-    the others are puts in a hundred batches, and deletes in the next hundred."""
+    """Returns the batch of this number: to each key its new value, or None to delete it. The first change is a put, so there is always something to
+    flush; the others are puts in a hundred batches, and deletes in the next hundred."""
     keys = [b"k%d" % ((number * 37 + at * 11) % KEYS) for at in range(1 + number % 5)]
     value = b"%d" % number + b"." * (number % 40)
     return {key: value if at == 0 or number // 100 % 2 == 0 else None for at, key in enumerate(keys)}
@@ -113,8 +113,8 @@ class KilledStore:
         return self
 
     def run(self, batches: int, folder: Path, delay: float | None = None) -> tuple[int, bytes, float]:
-        """Runs `batches` more batches, and kills the session when `delay` seconds have passed since its first lines. Returns its status, its output, and how
-        long it ran after its first lines."""
+        """Runs `batches` more batches, and kills the session when `delay` seconds have passed since its first lines. Returns its status, its output,
+        and how long it ran after its first lines."""
         text, out = folder / "batches", folder / "out"
         text.write_bytes(batch_file(range(self.done + 1, self.done + batches + 1)))
         status, seconds = run_until([*self.program, "--disk", self.path], text, out, delay=delay)
@@ -163,8 +163,8 @@ class KillOptions:
 
 
 def kill_often(program: Sequence[Path], options: KillOptions, folder: Path) -> tuple[list[str], Counter[int]]:
-    """Kills the sessions of a store, each of which goes on from what was recovered; then those of the next store. Returns what went wrong, and how often the
-    store of the last flush that was reported was recovered (0), or one flush more (1)."""
+    """Kills the sessions of a store, each of which goes on from what was recovered; then those of the next store. Returns what went wrong, and how
+    often the store of the last flush that was reported was recovered (0), or one flush more (1)."""
     chance = random.Random(options.seed)
     whole = time_whole_run(program, options.batches, folder)
     print(f"{options.batches} batches take {whole:.2f} s", file=sys.stderr)

@@ -90,9 +90,9 @@ class StoreState:
 
 @dataclass(frozen=True)
 class Order:
-    """An order of a session: the lines that it prints, where `ok ?` begins a report whose numbers of pages and levels are not known, and the state of the
-    file after it. An order with an ending ends the session, with this status and these errors. An order may end the session by one of its `faults`, which
-    the model cannot foresee, since it has no pages."""
+    """An order of a session: the lines that it prints, where `ok ?` begins a report whose numbers of pages and levels are not known, and the state of
+    the file after it. An order with an ending ends the session, with this status and these errors. An order may end the session by one of its
+    `faults`, which the model cannot foresee, since it has no pages."""
 
     name: str
     printed: list[bytes]
@@ -134,7 +134,8 @@ class StoreModel:
         return Order(name, [line % getattr(self.file, number)], self.file, faults=faults)
 
     def order(self, name: str) -> Order:
-        """Runs an order that is not a batch. A flush writes only if a key was written to since the last one; a clean does not write what is unflushed."""
+        """Runs an order that is not a batch. A flush writes only if a key was written to since the last one; a clean does not write what is
+        unflushed."""
         if name == "verify":
             return Order(name, [b"ok ? %d" % len(self.map.pairs)], self.file)
         if name == "clean":

@@ -17,8 +17,8 @@ from typing import IO
 TOP = Path(__file__).resolve().parent.parent  # of the repository
 PROGRAM = TOP / "crates/bwsh/out/bwsh"  # as the gate builds it
 MEGABYTE = 1_000_000
-# KB of stack. 64 are enough for every input, but the system may leave out 8 of them, since it places the stack at random. A build without proofs takes
-# more: the environment's STACK says how much.
+# KB of stack. 64 are enough for every input, but the system may leave out 8 of them, since it places the stack at random. A build without proofs
+# takes more: the environment's STACK says how much.
 STACK = 56
 PATIENCE = 60  # seconds until a program that does not end is killed
 POLL_INTERVAL = 0.002  # seconds
@@ -76,7 +76,8 @@ def abbreviate(text: bytes) -> str:
 
 
 def new_folder() -> tempfile.TemporaryDirectory[str]:
-    """Makes a temporary folder. It is in memory if the machine has such a place: there a sync takes no time, so a kill comes at any point of a flush."""
+    """Makes a temporary folder. It is in memory if the machine has such a place: there a sync takes no time, so a kill comes at any point of a
+    flush."""
     return tempfile.TemporaryDirectory(prefix="check-", dir=MEMORY_FOLDER if MEMORY_FOLDER.is_dir() else None)
 
 
@@ -131,7 +132,8 @@ def wait_for_end(child: subprocess.Popen[bytes]) -> float:
 
 
 def wait_and_measure(child: subprocess.Popen[bytes], name: str) -> tuple[float, int]:
-    """Waits until a program ends, and returns its processor seconds and its peak memory in bytes. (`ru_maxrss` would count that of its parent too.)"""
+    """Waits until a program ends, and returns its processor seconds and its peak memory in bytes. (`ru_maxrss` would count that of its parent
+    too.)"""
     memory, end = 0, time.monotonic() + PATIENCE
     while True:
         pid, status, usage = os.wait4(child.pid, os.WNOHANG)
@@ -196,8 +198,8 @@ def run_until(
     delay: float | None = None,
     is_mixed: bool = False,
 ) -> tuple[int, float]:
-    """Runs a program on a file until its output has `size` bytes and `delay` seconds have passed since, and kills it then. Without a delay it is
-    not killed. `is_mixed` sends its errors to its output. Returns its status, negative for a signal, and the seconds that it ran after those bytes."""
+    """Runs a program on a file until its output has `size` bytes and `delay` seconds have passed since, and kills it then. Without a delay it is not
+    killed. `is_mixed` sends its errors to its output. Returns its status, negative for a signal, and the seconds that it ran after those bytes."""
     with open(source, "rb") as stdin, open(out, "wb") as stdout:
         child = subprocess.Popen(command, stdin=stdin, stdout=stdout, stderr=subprocess.STDOUT if is_mixed else None, env=NO_VARIABLES)
         end = time.monotonic() + PATIENCE
@@ -272,8 +274,8 @@ class Dialog(PipedProgram):
 
 @contextlib.contextmanager
 def stalled(command: Command, text: bytes) -> Iterator[subprocess.Popen[bytes]]:
-    """Starts a program on a text whose answers are more than a pipe holds, and reads only their first byte, so that the program waits. Kills it at the
-    end."""
+    """Starts a program on a text whose answers are more than a pipe holds, and reads only their first byte, so that the program waits. Kills it at
+    the end."""
     with subprocess.Popen(command, stdin=subprocess.PIPE, stdout=subprocess.PIPE, env=NO_VARIABLES) as child:
         pipe_of(child.stdin).write(text)
         pipe_of(child.stdin).close()

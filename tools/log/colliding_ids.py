@@ -1,8 +1,8 @@
 """Finds page ids that a table of std puts into one place if it hashes with its fixed default seed.
 
-Its hash of an id is that of `FoldHasher`: the id, by xor with the seed, is multiplied to 128 bits, and the product is folded by xor, at last to 32 bits.
-The low bits of the hash say at which place the search for an entry begins. So the searches for all ids whose hashes share the low 16 bits begin at one
-place, in a table of up to 65,536 groups.
+Its hash of an id is that of `FoldHasher`: the id, by xor with the seed, is multiplied to 128 bits, and the product is folded by xor, at last to 32
+bits. The low bits of the hash say at which place the search for an entry begins. So the searches for all ids whose hashes share the low 16 bits begin
+at one place, in a table of up to 65,536 groups.
 """
 
 from collections import defaultdict
@@ -26,7 +26,8 @@ def part(product: int, number: int) -> int:
 
 
 def tops_by_effect(above: int) -> dict[int, list[int]]:
-    """Returns the upper 16 bits of a factor by their effect on the low bits of a hash. They reach parts 3 to 7 of the product, of which 4 and 6 count."""
+    """Returns the upper 16 bits of a factor by their effect on the low bits of a hash. They reach parts 3 to 7 of the product, of which 4 and 6
+    count."""
     found = defaultdict(list)
     for top in range(2**16):
         product = top * MULTIPLIER << 48
@@ -35,8 +36,8 @@ def tops_by_effect(above: int) -> dict[int, list[int]]:
 
 
 def colliding_ids() -> Iterator[int]:
-    """Yields ids whose hashes have the low 16 bits zero. Takes the lower 48 bits of a factor for which part 4 of the product is zero, and looks up the
-    upper 16 bits that make up for parts 0 and 2. A carry between the parts gives another hash; such ids are passed over."""
+    """Yields ids whose hashes have the low 16 bits zero. Takes the lower 48 bits of a factor for which part 4 of the product is zero, and looks up
+    the upper 16 bits that make up for parts 0 and 2. A carry between the parts gives another hash; such ids are passed over."""
     for above in range(2**16):
         by_effect = tops_by_effect(above)
         for middle in range(2**16):

@@ -139,8 +139,8 @@ def read_cell(reader: FrameReader, kind: int, settings: Settings) -> bytes | int
 
 
 def read_key(reader: FrameReader, kind: int, before: bytes, settings: Settings) -> bytes:
-    """Returns a key. In a frame whose keys share beginnings it is encoded by the number of bytes that it shares with the one before, which has to be the
-    greatest possible, and the rest."""
+    """Returns a key. In a frame whose keys share beginnings it is encoded by the number of bytes that it shares with the one before, which has to be
+    the greatest possible, and the rest."""
     if kind not in SHARED:
         return reader.counted(settings.max_key)
     shared, length = reader.number(1), reader.number(1)
@@ -282,4 +282,3 @@ def read_store(disk: bytes) -> StoredState:
     leaves = leaves_by_walk(pages, slot, settings)
     pairs = [pair for leaf in leaves for pair in leaf.pairs()]
     return StoredState(pairs, len(pages), slot.height, slot)
-

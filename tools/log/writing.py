@@ -35,8 +35,8 @@ class Settings:
 
 @dataclass(frozen=True)
 class Slot:
-    """What a commit writes: the number of commits, the first segment of the log and the end of its last frame, the root and the height of the tree, and
-    the version of the log, which is 0 for version 1 and 2 for version 2."""
+    """What a commit writes: the number of commits, the first segment of the log and the end of its last frame, the root and the height of the tree,
+    and the version of the log, which is 0 for version 1 and 2 for version 2."""
 
     sequence: int
     head: int
@@ -159,8 +159,8 @@ def fitting_disk(frames: list[bytes], root: int = 0, height: int = 1, version: i
 
 
 def append(settings: Settings, disk: bytes, slot: Slot, frames: Iterable[bytes], version: int) -> bytes:
-    """Returns the file after these frames are committed at the end of the log that `slot` describes. The tree is unchanged. At least one segment has to
-    remain free."""
+    """Returns the file after these frames are committed at the end of the log that `slot` describes. The tree is unchanged. At least one segment has
+    to remain free."""
     now, at = bytearray(disk), slot.tail
     for each in frames:
         segment, offset = at // settings.seg_size, at % settings.seg_size

@@ -70,7 +70,8 @@ class DrawnStore:
         return [self.command(weights) for _ in range(self.chance.choice([0, 1, 2, 5, 20, 60, 200]))]
 
     def word(self, word: bytes | int | None) -> bytes:
-        """Encodes a word of a command in one of the ways that the program accepts. The key `*` is escaped, so that it is not read as a missing bound."""
+        """Encodes a word of a command in one of the ways that the program accepts. The key `*` is escaped, so that it is not read as a missing
+        bound."""
         if word is None or isinstance(word, int):
             return b"*" if word is None else b"%0*d" % (self.chance.choice([1, 12]), word)
         if word and word != b"*" and self.happens(0.9):
@@ -85,8 +86,8 @@ class DrawnStore:
         return spaces.join([b"", name.encode(), *map(self.word, words)]) + end
 
     def session(self, model: StoreModel, is_full: bool, is_long: bool) -> tuple[list[bytes], list[Order]]:
-        """Returns the lines of a session, and its orders up to the one that ends it. Begins with cleans if the log is full; seldom cleans a log that is not
-        longer than a segment."""
+        """Returns the lines of a session, and its orders up to the one that ends it. Begins with cleans if the log is full; seldom cleans a log that
+        is not longer than a segment."""
         names = ["clean"] * (self.chance.choice([1, 4, 20]) * is_full)
         weights = ORDERS if is_long else ORDERS | {"clean": 0.1}
         names += self.chance.choices(list(weights), list(weights.values()), k=self.chance.choice([0, 1, 3, 8, 20]))

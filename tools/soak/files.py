@@ -80,7 +80,8 @@ class CrashingFile:
         return letters
 
     def image(self, remaining: Callable[[bytes, bytes], bytes]) -> bytes:
-        """Returns the synced bytes with each pending write applied. `remaining` returns what is left of a write, from the bytes before and those written."""
+        """Returns the synced bytes with each pending write applied. `remaining` returns what remains of a write, from the bytes before and those
+        written."""
         image = bytearray(self.synced)
         for place, written in self.pending:
             image[place : place + len(written)] = remaining(bytes(image[place : place + len(written)]), written)

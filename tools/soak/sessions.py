@@ -64,8 +64,8 @@ def count_answered(orders: Sequence[Order], out: bytes) -> int:
 
 @dataclass
 class SoakSession:
-    """A session: its words, lines and orders, and the failure that c/soak.c makes with the number of its call; how the session ended, and the letters of
-    its record."""
+    """A session: its words, lines and orders, and the failure that c/soak.c makes with the number of its call; how the session ended, and the letters
+    of its record."""
 
     words: list[str]
     lines: list[bytes]
@@ -83,7 +83,8 @@ class SoakSession:
         return "D" in self.letters and self.failure in failures
 
     def ended_by_failure(self, answered: int) -> bool:
-        """Returns whether the session ended by its failure, so that the next order was perhaps begun. Raises Difference if it may not end as it did."""
+        """Returns whether the session ended by its failure, so that the next order was perhaps begun. Raises Difference if it may not end as it
+        did."""
         order = self.orders[answered] if answered < len(self.orders) else None
         expected: set[tuple[int, bytes]] = {(0, b"")} if order is None else {order.ending} if order.ending else {(4, fault) for fault in order.faults}
         by_failure: set[tuple[int, bytes]] = set()
@@ -247,8 +248,8 @@ class Soak:
             self.counts["full logs" if session.err == FULL else "other refusals"] += 1
 
     def run_widened(self, session: SoakSession, answered: int) -> None:
-        """Runs a session whose log was full on a longer file, up to the order that was refused. There it has to be done, and its log has to be too long for
-        the shorter file."""
+        """Runs a session whose log was full on a longer file, up to the order that was refused. There it has to be done, and its log has to be too
+        long for the shorter file."""
         path, orders = self.folder / "wide", session.orders[: answered + 1]
         if session.is_new:
             return
@@ -283,7 +284,8 @@ class Soak:
         self.counts["damaged files"] += 1
         expected = ending_of_read_all(bytes(disk))
         if (session.status, out, session.err) != expected or path.read_bytes() != disk:
-            raise Difference(f"a session on a damaged file ended with {session.status}, {out[-200:]!r}, {session.err!r}, where the rules have {expected}")
+            ending = f"{session.status}, {out[-200:]!r}, {session.err!r}"
+            raise Difference(f"a session on a damaged file ended with {ending}, where the rules have {expected}")
 
     def run_store(self, number: int) -> Iterator[None]:
         """Runs the sessions of one store, from no file on, and stops after each. Each store has a seed of its own, so that it can be run alone."""
