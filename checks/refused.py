@@ -13,7 +13,7 @@ from pathlib import Path
 
 from tools.building import build_c_library
 from tools.cases import SMALL_STORE, Case, Outcome, Programs, differs
-from tools.failures import ANSWERS, DEVICE, NO_MEMORY, REFUSED, TEXT, refuse_each, refusing, wrong_session
+from tools.failures import ANSWERS, DEVICE, NO_MEMORY, REFUSE, REFUSED, TEXT, refuse_each, refusing, wrong_session
 from tools.log.reading import BadStore, read_store
 from tools.processes import TOP, Command, abbreviate, new_folder, run
 
@@ -163,7 +163,7 @@ def cases(programs: Programs, library: Path) -> list[Case]:
 
 def main() -> None:
     with tempfile.TemporaryDirectory() as folder:
-        outcome = refuse_each(sys.argv[1:], build_c_library("refuse", Path(folder)), 1, 1, budget=float("inf"))
+        outcome = refuse_each(sys.argv[1:], build_c_library(REFUSE, Path(folder)), 1, 1, budget=float("inf"))
     print(outcome.wrong or f"{outcome.measured}, one allocation refused in each: none failed")
     sys.exit(outcome.wrong is not None)
 

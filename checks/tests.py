@@ -5,10 +5,10 @@ import re
 import subprocess
 from pathlib import Path
 
-from tools.building import KIT
+from tools import kit
 from tools.cases import Case, Outcome, Programs
 
-RUNNER = KIT / "bin/rattle-test"
+RUNNER = kit.KIT / "bin/rattle-test"
 PATIENCE = 300  # seconds that a test may take
 RESULT = re.compile(r"^test result: ok\. (\d+) passed; 0 failed; 0 ignored; 0 filtered out$", re.MULTILINE)
 

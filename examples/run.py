@@ -7,7 +7,6 @@ import shutil
 import subprocess
 import sys
 import tempfile
-from collections.abc import Callable
 from concurrent.futures import ThreadPoolExecutor
 from pathlib import Path
 
@@ -19,7 +18,7 @@ import library  # noqa: E402
 BUILT = HERE / "out"  # where the programs are kept
 CRATES = HERE.parent / "crates"  # what they stand on
 # What each is shown on: the lines of a first session, and those of a second one, on the file that the first left.
-SESSIONS = {
+SESSIONS: dict[str, tuple[list[str], list[str]]] = {
     "events": (["append 20261127 rain", "append 20261128 walk", "append 20261128 tea"], ["day 20261128", "newest 3"]),
     "people": (["add ann Rome", "add cat Rome"], ["add ann Oslo", "in Rome", "check"]),
     "cache": (["put a one", "put b two", "get a", "evict 1"], ["get a", "get b"]),
@@ -72,8 +71,7 @@ def build(names: list[str], is_proved: bool) -> None:
         library.copy_repository(copied, is_proved)
         crates = [add_crate(copied, name) for name in names]
         print(f"building {', '.join(names)}, {'proved' if is_proved else 'unproved: some minutes'}", file=sys.stderr, flush=True)
-        builders: dict[bool, Callable[[Path, Path], None]] = {True: build_proved, False: library.build_unproved}
-        list(pool.map(builders[is_proved], crates, [BUILT / name for name in names]))
+        list(pool.map(build_proved if is_proved else library.build_unproved, crates, [BUILT / name for name in names]))
 
 
 def show(name: str) -> None:

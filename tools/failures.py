@@ -11,6 +11,7 @@ from pathlib import Path
 from tools.cases import Outcome
 from tools.processes import PATIENCE, Command, abbreviate
 
+FAIL, REFUSE = (Path(__file__).resolve().parent / "c" / name for name in ("fail.c", "refuse.c"))
 ALWAYS = 1_000_000  # calls
 REFUSED = b"<refused>"  # the library writes this to standard error when it refuses an allocation
 NO_MEMORY, DEVICE = b"fault 6 NoMemory\n", b"fault 9 Device\n"

@@ -18,6 +18,7 @@ from tools.processes import Command, Environment
 from tools.soak.drawing import BAD_LINES, DrawnStore
 from tools.soak.files import CrashingFile, FileContent, is_left_by_create, read_content, widen
 
+LIBRARY = Path(__file__).resolve().parent.parent / "c/soak.c"
 PATIENCE = 300  # seconds until a session counts as one that hangs
 NO_FAILURE, KILLS, FAILURES, OF_MEMORY = "-", "khKa", "fFs", "ma"  # the letters of c/soak.c; the others, c and i, change nothing
 COUNTED = ["stores", "sessions", "commands", "flushes", "cleans", "upgrades", "kills", "failing calls", "calls cut short or interrupted"]
@@ -106,7 +107,7 @@ class Soak:
 
     def __init__(self, program: Path, seed: int, folder: Path, plant: str | None = None) -> None:
         self.program, self.seed, self.folder, self.plant = program, seed, folder, plant
-        self.library = build_c_library("soak", folder)
+        self.library = build_c_library(LIBRARY, folder)
         self.counts: Counter[str] = Counter()
         self.number, self.chance = 0, random.Random()
         self.command: list[str | Path] = []
