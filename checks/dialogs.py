@@ -26,7 +26,7 @@ TALK = [
 ]
 
 
-def talk(programs: Programs) -> Outcome:
+def check_answers(programs: Programs) -> Outcome:
     """Sends lines, and expects their answers and nothing else before it sends the next ones. The last line has no line feed."""
     dialog = Dialog(programs.store)
     for text, answers in TALK:
@@ -62,7 +62,7 @@ def stop(programs: Programs, number: int) -> Outcome:
     return Outcome(None if got == (status, out, ended[1]) and status == ended[0] else f"after {text!r} the session ended with {got}")
 
 
-def close(programs: Programs) -> Outcome:
+def close_answers(programs: Programs) -> Outcome:
     """Closes the pipe of the answers while a session waits for a line."""
     dialog = Dialog(programs.store)
     dialog.send(b"put a 1\ngo\n")
@@ -73,7 +73,7 @@ def close(programs: Programs) -> Outcome:
     return Outcome(None if (first, status, err) == (b"new\n", 4, b"fault 9 Device\n") else f"{first!r}, status {status}, {err!r}")
 
 
-def go_on(programs: Programs) -> Outcome:
+def run_long_stream(programs: Programs) -> Outcome:
     """Runs many small batches, which take no more memory than few, and many flushes of a small log, which need no order to clean it."""
     with new_folder() as folder:
         dialog = Dialog(programs.store, "--disk", Path(folder) / "file", "--create", "--clean-when-full", *SMALL_STORE)
@@ -138,10 +138,10 @@ def cases(programs: Programs) -> list[Case]:
     stops = [Case(f"what stops a session over a pipe, {number}", stop, (programs, number)) for number in range(len(STOPS))]
     kills = [Case(f"kills of sessions over a pipe, seed {seed}", kill, (programs, seed)) for seed in range(4)]
     return [
-        Case("a session over a pipe that goes on for long", go_on, (programs,)),
+        Case("a session over a pipe that goes on for long", run_long_stream, (programs,)),
         *kills,
-        Case("answers before the next line", talk, (programs,)),
+        Case("answers before the next line", check_answers, (programs,)),
         Case("a session over a pipe holds its file", lock, (programs,)),
-        Case("a pipe that is closed", close, (programs,)),
+        Case("a pipe that is closed", close_answers, (programs,)),
         *stops,
     ]

@@ -279,7 +279,7 @@ def compare_embedding() -> Outcome:
     return Outcome()
 
 
-def take_steps(programs: Programs) -> Outcome:
+def run_first_steps(programs: Programs) -> Outcome:
     """Runs the first program twice: it makes its store, and then opens it."""
     program = programs.examples / "first_steps"
     if why := why_left_out(program):
@@ -309,5 +309,5 @@ def put_then_get(programs: Programs) -> Outcome:
 def cases(programs: Programs) -> list[Case]:
     kills = [Case(f"{name}, {KILLS} kills, seed {seed}", kill_example, (programs, name, seed)) for name in MODELS for seed in range(1, SEEDS + 1)]
     closed = [Case(f"{name}, {closed}", close, (programs, name, closed)) for name in [*MODELS, "put_then_get"] for closed in (">&-", "<&-")]
-    ran = [Case("the first steps of docs/EMBEDDING.md", take_steps, (programs,)), Case("put_then_get", put_then_get, (programs,))]
+    ran = [Case("the first steps of docs/EMBEDDING.md", run_first_steps, (programs,)), Case("put_then_get", put_then_get, (programs,))]
     return [*kills, *closed, *ran, Case("the programs of docs/EMBEDDING.md", compare_embedding)]

@@ -68,7 +68,7 @@ def deep_leaves() -> bytes:
     return fitting_disk([*bases, full_index(8, b"", lows), *runs * (DEEP // 8)], root=8, height=2)
 
 
-def whole_again() -> bytes:
+def whole_after_runs() -> bytes:
     return fitting_disk([EMPTY, *[delta_leaf(0, {b"b": None})] * DEEP, ONE_PAIR])
 
 
@@ -153,7 +153,7 @@ DISKS = [
     HostileDisk(f"{DEEP:,} runs of a leaf, four workers", deep_leaf, (4, b"", TOO_DEEP % 0), ("--workers", "4"), pages=ROOM),
     HostileDisk(f"{DEEP:,} runs of an index page", deep_index, (4, b"", TOO_DEEP % 2), pages=ROOM),
     HostileDisk(f"{DEEP:,} runs of eight leaves", deep_leaves, (4, b"", TOO_DEEP % 0), pages=ROOM),
-    HostileDisk(f"a leaf that is whole again after {DEEP:,} runs", whole_again, ONE_ROW, is_store=True),
+    HostileDisk(f"a leaf that is whole again after {DEEP:,} runs", whole_after_runs, ONE_ROW, is_store=True),
     HostileDisk(f"{MANY:,} free frames with colliding ids", colliding, ONE_ROW, is_store=True),
     HostileDisk(f"{MANY:,} free frames with colliding ids, four workers", colliding, ONE_ROW, ("--workers", "4"), is_store=True),
     HostileDisk(f"{MANY:,} free frames with rising ids", rising, ONE_ROW, is_store=True),
@@ -183,7 +183,7 @@ def small_memory(programs: Programs, folder: Path) -> int:
         return peak_memory(child.pid, programs.store.name)
 
 
-def too_dear(ran: RunResult, least: int, length: int) -> str | None:
+def wrong_cost(ran: RunResult, least: int, length: int) -> str | None:
     """Returns how a session took more time or memory than the length of its file gives, beside `least` bytes of memory."""
     seconds = SLOW * max(1.0, length / MEGABYTE)
     memory = least + TIMES * max(length, MEGABYTE)
@@ -222,12 +222,12 @@ def check_disk(programs: Programs, number: int) -> Outcome:
         command: Command = [programs.store, *disk.words]
         ran, wrong = read_file(command, path, made, disk.ending)
         measured = f"{len(made) / MEGABYTE:.1f} MB: {ran.seconds:.2f} s, {ran.memory / MEGABYTE:.1f} MB (a small store {least / MEGABYTE:.1f})"
-        wrong = wrong or too_dear(ran, least + disk.pages, len(made))
+        wrong = wrong or wrong_cost(ran, least + disk.pages, len(made))
         for name, line, answer in writing_orders(made) if disk.is_store else []:
             if wrong is None:
                 ran, wrong = write_file(command, path, line, answer, disk.ending)
                 measured += f"; {name} in {ran.seconds:.2f} s, {ran.memory / MEGABYTE:.1f} MB"
-                wrong = wrong or too_dear(ran, least + disk.pages, len(made))
+                wrong = wrong or wrong_cost(ran, least + disk.pages, len(made))
         return Outcome(wrong, measured=measured)
 
 

@@ -162,7 +162,7 @@ KEYS = 1_000
 IN_A_BATCH = 10
 
 
-def grown_and_shrunk() -> tuple[bytes, bytes]:
+def grow_and_shrink() -> tuple[bytes, bytes]:
     """Puts many keys with small pages, in batches of ten, and deletes them: the tree grows to several levels, and shrinks to an empty leaf. 389 and
     1,000 have no divisor in common, so each key comes once, in no order."""
     puts = [b"put %d v\n" % (place * 389 % KEYS) for place in range(KEYS)]
@@ -179,8 +179,8 @@ def full_log() -> tuple[bytes, bytes]:
 
 # By the name: the words, what makes the input and the answers, the exit status, and the errors.
 LONG_SESSIONS: dict[str, tuple[tuple[str, ...], Callable[[], tuple[bytes, bytes]], int, bytes]] = {
-    "a_tree_grows_and_shrinks": (("--fan=4",), grown_and_shrunk, 0, b""),
-    "a_tree_grows_and_shrinks, four workers": (("--fan=4", "--workers=4", "--grain=1"), grown_and_shrunk, 0, b""),
+    "a_tree_grows_and_shrinks": (("--fan=4",), grow_and_shrink, 0, b""),
+    "a_tree_grows_and_shrinks, four workers": (("--fan=4", "--workers=4", "--grain=1"), grow_and_shrink, 0, b""),
     "a_full_log_ends_the_session": (SMALL_STORE, full_log, 4, b"fault 10 Full\n"),
     "the_longest_value": ((), lambda: (b"put a " + 256 * b"v", b"new\n"), 0, b""),
     "a_long_value_is_refused": ((), lambda: (b"put a " + 257 * b"v", b""), 4, b"fault 3 ValueTooLong 0\n"),
