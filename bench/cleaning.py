@@ -11,32 +11,32 @@ POLICIES = ["never", "full", "early"]
 
 
 @dataclass
-class Run:
-    """What a run took, by steps: seconds by the clock, and bytes that the disk got."""
+class PolicyRun:
+    """What a run took, by steps: seconds by the clock, and bytes that were written to the disk."""
 
     policy: str
-    steps: dict = field(default_factory=dict)  # by word: the seconds of each
-    written: dict = field(default_factory=dict)  # by word: the bytes of all
-    rounds: list = field(default_factory=list)  # the seconds of each batch with its flush and its cleans
+    steps: dict[str, list[float]] = field(default_factory=dict)  # by word: the seconds of each
+    written: dict[str, int] = field(default_factory=dict)  # by word: the bytes of all
+    rounds: list[float] = field(default_factory=list)  # the seconds of each batch with its flush and its cleans
     pairs: int = 0
 
-    def add(self, word, seconds, written):
+    def add(self, word: str, seconds: float, written: int) -> None:
         self.steps.setdefault(word, []).append(seconds)
         self.written[word] = self.written.get(word, 0) + written
 
-    def total(self):
-        """Seconds of all steps but the load and its flush, and the making of the batches."""
+    def total(self) -> float:
+        """Returns the seconds of all steps except the load with its flush, and the making of the batches."""
         return sum(self.rounds)
 
 
-def run(program, policy):
-    ran = Run(policy)
+def run(program: str, policy: str) -> PolicyRun:
+    ran = PolicyRun(policy)
     with subprocess.Popen([program, policy], stdout=subprocess.PIPE, text=True, bufsize=1) as process:
         last, was, first, current = time.perf_counter(), 0, True, 0.0
-        for line in process.stdout:
+        for line in process.stdout or ():
             now = time.perf_counter()
-            word, number = line.split()
-            number = int(number)
+            word, last_word = line.split()
+            number = int(last_word)
             if word == "end":
                 ran.pairs = number
                 break
@@ -55,8 +55,8 @@ def run(program, policy):
     return ran
 
 
-def row(ran):
-    def of(word):
+def row(ran: PolicyRun) -> list[str]:
+    def of(word: str) -> list[float]:
         return ran.steps.get(word, [])
 
     flushed, cleaned = ran.written.get("flush", 0), ran.written.get("clean", 0)
@@ -75,10 +75,11 @@ def row(ran):
     ]
 
 
-HEAD = "policy,total s,batches s,flushes s,cleans s,cleans,flushed MB,carried MB,written by flushed,longest batch ms,longest flush ms,longest clean ms,longest round ms".split(",")
+HEAD = "policy,total s,batches s,flushes s,cleans s,cleans,flushed MB,carried MB,written by flushed".split(",")
+HEAD += "longest batch ms,longest flush ms,longest clean ms,longest round ms".split(",")
 
 
-def main():
+def main() -> None:
     parser = argparse.ArgumentParser(description=__doc__)
     parser.add_argument("program", help="the built program of cleaning/main.rt.in")
     parser.add_argument("--repeats", type=int, default=1, help="how often each policy is run; the shortest counts")
@@ -86,7 +87,7 @@ def main():
     print("| " + " | ".join(HEAD) + " |")
     print("|" + "---|" * len(HEAD))
     for policy in POLICIES:
-        ran = min((run(options.program, policy) for _ in range(options.repeats)), key=Run.total)
+        ran = min((run(options.program, policy) for _ in range(options.repeats)), key=PolicyRun.total)
         print("| " + " | ".join(row(ran)) + " |", flush=True)
 
 

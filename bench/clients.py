@@ -16,14 +16,13 @@ from collections.abc import Callable, Iterator, Sequence
 from dataclasses import dataclass
 from pathlib import Path
 
-from crew import table
+TOP = Path(__file__).resolve().parent.parent
+sys.path[:0] = [str(TOP), str(TOP / "clients/python")]
 
-HERE = Path(__file__).resolve().parent
-sys.path.insert(0, str(HERE.parent / "clients/python"))
+from bench.tables import print_table
+from taukremil import Get, Put, Reply, Store
+from tools.processes import PROGRAM, exit_if_missing
 
-from taukremil import Get, Put, Reply, Store  # noqa: E402
-
-PROGRAM = HERE.parent / "crates/bwsh/out/bwsh"
 BATCHES = (1, 100, 10_000)
 PAIRS = 50_000
 CALLS = 2_000  # batches at the most, so that batches of one end in time
@@ -32,8 +31,8 @@ MAP_SIZE = 1 << 30  # bytes that LMDB may map
 Pair = tuple[bytes, bytes]
 
 
-class Peer(ABC):
-    """A store in a new folder. With `each` every batch lasts when its call returns, else all do once `settle` has."""
+class PythonStore(ABC):
+    """A store in a new folder. With `each` a batch is durable when its call returns; without it all batches are durable when `sync` has returned."""
 
     @abstractmethod
     def put(self, batch: list[Pair]) -> None:
@@ -44,7 +43,7 @@ class Peer(ABC):
         ...
 
     @abstractmethod
-    def settle(self) -> None:
+    def sync(self) -> None:
         ...
 
     @abstractmethod
@@ -52,8 +51,8 @@ class Peer(ABC):
         ...
 
 
-class Client(Peer):
-    """`bwsh`, at the other end of two pipes."""
+class ClientStore(PythonStore):
+    """`bwsh` by its client, at the other end of two pipes."""
 
     def __init__(self, program: Path, folder: Path, each: bool) -> None:
         self.store, self.each = Store(folder / "store", create=True, program=program, **SETTINGS), each
@@ -66,20 +65,20 @@ class Client(Peer):
     def get(self, batch: list[bytes]) -> Sequence[Reply]:
         return self.store.batch([Get(key) for key in batch])
 
-    def settle(self) -> None:
+    def sync(self) -> None:
         self.store.flush()
 
     def close(self) -> None:
         self.store.close()
 
 
-class Sqlite(Peer):
+class SqliteStore(PythonStore):
     """SQLite with a WAL, and a transaction a batch."""
 
     def __init__(self, folder: Path, each: bool) -> None:
         self.database = sqlite3.connect(folder / "pairs.db", isolation_level=None)
         self.database.execute("PRAGMA journal_mode = WAL")
-        self.database.execute(f"PRAGMA synchronous = {'FULL' if each else 'NORMAL'}")  # NORMAL syncs checkpoints alone
+        self.database.execute(f"PRAGMA synchronous = {'FULL' if each else 'NORMAL'}")  # NORMAL syncs only checkpoints
         self.database.execute("CREATE TABLE pairs (key BLOB PRIMARY KEY, value BLOB) WITHOUT ROWID")
 
     def put(self, batch: list[Pair]) -> None:
@@ -94,14 +93,14 @@ class Sqlite(Peer):
         self.database.execute("COMMIT")
         return found
 
-    def settle(self) -> None:
+    def sync(self) -> None:
         self.database.execute("PRAGMA wal_checkpoint(TRUNCATE)")
 
     def close(self) -> None:
         self.database.close()
 
 
-class Lmdb(Peer):
+class LmdbStore(PythonStore):
     """LMDB, by the package `lmdb`, and a transaction a batch."""
 
     def __init__(self, folder: Path, each: bool) -> None:
@@ -116,14 +115,14 @@ class Lmdb(Peer):
         with self.environment.begin() as transaction:
             return [transaction.get(key) for key in batch]
 
-    def settle(self) -> None:
+    def sync(self) -> None:
         self.environment.sync(True)
 
     def close(self) -> None:
         self.environment.close()
 
 
-class Dbm(Peer):
+class DbmStore(PythonStore):
     """GDBM, by Python's `dbm.gnu`. It has no batches: a crash may leave some of one."""
 
     def __init__(self, folder: Path, each: bool) -> None:
@@ -138,70 +137,71 @@ class Dbm(Peer):
     def get(self, batch: list[bytes]) -> Sequence[Reply]:
         return [self.file[key] for key in batch]
 
-    def settle(self) -> None:
+    def sync(self) -> None:
         self.file.sync()
 
     def close(self) -> None:
         self.file.close()
 
 
-Open = Callable[[Path, bool], Peer]
+Open = Callable[[Path, bool], PythonStore]
 
 
-def peers(program: Path) -> dict[str, Open]:
-    """Returns all that is measured, by name. What needs a package that isn't there is left out."""
+def measured_stores(program: Path) -> dict[str, Open]:
+    """Returns all stores that are measured, by name. Those whose package is not installed are left out."""
     found: dict[str, Open] = {
-        "bwsh, by its client": lambda folder, each: Client(program, folder, each),
-        "sqlite3, WAL": Sqlite,
+        "bwsh, by its client": lambda folder, each: ClientStore(program, folder, each),
+        "sqlite3, WAL": SqliteStore,
     }
-    for name, module, peer in (("LMDB", "lmdb", Lmdb), ("GDBM", "dbm.gnu", Dbm)):
+    packages: list[tuple[str, str, Open]] = [("LMDB", "lmdb", LmdbStore), ("GDBM", "dbm.gnu", DbmStore)]
+    for name, module, store in packages:
         try:
             importlib.import_module(module)
         except ImportError as error:
             print(f"{name} is left out: {error}", file=sys.stderr)
         else:
-            found[name] = peer
+            found[name] = store
     return found
 
 
 @dataclass(frozen=True)
 class Rates:
-    """Commands a second, by the clock: puts until all of them last, and gets of the same keys in another order."""
+    """Commands a second, by the clock: puts until all of them are durable, and gets of the same keys in another order."""
 
     puts: float
     gets: float
 
 
-def pieces(items: list, length: int) -> Iterator[list]:
+def pieces(items: list[Pair], length: int) -> Iterator[list[Pair]]:
     for start in range(0, len(items), length):
         yield items[start : start + length]
 
 
 def pairs(count: int) -> list[Pair]:
-    """Pairs of 16 and 100 bytes, in no order of the keys."""
+    """Returns pairs of 16 and 100 bytes, in random order."""
     source = random.Random(2)
     return [(source.randbytes(8).hex().encode(), source.randbytes(50).hex().encode()) for _ in range(count)]
 
 
 def measure_once(opened: Open, all_pairs: list[Pair], batch: int, each: bool, folder: Path | None) -> Rates:
-    chosen = all_pairs[: batch * CALLS]
-    shuffled = random.Random(3).sample(chosen, len(chosen))
-    with tempfile.TemporaryDirectory(dir=folder) as made, contextlib.closing(opened(Path(made), each)) as peer:
+    used = all_pairs[: batch * CALLS]
+    shuffled = random.Random(3).sample(used, len(used))
+    with tempfile.TemporaryDirectory(dir=folder) as made, contextlib.closing(opened(Path(made), each)) as store:
         start = time.monotonic()
-        for some in pieces(chosen, batch):
-            peer.put(some)
-        peer.settle()
+        for some in pieces(used, batch):
+            store.put(some)
+        store.sync()
         done = time.monotonic()
-        got = [value for some in pieces(shuffled, batch) for value in peer.get([key for key, _ in some])]
+        got = [value for some in pieces(shuffled, batch) for value in store.get([key for key, _ in some])]
         end = time.monotonic()
     if got != [value for _, value in shuffled]:
-        sys.exit(f"{opened}: other values come back")
-    return Rates(len(chosen) / (done - start), len(chosen) / (end - done))
+        sys.exit(f"{opened}: other values are read back")
+    return Rates(len(used) / (done - start), len(used) / (end - done))
 
 
 def measure(options: argparse.Namespace) -> dict[str, dict[str, list[float]]]:
     """Returns each store's median rates by way and batch size. They take turns, so that all meet what else runs."""
-    all_pairs, found = pairs(options.pairs), peers(options.program)
+    all_pairs, found = pairs(options.pairs), measured_stores(options.program)
     taken: dict[tuple[str, bool, int], list[Rates]] = {}
     for _ in range(options.repeats):
         for batch in BATCHES:
@@ -229,7 +229,7 @@ def show(figures: dict[str, dict[str, list[float]]]) -> None:
     rows = [
         [name, *(" · ".join(f"{rate:,.0f}" for rate in rates[way]) for way in ways)] for name, rates in figures.items()
     ]
-    table(["commands a second", *ways], rows)
+    print_table(["commands a second", *ways], rows)
 
 
 def main() -> None:
@@ -237,12 +237,11 @@ def main() -> None:
     parser.add_argument("--program", type=Path, default=PROGRAM, help="the built program")
     parser.add_argument("--pairs", type=int, default=PAIRS, help=f"with batches of one {CALLS} at the most")
     parser.add_argument("--repeats", type=int, default=3, help="each figure is their median")
-    parser.add_argument("--folder", type=Path, help="where the stores stand, on the disk that is to be measured")
+    parser.add_argument("--folder", type=Path, help="where the stores are made: on the disk that is to be measured")
     parser.add_argument("--figures", type=Path, help="where the figures are written too, as JSON")
     options = parser.parse_args()
     options.program = options.program.resolve()
-    if not options.program.exists():
-        sys.exit(f"{options.program} is missing: `rt run` in crates/bwsh builds it")
+    exit_if_missing(options.program)
     figures = measure(options)
     if options.figures:
         options.figures.write_text(json.dumps(figures, indent=1) + "\n")

@@ -12,25 +12,29 @@ import shutil
 import subprocess
 import sys
 import tempfile
+from collections.abc import Mapping, Sequence
 from pathlib import Path
 
-import library
+sys.path.insert(0, str(Path(__file__).resolve().parent.parent))
+
+from bench import library
 
 HERE = Path(__file__).resolve().parent
 PHASES = ["load", "gets", "half", "singles", "deletes"]
 SETTINGS = {"64/16": (64, 16), "16/4": (16, 4)}
+Counted = dict[str, tuple[int, int]]  # by phase: instructions and misses
 CACHE = ["--cache-sim=yes", "--LL=2097152,16,64"]
 
 
-def build_counter(folder):
-    """Builds the library that tells callgrind when to count."""
+def build_counter(folder: Path) -> Path:
+    """Builds the library that has callgrind begin and end its counts."""
     counter = folder / "counted.so"
     compiler = shutil.which("gcc") or shutil.which("cc") or sys.exit("there is no C compiler")
     subprocess.run([compiler, "-O2", "-shared", "-fPIC", "-o", counter, HERE / "crew" / "counted.c"], check=True)
     return counter
 
 
-def build_program(tree, folder):
+def build_program(tree: Path, folder: Path) -> Path:
     """Builds the program over the crates of this tree."""
     folder.mkdir()
     library.TOP = tree
@@ -38,27 +42,31 @@ def build_program(tree, folder):
     return folder / "crew_bench"
 
 
-def count(program, counter, numbers, folder):
-    """Of each phase the instructions and the misses."""
+def fields(text: str, name: str) -> list[str]:
+    """Returns the words of the line of this name in a dump of callgrind."""
+    found = re.search(rf"^{name}: (.*)$", text, re.M)
+    return found[1].split() if found else []
+
+
+def count(program: Path, counter: Path, numbers: Sequence[int], folder: Path) -> Counted:
     out = folder / "counted"
     for old in folder.glob("counted*"):
-        old.unlink() if old != counter else None
+        if old != counter:
+            old.unlink()
     valgrind = ["valgrind", "-q", "--tool=callgrind", "--collect-atstart=no", *CACHE, f"--callgrind-out-file={out}"]
     subprocess.run([*valgrind, program, *map(str, numbers)], env={"LD_PRELOAD": str(counter)}, stdout=subprocess.DEVNULL, check=True)
-    counted = {}
+    counted: Counted = {}
     for dump in folder.glob("counted.*"):
         text = dump.read_text(errors="replace") if dump != counter else ""
         phase = re.search(r"Client Request: (\w+)", text)
         if phase:
-            events = re.search(r"^events: (.*)$", text, re.M).group(1).split()
-            totals = map(int, re.search(r"^totals: (.*)$", text, re.M).group(1).split())
-            sums = dict(zip(events, totals))
+            sums = dict(zip(fields(text, "events"), map(int, fields(text, "totals"))))
             counted[phase.group(1)] = sums["Ir"], sums["DLmr"] + sums["DLmw"]
     return counted
 
 
-def show(name, counted, first, commands):
-    """Prints a row of a tree: by phase instructions and misses a command, and how far the former are from the first tree's."""
+def show(name: str, counted: Counted, first: Counted, commands: Mapping[str, int]) -> None:
+    """Prints the row of a tree: by phase the instructions and misses a command, and how far the instructions are from those of the first tree."""
     cells = []
     for phase in PHASES:
         instructions, misses = counted.get(phase, (0, 0))
@@ -68,25 +76,25 @@ def show(name, counted, first, commands):
     print(" | ".join([name, *cells]), flush=True)
 
 
-def main():
-    parser = argparse.ArgumentParser(description=__doc__.splitlines()[0])
+def main() -> None:
+    parser = argparse.ArgumentParser(description=(__doc__ or "").splitlines()[0])
     parser.add_argument("trees", nargs="*", type=Path, default=[HERE.parent], help="checkouts to be compared; this one where none is given")
     parser.add_argument("--pairs", type=int, default=60_000)
     parser.add_argument("--batch", type=int, default=4_000, help="commands in a batch")
     parser.add_argument("--value", type=int, default=100, help="bytes of a value, 200 at the most")
     parser.add_argument("--singles", type=int, default=2_000, help="puts of one in a batch")
     parser.add_argument("--settings", nargs="*", choices=SETTINGS, default=list(SETTINGS))
-    asked = parser.parse_args()
-    commands = dict.fromkeys(PHASES, asked.pairs) | {"singles": asked.singles}
+    options = parser.parse_args()
+    commands = dict.fromkeys(PHASES, options.pairs) | {"singles": options.singles}
     print(" | ".join(["tree, fan/chain", *PHASES]) + "   (instructions a command, and misses)", flush=True)
     with tempfile.TemporaryDirectory() as made:
         folder = Path(made)
         counter = build_counter(folder)
-        programs = [build_program(tree.resolve(), folder / f"tree{at}") for at, tree in enumerate(asked.trees)]
-        for name in asked.settings:
-            numbers = (*SETTINGS[name], 1, 64, asked.pairs, asked.batch, asked.value, asked.singles)
+        programs = [build_program(tree.resolve(), folder / f"tree{at}") for at, tree in enumerate(options.trees)]
+        for name in options.settings:
+            numbers = (*SETTINGS[name], 1, 64, options.pairs, options.batch, options.value, options.singles)
             rows = [count(program, counter, numbers, folder) for program in programs]
-            for tree, row in zip(asked.trees, rows):
+            for tree, row in zip(options.trees, rows):
                 show(f"{tree}, {name}", row, rows[0], commands)
 
 

@@ -7,17 +7,21 @@ import sys
 import tempfile
 import time
 from pathlib import Path
+from typing import IO
 
-from run import LONG, PROGRAM, Work
+sys.path.insert(0, str(Path(__file__).resolve().parent.parent))
+
+from bench.stores import MARK
+from bench.workload import LONG, Workload
+from tools.processes import PROGRAM, pipe_of, status_bytes
 
 SETTINGS = "--fan 32 --chain 16 --seg-size 1048576 --segments 256".split()
-SEGMENT = 65_536  # bytes, where the text of a flush is measured in segments
+SEGMENT = 65_536  # bytes, with which the length of a flush is measured
 AGAIN = 20  # flushes after one put
-MARK = "get -\ngo\n"  # prints `missing`, and so shows that all before it is done
 
 
-def write_session(path, work, again=AGAIN):
-    """A load in long batches, a flush, and then a put and a flush, a few times."""
+def write_text(path: Path, work: Workload, again: int = AGAIN) -> None:
+    """Writes a load in long batches, a flush, and then a put and a flush, a few times."""
     with open(path, "w") as file:
         file.write(MARK)
         for start in range(0, len(work.keys), LONG):
@@ -29,8 +33,8 @@ def write_session(path, work, again=AGAIN):
             file.write(f"put {work.keys[at * 7]} {work.value(at)}\ngo\n{MARK}flush\n")
 
 
-def holds(program, path, segments):
-    """Whether a log of `segments` segments has room for the first flush and one segment free."""
+def fits(program: Path, path: Path, segments: int) -> bool:
+    """Returns whether the first flush fits in a log of `segments` segments with one of them free."""
     settings = f"--fan 32 --chain 16 --seg-size {SEGMENT} --segments {segments}".split()
     with open(path, "rb") as file:
         ended = subprocess.run([program, *settings], stdin=file, stdout=subprocess.DEVNULL, stderr=subprocess.PIPE)
@@ -39,41 +43,37 @@ def holds(program, path, segments):
     return ended.returncode == 0
 
 
-def text_bytes(program, path, pairs):
-    """How many bytes the first flush writes, up to a segment."""
+def flushed_bytes(program: Path, path: Path, pairs: int) -> int:
+    """Returns how many bytes the first flush writes, up to a segment."""
     low, high = 0, 2 + 400 * pairs // SEGMENT
     while high - low > 1:
         middle = (low + high) // 2
-        low, high = (low, middle) if holds(program, path, middle) else (middle, high)
+        low, high = (low, middle) if fits(program, path, middle) else (middle, high)
     return (high - 1) * SEGMENT
 
 
-def resident(process):
-    """Bytes of memory in use."""
-    lines = Path(f"/proc/{process.pid}/status").read_text().splitlines()
-    return next(int(line.split()[1]) * 1024 for line in lines if line.startswith("VmRSS"))
-
-
-def read(out, wanted):
+def read(out: IO[bytes], expected: str) -> None:
     line = out.readline().decode().rstrip("\n")
-    if not line.startswith(wanted):
-        sys.exit(f"printed {line!r} where {wanted!r} was due")
+    if not line.startswith(expected):
+        sys.exit(f"the output has {line!r}, where {expected!r} was expected")
 
 
-def measure(program, work, path):
+def measure(program: Path, work: Workload, path: Path) -> tuple[float, float, int, float]:
+    """Returns the seconds of the load and of the first flush, how many bytes of memory the flush took, and the median seconds of a flush after one
+    put."""
     with open(path, "rb") as file:
         process = subprocess.Popen([program, *SETTINGS], stdin=file, stdout=subprocess.PIPE)
-    out = process.stdout
+    out = pipe_of(process.stdout)
     read(out, "missing")
     times = [time.perf_counter()]
     for _ in work.keys:
         read(out, "new")
     read(out, "missing")
     times.append(time.perf_counter())
-    memory = [resident(process)]
+    memory = [status_bytes(process.pid, "VmRSS")]
     read(out, "flushed 2")
     times.append(time.perf_counter())
-    memory.append(resident(process))
+    memory.append(status_bytes(process.pid, "VmRSS"))
     read(out, "missing")
     again = []
     for _ in range(AGAIN):
@@ -87,20 +87,20 @@ def measure(program, work, path):
     return times[1] - times[0], times[2] - times[1], memory[1] - memory[0], sorted(again)[AGAIN // 2]
 
 
-def main():
+def main() -> None:
     parser = argparse.ArgumentParser(description=__doc__)
     parser.add_argument("--pairs", type=int, default=1_000_000)
-    parser.add_argument("--program", default=PROGRAM)
+    parser.add_argument("--program", type=Path, default=PROGRAM)
     options = parser.parse_args()
-    work = Work(options.pairs)
+    work = Workload(options.pairs)
     with tempfile.TemporaryDirectory() as folder:
         path = Path(folder) / "session"
-        write_session(path, work)
+        write_text(path, work)
         load, first, grown, one = min(measure(options.program, work, path) for _ in range(3))
-        write_session(path, work, again=0)
-        text = text_bytes(options.program, path, options.pairs)
+        write_text(path, work, again=0)
+        written = flushed_bytes(options.program, path, options.pairs)
     print(f"load {load:.2f} s; first flush {first:.3f} s, {first / load:.2f} of it; {grown / options.pairs:.0f} bytes a pair")
-    print(f"flush after one put {one * 1000:.3f} ms; the first flush writes {text / options.pairs:.1f} bytes a pair")
+    print(f"flush after one put {one * 1000:.3f} ms; the first flush writes {written / options.pairs:.1f} bytes a pair")
 
 
 if __name__ == "__main__":

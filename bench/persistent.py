@@ -13,80 +13,85 @@ import subprocess
 import sys
 import tempfile
 import time
+from collections.abc import Iterable, Iterator, Sequence
 from dataclasses import dataclass, fields
 from pathlib import Path
+from typing import Any
 
-from crew import table
-from recovery import Program
-from run import LONG, PEER, PROGRAM, Running, build_peer, processor_seconds
+sys.path.insert(0, str(Path(__file__).resolve().parent.parent))
+
+from bench.peer_programs import NATIVE_PEERS, PEER, build_native_peer, build_rust_peer
+from bench.stores import StoreProgram, StoreSettings
+from bench.tables import print_table
+from bench.timing import TimedProgram
+from bench.workload import LONG
+from tools.processes import PROGRAM, Command, exit_if_missing, pipe_of, processor_seconds, wait_for_end
 
 HERE = Path(__file__).resolve().parent
 PAIRS = 500_000
 SHORT = 1_000
-SETTLED = 65  # short batches that have one flush, where the flush is to be seen apart from the batches
-SETTINGS = {"fan 64, chain 16": (["--fan", "64", "--chain", "16"], 1_048_576), "defaults": ([], 65_536)}  # with --seg-size
+SPACING = 65  # short batches that have one flush, to see the flush apart from the batches
+SETTINGS: StoreSettings = {"fan 64, chain 16": (["--fan", "64", "--chain", "16"], 1_048_576), "defaults": ([], 65_536)}
 LOGGED = f"{PEER} and a log of commands"
 SORTED, RELAXED = "LMDB, batches sorted before", "SQLite, WAL, NORMAL"
 PYTHON = [sys.executable, "-I"]
 PYTHON_START = "python's start"
-PEERS = {  # the program in peers/, the compiler's words, and the package that it needs
-    "LMDB": ("lmdb.c", ["cc", "-O2"], "liblmdb-dev"),
-    "LevelDB": ("leveldb.cc", ["c++", "-O2"], "libleveldb-dev"),
-    "RocksDB": ("rocksdb.cc", ["c++", "-O2", "-std=c++17"], "librocksdb-dev"),
-}
+
+Figures = dict[str, Any]  # as they are written to a file
 
 
 @dataclass(frozen=True)
 class Commits:
-    """How many pairs a batch has, and how many batches a durable commit."""
+    """How many pairs a batch has, and how many batches a durable commit has."""
 
     batch: int
     batches: int = 1
 
-    def name(self):
+    def name(self) -> str:
         return f"{self.batch:,} a commit" if self.batches == 1 else f"{self.batch:,} a batch, {self.batches} batches a commit"
 
-    def is_due(self, number, last):
+    def is_flushed(self, number: int, last: int) -> bool:
         return number % self.batches == 0 or number == last
 
 
-FEW, MANY, SPACED = Commits(LONG), Commits(SHORT), Commits(SHORT, SETTLED)
+FEW, MANY, SPACED = Commits(LONG), Commits(SHORT), Commits(SHORT, SPACING)
 BOTH = (FEW, MANY)
 
 
-class Pairs:
-    """The pairs in the order in which they are put, which is no order of the keys: keys of 16 bytes, values of 100. Values are random,
-    six bits in each byte, so that what stores compress with by themselves (Snappy) makes them no smaller."""
+class RandomPairs:
+    """The pairs in the order in which they are put, which is random: keys of 16 bytes, values of 100. Values are random with six bits in each byte,
+    so that the compression that some stores use by default (Snappy) does not make them smaller."""
 
-    def __init__(self, count):
+    def __init__(self, count: int) -> None:
         source = random.Random(2)
         self.keys = [source.randbytes(8).hex() for _ in range(count)]
         self.values = [base64.urlsafe_b64encode(source.randbytes(75)).decode() for _ in range(count)]
 
-    def batches(self, length):
+    def batches(self, length: int) -> Iterator[list[tuple[str, str]]]:
         for start in range(0, len(self.keys), length):
             yield list(zip(self.keys[start : start + length], self.values[start : start + length]))
 
-    def write(self, path):
+    def write(self, path: Path) -> None:
         with open(path, "w") as file:
             file.writelines(f"{key} {value}\n" for key, value in zip(self.keys, self.values))
 
-    def write_session(self, path, commits):
-        """Writes the batch file, and returns what a store prints for it after the first line, which says that the text has been read."""
-        printed, last = [], -(-len(self.keys) // commits.batch)
-        flushes = 1  # a new store's number, which each flush raises
+    def write_text(self, path: Path, commits: Commits) -> bytes:
+        """Writes the batch file, and returns what a store prints for it after the first line, which shows that the text was read."""
+        printed: list[str] = []
+        last = -(-len(self.keys) // commits.batch)
+        flushes = 1  # the sequence number of a new store, to which each flush adds 1
         with open(path, "w") as file:
             file.write("get 0\ngo\n")
             for number, batch in enumerate(self.batches(commits.batch), 1):
                 file.writelines(f"put {key} {value}\n" for key, value in batch)
-                file.write("flush\n" if commits.is_due(number, last) else "go\n")
+                file.write("flush\n" if commits.is_flushed(number, last) else "go\n")
                 printed.append("new\n" * len(batch))
-                if commits.is_due(number, last):
+                if commits.is_flushed(number, last):
                     flushes += 1
                     printed.append(f"flushed {flushes}\n")
         return "".join(printed).encode()
 
-    def write_looks(self, path, batch):
+    def write_gets(self, path: Path, batch: int) -> int:
         """Writes a batch file of gets of a missing key, in batches of this length, and returns how many there are."""
         with open(path, "w") as file:
             file.write("get 0\ngo\n")
@@ -96,9 +101,9 @@ class Pairs:
 
 
 @dataclass
-class Took:
-    """What one run took, in seconds: until the text was read and the store open; from there to the last commit; and a new process from
-    its start to the answer of a get. By the clock, but for those of the processor. And how many bytes the files have on the disk."""
+class StoreTimes:
+    """What one run took, in seconds by the clock and of the processor: until the text was read and the store open; from there to the last commit; and
+    a new process from its start to the answer to a get. And how many bytes the files have on the disk."""
 
     ready: float
     load: float
@@ -108,98 +113,91 @@ class Took:
     disk: int = 0
 
 
-class Native:
-    """A store of a library, by a program of `peers/` (`pairs.h` says how it is spoken to)."""
+class NativeStore:
+    """A store of a library, by a program of `peers/` (`pairs.h` has the words that it takes)."""
 
-    def __init__(self, command, folder, *last):
+    def __init__(self, command: Sequence[str | Path], folder: Path, *last: str) -> None:
         self.command, self.folder, self.last = command, folder, last
 
-    def load(self, texts, commits):
+    def load(self, texts: "StoreTexts", commits: Commits) -> StoreTimes:
         start = time.monotonic()
-        command = [*self.command, "load", self.folder, texts.pairs, str(commits.batch), *self.last]
+        command: Command = [*self.command, "load", self.folder, texts.pairs, str(commits.batch), *self.last]
         with subprocess.Popen(command, stdin=subprocess.DEVNULL, stdout=subprocess.PIPE) as child:
             ready, before = self.until(child, b"ready\n")
             done, taken = self.until(child, b"done\n")
             child.kill()
-        return Took(ready - start, done - ready, taken - before)
+        return StoreTimes(ready - start, done - ready, taken - before)
 
-    def until(self, child, line):
-        """When the program prints this line, and what it has taken of the processor until then."""
-        printed = child.stdout.readline()
+    def until(self, child: subprocess.Popen[bytes], line: bytes) -> tuple[float, float]:
+        """Waits until the program prints this line. Returns the time by the clock, and the processor seconds that the program has taken."""
+        printed = pipe_of(child.stdout).readline()
         if printed != line:
-            sys.exit(f"{child.args}: printed {printed} where {line} was due")
-        return time.monotonic(), processor_seconds(child)
+            sys.exit(f"{child.args!r}: the output has {printed!r}, where {line!r} was expected")
+        return time.monotonic(), processor_seconds(child.pid)
 
-    def question(self, key):
-        """The command that asks for this key, and its standard input."""
+    def question(self, key: str) -> tuple[Command, bytes]:
+        """Returns the command that gets this key, and its standard input."""
         return [*self.command, "get", self.folder, key], b""
 
 
-class Session:
-    """`bwsh`, or the peer with a log of commands: it reads a batch file."""
+class BatchFileStore:
+    """`bwsh`, or the peer with a log of commands, which reads a batch file."""
 
-    def __init__(self, program):
+    def __init__(self, program: StoreProgram) -> None:
         self.program, self.folder = program, program.disk.parent
 
-    def load(self, texts, commits):
+    def load(self, texts: "StoreTexts", commits: Commits) -> StoreTimes:
         start = time.monotonic()
-        running = Running(self.program.created(texts.count), texts.sessions[commits])
+        running = TimedProgram(self.program.create_command(texts.count), texts.batch_files[commits])
         running.phase([1])
         ready = time.monotonic()
         sample = running.phase([texts.printed[commits].count(b"\n")])
-        running.end()
+        running.finish()
         if sample.digest != hashlib.blake2b(texts.printed[commits]).hexdigest():
             sys.exit(f"{running.command}: prints other lines")
-        return Took(ready - start, sample.wall, sample.cpu)
+        return StoreTimes(ready - start, sample.wall, sample.cpu)
 
-    def question(self, key):
-        return self.program.opened(), f"get {key}\n".encode()
+    def question(self, key: str) -> tuple[Command, bytes]:
+        return self.program.open_command(), f"get {key}\n".encode()
 
 
-class Texts:
-    """What the programs read: the pairs, and a batch file for each kind of commits with what it has to print."""
+class StoreTexts:
+    """What the programs read: the pairs, and a batch file for each kind of commits, with its answers."""
 
-    def __init__(self, pairs, folder):
-        self.pairs, self.count, self.sessions, self.printed = folder / "pairs", len(pairs.keys), {}, {}
+    def __init__(self, pairs: RandomPairs, folder: Path) -> None:
+        self.pairs, self.count = folder / "pairs", len(pairs.keys)
+        self.batch_files: dict[Commits, Path] = {}
+        self.printed: dict[Commits, bytes] = {}
         pairs.write(self.pairs)
         for commits in (FEW, MANY, SPACED):
-            self.sessions[commits] = folder / f"session {commits.name()}"
-            self.printed[commits] = pairs.write_session(self.sessions[commits], commits)
+            self.batch_files[commits] = folder / f"session {commits.name()}"
+            self.printed[commits] = pairs.write_text(self.batch_files[commits], commits)
 
 
-def built_peer(name, folder):
-    """The program of this peer, or none where its package isn't installed."""
-    source, compiler, package = PEERS[name]
-    program = folder / source.split(".")[0]
-    command = [*compiler, "-o", program, HERE / "peers" / source, f"-l{program.name}"]
-    built = shutil.which(compiler[0]) and subprocess.run(command, stdout=subprocess.DEVNULL, stderr=subprocess.DEVNULL)
-    if built and built.returncode == 0:
-        return program
-    print(f"{name} is left out: {package} or a compiler isn't installed.", file=sys.stderr)
-    return None
+MeasuredStore = NativeStore | BatchFileStore
 
 
-def stores(program, programs, disks):
-    """All that is measured, by name. The programs are built into the one folder, and their stores stand in the other."""
-    found = {}
+def measured_stores(program: Path, programs: Path, disks: Path) -> dict[str, MeasuredStore]:
+    """Returns all that is measured, by name. The programs are built into the folder `programs`, and their stores are made in `disks`."""
+    found: dict[str, MeasuredStore] = {}
     for name, (settings, seg_size) in SETTINGS.items():
-        found[name] = Session(Program([program], settings, seg_size, disks / name / "store"))
-    logged = build_peer(programs, "log_peer")
+        found[name] = BatchFileStore(StoreProgram([program], settings, seg_size, disks / name / "store"))
+    logged = build_rust_peer(programs, "log_peer.rs")
     if logged:
-        found[LOGGED] = Session(Program(logged, [], 65_536, disks / LOGGED / "store"))
-    for name in PEERS:
-        built = built_peer(name, programs)
+        found[LOGGED] = BatchFileStore(StoreProgram(logged, [], 65_536, disks / LOGGED / "store"))
+    for name in NATIVE_PEERS:
+        built = build_native_peer(name, programs)
         if built:
-            found[name] = Native([built], disks / name)
-    if "LMDB" in found:
-        found[SORTED] = Native(found["LMDB"].command, disks / SORTED, "sorted")
-    sqlite = [*PYTHON, HERE / "peers" / "sqlite.py"]
-    found["SQLite, WAL, FULL"] = Native(sqlite, disks / "SQLite FULL", "FULL")
-    found[RELAXED] = Native(sqlite, disks / "SQLite NORMAL", "NORMAL")
+            found[name] = NativeStore([built], disks / name)
+        if built and name == "LMDB":
+            found[SORTED] = NativeStore([built], disks / SORTED, "sorted")
+    sqlite: list[str | Path] = [*PYTHON, HERE / "peers" / "sqlite.py"]
+    found["SQLite, WAL, FULL"] = NativeStore(sqlite, disks / "SQLite FULL", "FULL")
+    found[RELAXED] = NativeStore(sqlite, disks / "SQLite NORMAL", "NORMAL")
     return found
 
 
-def drop_from_memory(folder):
+def drop_from_memory(folder: Path) -> None:
     """Has the system write all, and then drop the files of this folder from its memory."""
     os.sync()
     for path in folder.iterdir():
@@ -207,51 +205,50 @@ def drop_from_memory(folder):
             os.posix_fadvise(file.fileno(), 0, 0, os.POSIX_FADV_DONTNEED)
 
 
-def come_back(store, key, value):
-    """What a new process takes from its start to the answer of one get, which must be this value: seconds by the clock, and of the
-    processor, with the end of the process."""
+def time_recovery(store: MeasuredStore, key: str, value: str) -> tuple[float, float]:
+    """Returns what a new process takes from its start to the answer to one get, which must be this value: seconds by the clock, and of the processor,
+    up to the end of the process."""
     command, asked = store.question(key)
     start = time.monotonic()
     child = subprocess.Popen(command, stdin=subprocess.PIPE, stdout=subprocess.PIPE)
-    child.stdin.write(asked)
-    child.stdin.close()
-    answer = child.stdout.readline()
+    pipe_of(child.stdin).write(asked)
+    pipe_of(child.stdin).close()
+    answer = pipe_of(child.stdout).readline()
     took = time.monotonic() - start
-    _, status, usage = os.wait4(child.pid, 0)
-    child.returncode = os.waitstatus_to_exitcode(status)
-    child.stdout.close()
+    cpu = wait_for_end(child)
+    pipe_of(child.stdout).close()
     if child.returncode or answer != f"value {value}\n".encode():
-        sys.exit(f"{command}: answers {answer} where {value} was due, and ends with {child.returncode}")
-    return took, usage.ru_utime + usage.ru_stime
+        sys.exit(f"{command!r}: the answer is {answer!r}, where {value} was expected, and the status {child.returncode}")
+    return took, cpu
 
 
-def run_once(store, texts, commits, pairs):
-    """Makes the store anew, drops it from memory and comes back for the pair that was put last."""
+def run_once(store: MeasuredStore, texts: StoreTexts, commits: Commits, pairs: RandomPairs) -> StoreTimes:
+    """Makes a new store, drops it from memory, and recovers it to get the pair that was put last."""
     shutil.rmtree(store.folder, ignore_errors=True)
     store.folder.mkdir(parents=True)
     os.sync()
     took = store.load(texts, commits)
     took.disk = sum(path.stat().st_blocks * 512 for path in store.folder.iterdir())
     drop_from_memory(store.folder)
-    took.recovery, took.recovery_cpu = come_back(store, pairs.keys[-1], pairs.values[-1])
+    took.recovery, took.recovery_cpu = time_recovery(store, pairs.keys[-1], pairs.values[-1])
     shutil.rmtree(store.folder)
     return took
 
 
-def print_share(program, pairs, folder):
-    """Seconds in which `bwsh` answers and prints as many gets of a missing key: more than what the replies of the puts take."""
-    text, found = folder / "looks", {}
+def time_printing(program: Path, pairs: RandomPairs, folder: Path) -> dict[str, float]:
+    """Returns the seconds in which `bwsh` answers and prints as many gets of a missing key, which is more than the replies to the puts take."""
+    text, found = folder / "gets", {}
     for commits in BOTH:
-        lines = pairs.write_looks(text, commits.batch)
-        running = Running([program], text)
+        lines = pairs.write_gets(text, commits.batch)
+        running = TimedProgram([program], text)
         running.phase([1])
         found[commits.name()] = running.phase([lines]).wall
-        running.end()
+        running.finish()
     return found
 
 
-def python_start(repeats):
-    """Seconds that Python takes to start, which is in the recoveries of SQLite."""
+def python_start(repeats: int) -> float:
+    """Returns the seconds that Python takes to start, which are in the recoveries of SQLite."""
     took = []
     for _ in range(repeats):
         start = time.monotonic()
@@ -260,24 +257,25 @@ def python_start(repeats):
     return min(took)
 
 
-def file_system(folder):
+def file_system(folder: Path) -> str:
     ran = subprocess.run(["df", "--output=fstype,source", folder], capture_output=True, text=True)
     return " on ".join(ran.stdout.split("\n")[1].split()) if ran.returncode == 0 else "unknown"
 
 
-def summary(runs):
-    """What is written down of the runs of one store: of each time the least, and all times of loads."""
-    least = {each.name: min(getattr(took, each.name) for took in runs) for each in fields(Took)}
+def summary(runs: Sequence[StoreTimes]) -> Figures:
+    """Returns the figures of the runs of one store: the least of each time, and all times of loads and recoveries."""
+    least: Figures = {each.name: min(getattr(took, each.name) for took in runs) for each in fields(StoreTimes)}
     return least | {"loads": [took.load for took in runs], "recoveries": [took.recovery for took in runs]}
 
 
-def measure(program, count, repeats, where):
+def measure(program: Path, count: int, repeats: int, where: str) -> Figures:
     """Runs all stores in turn, and returns the figures."""
-    pairs, runs = Pairs(count), {}
+    pairs = RandomPairs(count)
+    runs: dict[str, dict[str, list[StoreTimes]]] = {}
     with tempfile.TemporaryDirectory() as made, tempfile.TemporaryDirectory(dir=where) as disk:
         folder, disks = Path(made), Path(disk)
-        texts = Texts(pairs, folder)
-        found = stores(program, folder, disks)
+        texts = StoreTexts(pairs, folder)
+        found = measured_stores(program, folder, disks)
         for _ in range(repeats):
             for commits in (FEW, MANY, SPACED):
                 for name, store in found.items():
@@ -285,40 +283,41 @@ def measure(program, count, repeats, where):
                         continue
                     print(f"  {commits.name()}: {name}", file=sys.stderr)
                     runs.setdefault(name, {}).setdefault(commits.name(), []).append(run_once(store, texts, commits, pairs))
-        printed, kind = print_share(program, pairs, folder), file_system(disks)
+        printed, kind = time_printing(program, pairs, folder), file_system(disks)
     taken = {name: {commits: summary(each) for commits, each in by.items()} for name, by in runs.items()}
-    return {"pairs": count, "repeats": repeats, "file system": kind, "stores": taken, "printing at most": printed, PYTHON_START: python_start(repeats)}
+    figures = {"pairs": count, "repeats": repeats, "file system": kind, "stores": taken}
+    return {**figures, "printing at most": printed, PYTHON_START: python_start(repeats)}
 
 
-def rate(figures, name, commits):
-    """Pairs a second."""
-    return figures["pairs"] / figures["stores"][name][commits.name()]["load"]
+def rate(figures: Figures, name: str, commits: Commits) -> float:
+    """Returns the pairs a second."""
+    return float(figures["pairs"] / figures["stores"][name][commits.name()]["load"])
 
 
-def print_rates(figures):
-    """Pairs a second, recovery, and room on the disk, by the clock; and beside it the seconds of the processor."""
+def print_rates(figures: Figures) -> None:
+    """Prints pairs a second, recovery, and room on the disk, by the clock; and beside it the seconds of the processor."""
     columns = {"load_cpu": "processor, s", "recovery": "recovery, s", "recovery_cpu": "processor, s"}
     rows = []
     for name, by in figures["stores"].items():
         cells = [by_length(f"{rate(figures, name, commits):,.0f}" for commits in BOTH)]
         for what in columns:
             cells.append(by_length(f"{by[commits.name()][what]:.2f}" for commits in BOTH))
-        rows.append([shown(name), *cells, by_length(f"{by[commits.name()]['disk'] / 1e6:,.0f}" for commits in BOTH)])
+        rows.append([title(name), *cells, by_length(f"{by[commits.name()]['disk'] / 1e6:,.0f}" for commits in BOTH)])
     lengths = by_length(commits.name() for commits in BOTH)
-    table([lengths, "pairs a second", *columns.values(), "on the disk, MB"], rows)
+    print_table([lengths, "pairs a second", *columns.values(), "on the disk, MB"], rows)
 
 
-def by_length(cells):
-    """What one cell shows for commits of both lengths."""
+def by_length(cells: Iterable[str]) -> str:
+    """Returns what one cell shows for commits of both lengths."""
     return " · ".join(cells)
 
 
-def shown(name):
+def title(name: str) -> str:
     return f"bwsh, {name}" if name in SETTINGS else f"{name} (not durable)" if name == RELAXED else name
 
 
-def print_beside(figures):
-    """How many times as fast as each peer."""
+def print_beside(figures: Figures) -> None:
+    """Prints how many times as fast as each peer."""
     rows = []
     for peer, by in figures["stores"].items():
         if peer in SETTINGS:
@@ -327,22 +326,23 @@ def print_beside(figures):
         for what, name in itertools.product(("load", "recovery"), SETTINGS):
             took = figures["stores"][name]
             cells.append(by_length(f"{by[commits.name()][what] / took[commits.name()][what]:.2f}" for commits in BOTH))
-        rows.append([shown(peer), *cells])
-    table(["times as fast as", *SETTINGS, *(f"recovery, {name}" for name in SETTINGS)], rows)
+        rows.append([title(peer), *cells])
+    print_table(["times as fast as", *SETTINGS, *(f"recovery, {name}" for name in SETTINGS)], rows)
 
 
-def print_text(figures):
-    """What belongs to the text of a program, and not to its store."""
+def print_text(figures: Figures) -> None:
+    """Prints the times that belong to the text of a program, and not to its store."""
     rows = []
     for name in SETTINGS:
         for commits in BOTH:
             took = figures["stores"][name][commits.name()]
-            rows.append([f"{name}, {commits.name()}", f"{took['ready']:.2f}", f"{figures['printing at most'][commits.name()]:.2f}", f"{took['load']:.2f}"])
-    table(["bwsh, s", "reading the text, in no figure", "printing, at most, in the figure", "the figure"], rows)
+            seconds = (took["ready"], figures["printing at most"][commits.name()], took["load"])
+            rows.append([f"{name}, {commits.name()}", *(f"{each:.2f}" for each in seconds)])
+    print_table(["bwsh, s", "reading the text, in no figure", "printing, at most, in the figure", "the figure"], rows)
 
 
-def show_stores(figures):
-    """The figures of each store, the start of Python, and batches without a flush for each."""
+def show_stores(figures: Figures) -> None:
+    """Prints the figures of each store, the start of Python, and batches without a flush for each."""
     print(f"\n{figures['pairs']:,} pairs of 16 and 100 bytes, {figures['file system']}, the least of {figures['repeats']}")
     print_rates(figures)
     print(f"\nPython's start, which is in SQLite's recovery: {figures[PYTHON_START]:.3f} s")
@@ -350,25 +350,24 @@ def show_stores(figures):
         print(f"bwsh, {name}, {SPACED.name()}: {rate(figures, name, SPACED):,.0f} pairs a second")
 
 
-def show_beside(figures):
-    """What these come to: the stores beside one another, and what is not the store's."""
+def show_beside(figures: Figures) -> None:
+    """Prints the stores beside one another, and the times that are not those of the store."""
     print_beside(figures)
     print_text(figures)
 
 
-def main():
+def main() -> None:
     parser = argparse.ArgumentParser(description=__doc__)
     parser.add_argument("--pairs", type=int, default=PAIRS)
     parser.add_argument("--repeats", type=int, default=3, help="how often each store is made; the least time counts")
     parser.add_argument("--program", type=Path, default=PROGRAM)
     parser.add_argument("--folder", default="/var/tmp", help="where the files are made: on the disk that is to be measured (/var/tmp)")
     parser.add_argument("--figures", type=Path, help="where the figures are written too, as JSON")
-    chosen = parser.parse_args()
-    if not chosen.program.exists():
-        sys.exit(f"{chosen.program} is missing: `rt run` in crates/bwsh builds it")
-    figures = measure(chosen.program, chosen.pairs, chosen.repeats, chosen.folder)
-    if chosen.figures:
-        chosen.figures.write_text(json.dumps(figures, indent=1) + "\n")
+    options = parser.parse_args()
+    exit_if_missing(options.program)
+    figures = measure(options.program, options.pairs, options.repeats, options.folder)
+    if options.figures:
+        options.figures.write_text(json.dumps(figures, indent=1) + "\n")
     show_stores(figures)
     show_beside(figures)
 

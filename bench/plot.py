@@ -1,23 +1,27 @@
-"""Draws what was measured as a page of SVG: speeds as bars, the load batch by batch as lines, speeds by workers, and what is wanted beside what is."""
+"""Draws the figures as a page of SVG: speeds as bars, the load batch by batch as lines, speeds by workers, and goals beside what is reached."""
 
+from collections.abc import Mapping, Sequence
 from html import escape
+from typing import Any
 
 WIDTH, HEIGHT = 920, 640
 LEFT = 210  # where the bars and the lines begin
 RIGHT = WIDTH - 40
+Curve = Sequence[tuple[int, float]]
 COLOURS = {"BTreeMap": "#888888", "fan 32, chain 16": "#1b6ca8", "fan 64, chain 16": "#3a8f4d", "defaults": "#d1712a"}
 
 
-def text(x, y, words, anchor="start", size=13):
+def text(x: float, y: float, words: str, anchor: str = "start", size: int = 13) -> str:
     return f'<text x="{x:.1f}" y="{y:.1f}" text-anchor="{anchor}" font-size="{size}">{escape(words)}</text>'
 
 
-def line(x1, y1, x2, y2, colour="#cccccc"):
+def line(x1: float, y1: float, x2: float, y2: float, colour: str = "#cccccc") -> str:
     return f'<line x1="{x1:.1f}" y1="{y1:.1f}" x2="{x2:.1f}" y2="{y2:.1f}" stroke="{colour}"/>'
 
 
-def legend(y):
-    parts, x = [], LEFT
+def legend(y: float) -> list[str]:
+    parts: list[str] = []
+    x = LEFT
     for name, colour in COLOURS.items():
         parts.append(f'<rect x="{x}" y="{y - 10}" width="12" height="12" fill="{colour}"/>')
         parts.append(text(x + 18, y, name))
@@ -25,8 +29,8 @@ def legend(y):
     return parts
 
 
-def bars(speeds, top, height):
-    """For each phase the speeds of the program, under each of the settings, where the peer is 1."""
+def bars(speeds: Mapping[str, Sequence[float]], top: float, height: float) -> list[str]:
+    """Draws for each phase the speeds of the program with each of the settings, where the peer is 1."""
     most = max(1.0, *(speed for row in speeds.values() for speed in row))
     scale = (RIGHT - LEFT) / most
     parts = [text(LEFT, top - 8, "speed, where the BTreeMap is 1")]
@@ -47,8 +51,8 @@ def bars(speeds, top, height):
     return parts
 
 
-def lines(curves, top, height):
-    """For each program the time of a put by the pairs in the store."""
+def lines(curves: Mapping[str, Curve], top: float, height: float) -> list[str]:
+    """Draws for each program the time of a put by the pairs in the store."""
     points = [point for curve in curves.values() for point in curve]
     most_x = max(x for x, _ in points)
     most_y = max(y for _, y in points) * 1.05
@@ -66,8 +70,8 @@ def lines(curves, top, height):
     return parts
 
 
-def page(speeds, curves):
-    """The page. There are no bars where the peer is missing."""
+def page(speeds: Mapping[str, Sequence[float]], curves: Mapping[str, Curve]) -> str:
+    """Returns the page of the speeds and the load. There are no bars if there is no peer."""
     parts = legend(24)
     if speeds:
         parts += bars(speeds, 60, 300)
@@ -79,16 +83,18 @@ def page(speeds, curves):
 PHASES = ["#1b6ca8", "#d1712a", "#3a8f4d", "#8a4fa8", "#444444"]
 
 
-def panel(name, curves, left, width, top, height):
-    """How many times as fast as one worker each phase is, by workers. A worker more is at best a whole more, which is the grey line."""
+def panel(name: str, curves: Mapping[str, Curve], left: float, width: float, top: float, height: float) -> list[str]:
+    """Draws how many times as fast as one worker each phase is, by workers. The grey line is the best that workers can do."""
     most = max(x for curve in curves.values() for x, _ in curve)
 
-    def at(x, y):
+    def at(x: float, y: float) -> tuple[float, float]:
         return left + (x - 1) / (most - 1) * width, top + height - (y - 1) / (most - 1) * height
 
-    parts = [text(left, top - 12, name), line(*at(1, 1), *at(most, most))]
+    (x1, y1), (x2, y2) = at(1, 1), at(most, most)
+    parts = [text(left, top - 12, name), line(x1, y1, x2, y2)]
     for mark in range(1, most + 1):
-        parts += [line(*at(1, mark), *at(most, mark), "#eeeeee"), text(left - 8, at(1, mark)[1] + 4, str(mark), "end", 11)]
+        (x1, y1), (x2, y2) = at(1, mark), at(most, mark)
+        parts += [line(x1, y1, x2, y2, "#eeeeee"), text(left - 8, at(1, mark)[1] + 4, str(mark), "end", 11)]
         parts.append(text(at(mark, 1)[0], top + height + 16, str(mark), "middle", 11))
     for (phase, curve), colour in zip(curves.items(), PHASES):
         places = " ".join("{:.1f},{:.1f}".format(*at(x, y)) for x, y in curve)
@@ -96,9 +102,10 @@ def panel(name, curves, left, width, top, height):
     return parts
 
 
-def panels(by_kind):
-    """A page with a panel for each kind side by side: how many times as fast as one worker, by workers."""
-    parts, width = [], 330
+def panels(by_kind: Mapping[str, Mapping[str, Curve]]) -> str:
+    """Returns a page with the panels of all kinds side by side."""
+    parts: list[str] = []
+    width = 330
     for at, (name, curves) in enumerate(by_kind.items()):
         parts += panel(name, curves, 60 + at * (width + 90), width, 50, 300)
     for at, (phase, colour) in enumerate(zip(next(iter(by_kind.values())), PHASES)):
@@ -112,14 +119,15 @@ def panels(by_kind):
 STEP = 26  # of one row
 
 
-def bar(x, y, width, height, colour):
+def bar(x: float, y: float, width: float, height: float, colour: str) -> str:
     return f'<rect x="{x:.1f}" y="{y:.1f}" width="{max(0.0, width):.1f}" height="{height:.1f}" fill="{colour}"/>'
 
 
-def goal_rows(rows, settings, top, left):
-    """For each row what is reached under each of the settings as bars, and what is wanted as a mark across its bar."""
+def goal_rows(rows: Sequence[Mapping[str, Any]], settings: Sequence[str], top: float, left: float) -> list[str]:
+    """Draws for each row what is reached with each of the settings as bars, and the goal as a mark across its bar."""
     most = max(number for row in rows for numbers in (row["is"], row["wanted"]) for number in numbers.values())
-    scale, thick, parts = (RIGHT - left) / most, STEP * 0.38, []
+    scale, thick = (RIGHT - left) / most, STEP * 0.38
+    parts: list[str] = []
     for part in range(1, int(most * 2) + 1):
         x = left + part / 2 * scale
         parts += [line(x, top, x, top + STEP * len(rows)), text(x, top - 6, str(part / 2), "middle", 11)]
@@ -135,12 +143,13 @@ def goal_rows(rows, settings, top, left):
     return parts
 
 
-def store_rows(persistent, settings, top, left):
-    """For each store the pairs that it commits in a second, in commits of each length."""
-    rates = {}
+def store_rows(persistent: Mapping[str, Any], settings: Sequence[str], top: float, left: float) -> list[str]:
+    """Draws for each store the pairs that it commits in a second, in commits of each length."""
+    rates: dict[str, list[float]] = {}
     for name, by in persistent["stores"].items():
         rates[name] = [persistent["pairs"] / by[commits]["load"] for commits in list(by)[:2]]
-    lengths, parts = list(next(iter(persistent["stores"].values())))[:2], []
+    lengths = list(next(iter(persistent["stores"].values())))[:2]
+    parts: list[str] = []
     scale, thick = (RIGHT - left - 60) / max(max(rate) for rate in rates.values()), STEP * 0.38  # with room for numbers
     for at, (name, rate) in enumerate(rates.items()):
         y = top + at * STEP
@@ -153,13 +162,14 @@ def store_rows(persistent, settings, top, left):
     return parts
 
 
-def goals(figures, settings):
-    """A page with what is wanted beside what is; and where these were measured, the stores with a file, and the load batch by batch."""
+def goals(figures: Mapping[str, Any], settings: Sequence[str]) -> str:
+    """Returns a page with the goals beside what is reached; and, if these were measured, the stores with a file, and the load batch by batch."""
     left, top, rows = 380, 64, figures["rows"]
-    parts = []
+    parts: list[str] = []
     for at, name in enumerate([*settings, "BTreeMap"]):
-        parts += [bar(left + 150 * at, 14, 12, 12, COLOURS[name]), text(left + 150 * at + 18, 24, name if name in settings else "BTreeMap, other stores")]
-    parts.append(text(left - 10, 24, "times as fast as the peer; black: what is wanted", "end", 12))
+        shown = name if name in settings else "BTreeMap, other stores"
+        parts += [bar(left + 150 * at, 14, 12, 12, COLOURS[name]), text(left + 150 * at + 18, 24, shown)]
+    parts.append(text(left - 10, 24, "times as fast as the peer; black: the goal", "end", 12))
     parts += goal_rows(rows, settings, top, left)
     height = top + STEP * len(rows) + 40
     if "persistent" in figures:

@@ -8,37 +8,43 @@ import struct
 import subprocess
 import sys
 import tempfile
+from collections.abc import Callable
 from dataclasses import dataclass, field
 from pathlib import Path
 
-from recovery import MARK, Program, least, verdict
-from run import LONG, PROGRAM, Running, Work
+sys.path.insert(0, str(Path(__file__).resolve().parent.parent))
+
+from bench.stores import MARK, Seconds, StoreProgram, least
+from bench.tables import at_most, print_table
+from bench.timing import Sample, TimedProgram
+from bench.workload import LONG, Workload
+from tools.processes import PROGRAM, exit_if_missing
 
 SETTINGS = "--fan 32 --chain 16 --max-key 128".split()
 SEGMENT = 1_048_576  # bytes
 CLEANS = 8
 VERSIONS = 1, 2
-SLOTS = 128, 192  # where they stand
+SLOTS = 128, 192  # their places
 FIELDS = "name", "mail", "city", "born"
 SECTIONS = "articles", "reviews", "users/profile", "documents/public"
 
 
-def random_keys(chance, pairs):
-    """Sixteen random bytes each."""
+def random_keys(chance: random.Random, pairs: int) -> list[str]:
+    """Returns keys of sixteen random bytes."""
     return ["".join(f"%{byte:02X}" for byte in chance.randbytes(16)) for _ in range(pairs)]
 
 
-def named_keys(chance, pairs):
-    """`user:000001:name` and so on, in no order."""
+def named_keys(chance: random.Random, pairs: int) -> list[str]:
+    """Returns `user:000001:name` and so on, in random order."""
     return chance.sample([f"user:{at // len(FIELDS):06}:{FIELDS[at % len(FIELDS)]}" for at in range(pairs)], pairs)
 
 
-def urls(chance, pairs):
-    """Addresses of 40 to 120 bytes, some hundreds under each beginning, in no order."""
+def addresses(chance: random.Random, pairs: int) -> list[str]:
+    """Returns addresses of 40 to 120 bytes, some hundreds with each beginning, in random order."""
     letters = "abcdefghijklmnopqrstuvwxyz0123456789"
     sites = [f"https://www.{''.join(chance.choices(letters, k=8))}.example.com" for _ in range(1 + pairs // 10_000)]
     begun = [f"{site}/{section}/2026/{month:02}/" for site in sites for section in SECTIONS for month in range(1, 13)]
-    found = {}
+    found: dict[str, None] = {}
     while len(found) < pairs:
         begin = chance.choice(begun)
         end = "-".join("".join(chance.choices(letters, k=chance.randint(3, 9))) for _ in range(chance.randint(1, 7)))
@@ -49,31 +55,31 @@ def urls(chance, pairs):
 
 
 RANDOM = "16 random bytes"
-KINDS = {RANDOM: random_keys, "`user:000001:name`": named_keys, "addresses": urls}
+KINDS = {RANDOM: random_keys, "`user:000001:name`": named_keys, "addresses": addresses}
 # The text of keys has the order of their bytes, since of a key all are escaped, or none.
-ORDERS = {"in no order": list, "in key order": sorted}
+ORDERS: dict[str, Callable[[list[str]], list[str]]] = {"in no order": list, "in key order": sorted}
 
 
-def bytes_of(key):
-    """How many bytes it has: an escape stands for one."""
+def length_of(key: str) -> int:
+    """Returns how many bytes a key has. An escape encodes one."""
     return len(key) - 2 * key.count("%")
 
 
 @dataclass
-class Measured:
+class VersionTimes:
     """What one kind of keys took in a log of one version, and how much was written."""
 
-    flush: list = field(default_factory=list)
-    back: list = field(default_factory=list)
-    clean: list = field(default_factory=list)
-    upgrade: list = field(default_factory=list)
+    flush: list[Sample] = field(default_factory=list)
+    recovery: list[Seconds] = field(default_factory=list)
+    clean: list[Sample] = field(default_factory=list)
+    upgrade: list[Sample] = field(default_factory=list)
     flushed: int = 0  # bytes of the log after the flush
     carried: int = 0  # bytes that all cleans wrote
     upgraded: int = 0  # bytes that the upgrade wrote
 
 
-def log_ends(path):
-    """Where the log of the store begins and ends, as its slot says: of the open slots that with the greater number."""
+def log_ends(path: Path) -> tuple[int, int]:
+    """Returns where the log of the store begins and ends, by the open slot with the greatest sequence number."""
     with open(path, "rb") as file:
         file.seek(SLOTS[0])
         slots = [file.read(64) for _ in SLOTS]
@@ -81,8 +87,8 @@ def log_ends(path):
     return head * SEGMENT, tail
 
 
-def write_load(work, keys, version, text):
-    """A load in long batches, in a log of this version, and a flush."""
+def write_load(work: Workload, keys: list[str], version: int, text: Path) -> None:
+    """Writes a load in long batches, in a log of this version, and a flush."""
     with open(text, "w") as file:
         file.write(MARK + "upgrade\n" * (version == 2))
         for start in range(0, len(keys), LONG):
@@ -91,127 +97,128 @@ def write_load(work, keys, version, text):
         file.write(MARK + "flush\n")
 
 
-def ended(running):
-    running.end()
-    if running.child.returncode:
-        sys.exit(f"{running.command}: ended with status {running.child.returncode}")
-
-
-def flushed(program, keys, version, text):
-    """Makes the store, and says what its flush took, once all before it was answered."""
-    running = Running(program.created(len(keys)), text)
+def time_flush(program: StoreProgram, keys: list[str], version: int, text: Path) -> Sample:
+    """Makes the store, and times its flush, after all before it was answered."""
+    running = TimedProgram(program.create_command(len(keys)), text)
     for lines in (version, len(keys), 1):
         running.phase([lines])
     sample = running.phase([1])
-    ended(running)
+    running.finish_successfully()
     return sample
 
 
-def done(program, word, count, text):
-    """What `count` of these lines take on the store, once it has come back."""
-    text.write_text(MARK + f"{word}\n" * count)
-    running = Running(program.opened(), text)
+def time_orders(program: StoreProgram, order: str, count: int, text: Path) -> Sample:
+    """Times `count` such orders on the store, after it was recovered."""
+    text.write_text(MARK + f"{order}\n" * count)
+    running = TimedProgram(program.open_command(), text)
     running.phase([1])
     sample = running.phase([count])
-    ended(running)
+    running.finish_successfully()
     return sample
 
 
-def rows(program, text):
-    """The digest of all pairs that come back."""
+def rows_digest(program: StoreProgram, text: Path) -> str:
+    """Returns the digest of all pairs that are recovered."""
     text.write_text("scan % * 4294967295\n")
     with open(text, "rb") as file:
-        return hashlib.blake2b(subprocess.run(program.opened(), stdin=file, stdout=subprocess.PIPE, check=True).stdout).hexdigest()
+        return hashlib.blake2b(subprocess.run(program.open_command(), stdin=file, stdout=subprocess.PIPE, check=True).stdout).hexdigest()
 
 
-def measure_once(program, work, keys, version, text, measured):
-    """Adds what one store of this version takes, and returns the digest of its pairs, after all that is done to it."""
+def measure_once(program: StoreProgram, work: Workload, keys: list[str], version: int, text: Path, measured: VersionTimes) -> str:
+    """Adds what one store of this version takes, and returns the digest of its pairs at the end."""
     write_load(work, keys, version, text)
-    measured.flush.append(flushed(program, keys, version, text))
+    measured.flush.append(time_flush(program, keys, version, text))
     head, tail = log_ends(program.disk)
     measured.flushed = tail - head
-    measured.back.append(program.come_back())
-    measured.clean.append(done(program, "clean", CLEANS, text))
+    measured.recovery.append(program.recover())
+    measured.clean.append(time_orders(program, "clean", CLEANS, text))
     _, cleaned = log_ends(program.disk)
     measured.carried = cleaned - tail
     if version == 1:
-        measured.upgrade.append(done(program, "upgrade", 1, text))
+        measured.upgrade.append(time_orders(program, "upgrade", 1, text))
         _, upgraded = log_ends(program.disk)
         measured.upgraded = upgraded - cleaned
-    return rows(program, text)
+    return rows_digest(program, text)
 
 
-def measure(program, work, name, keys, repeats, text):
-    """By version, in turn; and the same pairs must come back of both."""
-    found, digests = {version: Measured() for version in VERSIONS}, set()
+def measure(program: StoreProgram, work: Workload, name: str, keys: list[str], repeats: int, text: Path) -> dict[int, VersionTimes]:
+    """Measures both versions in turn. The same pairs must be recovered in both."""
+    found, digests = {version: VersionTimes() for version in VERSIONS}, set()
     for _ in range(repeats):
         for version in VERSIONS:
             print(f"  {name}: version {version}", file=sys.stderr)
             digests.add(measure_once(program, work, keys, version, text, found[version]))
     if len(digests) > 1:
-        sys.exit(f"{name}: other pairs came back")
+        sys.exit(f"{name}: other pairs were recovered")
     return found
 
 
-HEAD = "keys | bytes a key | version | log, bytes a pair | flush, s | by the clock, s | recovery, s | by the clock, s | clean, ms | carried by a clean, KB".split(" | ")
+HEAD = "keys | bytes a key | version | log, bytes a pair | flush, s | by the clock, s".split(" | ")
+HEAD += "recovery, s | by the clock, s | clean, ms | carried by a clean, KB".split(" | ")
+Measurements = dict[str, dict[int, VersionTimes]]  # by the name of the keys, and version
 
 
-def print_versions(measured, sizes, pairs):
-    print(f"\n| {' | '.join(HEAD)} |\n|{'---|' * len(HEAD)}")
+def print_versions(measured: Measurements, sizes: dict[str, float], pairs: int) -> None:
+    rows = []
     for name, found in measured.items():
         for version, each in found.items():
-            flush, back, clean = (least(samples) for samples in (each.flush, each.back, each.clean))
-            times = " | ".join(f"{seconds:.2f}" for seconds in (flush.cpu, flush.wall, back.cpu, back.wall))
-            cleans = f"{clean.cpu / CLEANS * 1000:.1f} | {each.carried / CLEANS / 1000:.0f}"
-            print(f"| {name} | {sizes[name]:.1f} | {version} | {each.flushed / pairs:.1f} | {times} | {cleans} |")
+            flush, recovery, clean = least(each.flush), least(each.recovery), least(each.clean)
+            times = [f"{seconds:.2f}" for seconds in (flush.cpu, flush.wall, recovery.cpu, recovery.wall)]
+            cleans = [f"{clean.cpu / CLEANS * 1000:.1f}", f"{each.carried / CLEANS / 1000:.0f}"]
+            rows.append([name, f"{sizes[name]:.1f}", str(version), f"{each.flushed / pairs:.1f}", *times, *cleans])
+    print_table(HEAD, rows)
 
 
-def print_upgrades(measured, pairs):
-    print("\n| upgrade of a full store | s | by the clock, s | written, bytes a pair |\n|---|---|---|---|")
+def print_upgrades(measured: Measurements, pairs: int) -> None:
+    rows = []
     for name, found in measured.items():
         took = least(found[1].upgrade)
-        print(f"| {name} | {took.cpu:.2f} | {took.wall:.2f} | {found[1].upgraded / pairs:.1f} |")
+        rows.append([name, f"{took.cpu:.2f}", f"{took.wall:.2f}", f"{found[1].upgraded / pairs:.1f}"])
+    print_table(["upgrade of a full store", "s", "by the clock, s", "written, bytes a pair"], rows)
 
 
-def print_verdicts(measured):
-    """Version 2 by version 1: processor seconds, and bytes of the log. What is wanted is said of the random keys alone."""
-    print("\n| version 2 by version 1 | flush | recovery | clean | bytes of the log |\n|---|---|---|---|---|")
+def print_verdicts(measured: Measurements) -> None:
+    """Prints version 2 by version 1: processor seconds, and bytes of the log. There is a goal only for random keys."""
+    rows = []
     for name, (one, two) in ((name, found.values()) for name, found in measured.items()):
-        parts = ((one.flush, two.flush), (one.back, two.back), (one.clean, two.clean))
-        flush, back, clean = (least(newer).cpu / least(older).cpu for older, newer in parts)
-        reported = [verdict(by, most=1.1) if name.startswith(RANDOM) else f"{by:.2f}" for by in (flush, back)]
-        print(f"| {name} | {' | '.join(reported)} | {clean:.2f} | {two.flushed / one.flushed:.2f} |")
+        flush = least(two.flush).cpu / least(one.flush).cpu
+        recovery = least(two.recovery).cpu / least(one.recovery).cpu
+        clean = least(two.clean).cpu / least(one.clean).cpu
+        compared = [at_most(by, 1.1) if name.startswith(RANDOM) else f"{by:.2f}" for by in (flush, recovery)]
+        rows.append([name, *compared, f"{clean:.2f}", f"{two.flushed / one.flushed:.2f}"])
+    print_table(["version 2 by version 1", "flush", "recovery", "clean", "bytes of the log"], rows)
 
 
-def arguments():
+def arguments() -> argparse.Namespace:
     parser = argparse.ArgumentParser(description=__doc__)
     parser.add_argument("--quick", action="store_true", help="a fifth of the pairs, each once")
     parser.add_argument("--pairs", type=int, default=1_000_000)
     parser.add_argument("--repeats", type=int, default=3, help="how often each is run; the least time counts")
     parser.add_argument("--program", type=Path, default=PROGRAM)
     parser.add_argument("--folder", type=Path, help="where the files are made: on the disk that is to be measured")
-    chosen = parser.parse_args()
-    if not chosen.program.exists():
-        sys.exit(f"{chosen.program} is missing: `rt run` in crates/bwsh builds it")
-    if chosen.quick:
-        chosen.pairs, chosen.repeats = chosen.pairs // 5, 1
-    return chosen
+    options = parser.parse_args()
+    exit_if_missing(options.program)
+    if options.quick:
+        options.pairs, options.repeats = options.pairs // 5, 1
+    return options
 
 
-def main():
-    chosen = arguments()
-    work, measured, sizes = Work(0), {}, {}
-    with tempfile.TemporaryDirectory(dir=chosen.folder) as made:
+def main() -> None:
+    options = arguments()
+    work = Workload(0)
+    measured: Measurements = {}
+    sizes: dict[str, float] = {}
+    with tempfile.TemporaryDirectory(dir=options.folder) as made:
         folder = Path(made)
-        program = Program([chosen.program], SETTINGS, SEGMENT, folder / "store")
+        program = StoreProgram([options.program], SETTINGS, SEGMENT, folder / "store")
         for kind, make in KINDS.items():
-            keys = make(random.Random(1), chosen.pairs)
+            keys = make(random.Random(1), options.pairs)
             for order, arranged in ORDERS.items():
                 name = f"{kind}, {order}"
-                sizes[name] = sum(map(bytes_of, keys)) / len(keys)
-                measured[name] = measure(program, work, name, arranged(keys), chosen.repeats, folder / "session")
-    print_versions(measured, sizes, chosen.pairs)
-    print_upgrades(measured, chosen.pairs)
+                sizes[name] = sum(map(length_of, keys)) / len(keys)
+                measured[name] = measure(program, work, name, arranged(keys), options.repeats, folder / "session")
+    print_versions(measured, sizes, options.pairs)
+    print_upgrades(measured, options.pairs)
     print_verdicts(measured)
 
 

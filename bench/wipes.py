@@ -5,13 +5,19 @@ import argparse
 import hashlib
 import sys
 import tempfile
+from collections.abc import Callable, Iterator, Sequence
 from dataclasses import dataclass
 from pathlib import Path
 
-from recovery import status_bytes
-from run import LONG, PEER, PROGRAM, Phase, Results, Running, Work, build_peer, dels, write_session
+sys.path.insert(0, str(Path(__file__).resolve().parent.parent))
 
-SETTINGS = {"fan 64, chain 16": ["--fan", "64", "--chain", "16"], "defaults": []}
+from bench.peer_programs import PEER, build_rust_peer
+from bench.tables import print_table
+from bench.timing import Results, Sample, TimedProgram
+from bench.workload import LONG, Phase, Workload, dels, write_phases
+from tools.processes import PROGRAM, Command, exit_if_missing, status_bytes
+
+SETTINGS: dict[str, list[str]] = {"fan 64, chain 16": ["--fan", "64", "--chain", "16"], "defaults": []}
 OTHERS = {"retain": "BTreeMap by retain", "append": "BTreeMap by split_off and append"}  # by the word that the peer takes
 OFTEN = 10_000  # commands in a batch that find nothing, and puts in a batch of a queue
 TURNS = 1_000  # wipes in a batch of wipes and scans in turn, and in one of a queue
@@ -32,20 +38,20 @@ BY = {
 
 
 @dataclass(frozen=True)
-class Session:
-    """A load, what is measured after it, and whether the peers that go over all pairs at each wipe run it too."""
+class WipeSession:
+    """A load, the phases that are measured after it, and whether the peers that go over all pairs at each wipe run it too."""
 
     load: Phase
-    phases: list
+    phases: list[Phase]
     is_for_all: bool = False
 
 
-def one(name, command):
+def one(name: str, command: str) -> Phase:
     return Phase(name, 1, 1, lambda: [command])
 
 
-def narrow(work, keys):
-    """In turn, a wipe of a few keys and a scan of as many rows: below the last tenth of the keys, which always has some."""
+def narrow(work: Workload, keys: list[str]) -> Iterator[str]:
+    """Yields in turn a wipe of a few keys and a scan of as many rows: below the last tenth of the keys, which always has some."""
     last = len(keys) * 9 // 10
     for _ in range(TURNS):
         at = work.random.randrange(last)
@@ -53,41 +59,42 @@ def narrow(work, keys):
         yield f"scan {keys[work.random.randrange(last)]} * {ROWS}"
 
 
-def wide_with_puts(work):
+def wide_with_puts(work: Workload) -> Iterator[str]:
     for at, key in enumerate(work.keys[:TURNS]):
         yield from ("wipe % *", f"put {key} {work.value(at)}", f"scan % * {ROWS}")
 
 
-def from_oldest(keys):
+def from_oldest(keys: list[str]) -> list[str]:
     return [f"wipe {keys[0]} {keys[-1]}"]
 
 
-def from_start(keys):
+def from_start(keys: list[str]) -> list[str]:
     return [f"wipe % {keys[-1]}"]
 
 
-def first_row(keys):
+def first_row(keys: list[str]) -> list[str]:
     return ["scan % * 1", f"wipe {keys[0]} {keys[-1]}"]
 
 
-def by_deletes(keys):
+def by_deletes(keys: list[str]) -> list[str]:
     return list(dels(keys[:-1]))
 
 
-class Queue:
-    """Puts of keys that rise. What has come first is removed first, so that there are always as many pairs."""
+class KeyQueue:
+    """Puts of rising keys, and removals of the oldest keys, so that the number of pairs stays the same."""
 
-    def __init__(self, work):
+    def __init__(self, work: Workload) -> None:
         self.work, self.pairs = work, len(work.keys)
         self.next = self.pairs
         self.load = Phase("load", self.pairs, LONG, lambda: work.puts(self.keys(0, self.pairs)))
 
-    def keys(self, start, end):
+    def keys(self, start: int, end: int) -> list[str]:
         return [f"{number:016}" for number in range(start, end)]
 
-    def phase(self, name, batch, each, remove):
-        """Batches with this number of puts. After `each` puts as many of the oldest keys are removed. A phase goes on where the last has come to."""
-        commands = []
+    def phase(self, name: str, batch: int, each: int, remove: Callable[[list[str]], list[str]]) -> Phase:
+        """Returns a phase of batches of `batch` puts. After `each` puts as many of the oldest keys are removed. The keys follow those of the last
+        phase."""
+        commands: list[str] = []
         for start in range(self.next, self.next + BATCHES * batch, each):
             commands += self.work.puts(self.keys(start, start + each))
             commands += remove(self.keys(start - self.pairs, start - self.pairs + each + 1))
@@ -96,42 +103,42 @@ class Queue:
         return Phase(f"queue: {name}", len(commands), len(commands) // BATCHES, lambda: commands, lambda: printed)
 
 
-def queues(work):
-    oldest, start, first = (Queue(work) for _ in range(3))
+def queues(work: Workload) -> list[WipeSession]:
+    oldest, start, first = (KeyQueue(work) for _ in range(3))
     return [
-        Session(oldest.load, [
+        WipeSession(oldest.load, [
             oldest.phase("a wipe a batch, from the oldest on", OFTEN, OFTEN, from_oldest),
             oldest.phase("a wipe after each put, from the oldest on", TURNS, 1, from_oldest),
             oldest.phase("deletes", OFTEN, OFTEN, by_deletes),
             oldest.phase("a delete after each put", TURNS, 1, by_deletes),
         ]),
-        Session(start.load, [
+        WipeSession(start.load, [
             start.phase("a wipe after each put, from `%` on", TURNS, 1, from_start),
             start.phase("a wipe a batch, from `%` on", OFTEN, OFTEN, from_start),
         ]),
-        Session(first.load, [first.phase("a scan of the first row and its wipe after each put", TURNS, 1, first_row)]),
+        WipeSession(first.load, [first.phase("a scan of the first row and its wipe after each put", TURNS, 1, first_row)]),
     ]
 
 
-def sessions(work):
+def sessions(work: Workload) -> list[WipeSession]:
     pairs, rising = len(work.keys), sorted(work.keys)
     few = pairs // 10
     tenths = [rising[start : start + few] for start in range(0, pairs, few)]
     shuffled = work.random.sample(tenths[5], few)
-    absent = work.random.choices(tenths[7], k=5 * OFTEN)  # no key begins with one of these and goes on
+    absent = work.random.choices(tenths[7], k=5 * OFTEN)  # no key is longer than one of these and begins with it
     in_turn = list(narrow(work, rising[6 * few :]))
     load = Phase("load", pairs, LONG, lambda: work.puts(work.keys))
     load_few = Phase("load", pairs // 20, LONG, lambda: work.puts(work.keys[: pairs // 20]))
     return [
-        Session(load, [one("wipe of a tenth", f"wipe {tenths[1][0]} {tenths[2][0]}")], is_for_all=True),
-        Session(load, [
+        WipeSession(load, [one("wipe of a tenth", f"wipe {tenths[1][0]} {tenths[2][0]}")], is_for_all=True),
+        WipeSession(load, [
             one("wipe of all", "wipe % *"),
             one("wipe of all, again", "wipe % *"),
-            one("scan of what is left", "scan % * 1"),
+            one("scan of no pairs", "scan % * 1"),
         ], is_for_all=True),
-        Session(load, [Phase("deletes of all, in key order", pairs, LONG, lambda: dels(rising))]),
-        Session(load, [Phase("deletes of all, in no order", pairs, LONG, lambda: dels(work.shuffled))]),
-        Session(load, [
+        WipeSession(load, [Phase("deletes of all, in key order", pairs, LONG, lambda: dels(rising))]),
+        WipeSession(load, [Phase("deletes of all, in no order", pairs, LONG, lambda: dels(work.shuffled))]),
+        WipeSession(load, [
             Phase("deletes of a tenth, in key order", few, LONG, lambda: dels(tenths[3])),
             Phase("deletes of a tenth, in no order", few, LONG, lambda: dels(shuffled)),
             Phase("gets of missing keys", len(absent), OFTEN, lambda: (f"get {key}!" for key in absent)),
@@ -139,53 +146,60 @@ def sessions(work):
             Phase("wipes of ranges without keys", len(absent), OFTEN, lambda: (f"wipe {key}! {key}~" for key in absent)),
             Phase("narrow wipes and scans in turn", 2 * TURNS, 2 * TURNS, lambda: in_turn, lambda: [1, 1 + ROWS] * TURNS),
         ]),
-        Session(load_few, [
+        WipeSession(load_few, [
             Phase("wide wipes and scans in turn", 2 * TURNS, 2 * TURNS, lambda: ["wipe % *", f"scan % * {ROWS}"] * TURNS),
         ]),
-        Session(load_few, [
+        WipeSession(load_few, [
             Phase("wide wipes, puts and scans in turn", 3 * TURNS, 3 * TURNS, lambda: wide_with_puts(work), lambda: [1, 1, 2] * TURNS),
         ]),
         *queues(work),
     ]
 
 
-def write_held(text, session):
-    """The batch file, with a batch before each phase and at the end that holds the program up."""
-    write_session(text, [session.load, HOLD, *(part for phase in session.phases for part in (phase, HOLD))])
+def write_held(text: Path, session: WipeSession) -> None:
+    """Writes the batch file, with a batch before each phase and at the end for whose answers the program has to wait."""
+    write_phases(text, [session.load, HOLD, *(part for phase in session.phases for part in (phase, HOLD))])
 
 
-def hold(running):
-    """Waits until the program has printed the first line of such a batch, and stands still: all before it is done, and nothing after it."""
-    running.take(1, hashlib.blake2b())
+def hold(running: TimedProgram) -> float:
+    """Reads the first line of such a batch: the program waits there, so all before it is done, and nothing after it. Returns its processor
+    seconds."""
+    running.read_lines(1, hashlib.blake2b())
     return running.cpu()
 
 
-def run_session(command, text, session):
-    """The samples of the phases, and of each how many bytes it took at its highest beyond what was in use before it."""
-    running = Running(command, text, PIPE)
+def run_session(command: Command, text: Path, session: WipeSession) -> tuple[list[Sample], list[int]]:
+    """Returns the samples of the phases, and for each the bytes of its peak memory beyond those in use before it."""
+    running = TimedProgram(command, text, PIPE)
     running.phase([1, *session.load.lines()])
-    samples, taken, start = [], [], hold(running)
+    samples: list[Sample] = []
+    taken: list[int] = []
+    start = hold(running)
     for phase in session.phases:
         before = running.resident()
-        Path(f"/proc/{running.child.pid}/clear_refs").write_text("5")  # the highest counts from here
+        Path(f"/proc/{running.child.pid}/clear_refs").write_text("5")  # the peak counts from here
         sample = running.phase([HOLD.count - 1, *phase.lines()])
         end = hold(running)
         sample.cpu, start = end - start, end
         samples.append(sample)
         taken.append(status_bytes(running.child.pid, "VmHWM") - before)
     running.phase([HOLD.count - 1])
-    running.end()
+    running.finish()
     return samples, taken
 
 
-def measure(work, commands, chosen, folder):
-    """The results, and by phase and program the least number of bytes that it took."""
-    results, memory, text = Results(), {}, folder / "session"
+Memory = dict[tuple[Phase, str], int]  # by phase and program
+
+
+def measure(work: Workload, commands: dict[str, Command], options: argparse.Namespace, folder: Path) -> tuple[Results, Memory]:
+    """Returns the results, and the least number of bytes that each program took in each phase."""
+    results, text = Results(), folder / "session"
+    memory: Memory = {}
     for session in sessions(work):
-        if not any(chosen.only in phase.name for phase in session.phases):
+        if not any(options.only in phase.name for phase in session.phases):
             continue
         write_held(text, session)
-        for _ in range(chosen.repeats):
+        for _ in range(options.repeats):
             for name, command in commands.items():
                 if name in OTHERS.values() and not session.is_for_all:
                     continue
@@ -197,57 +211,58 @@ def measure(work, commands, chosen, folder):
     return results, memory
 
 
-def print_table(results, memory, names):
-    print(f"\n| ms, and MB at the highest | commands | {' | '.join(names)} | {' | '.join(f'MB: {name}' for name in names)} |\n|---|---|{'---|' * 2 * len(names)}")
-    for phase in dict.fromkeys(phase for phase, _ in results.best):
+def print_phases(results: Results, memory: Memory, names: Sequence[str]) -> None:
+    rows = []
+    for phase in results.phases():
         took = [f"{results.best[phase, name].cpu * 1000:,.1f}" for name in names]
         most = [f"{max(0, memory[phase, name]) / 1e6:,.1f}" for name in names]
-        print(f"| {phase.name} | {phase.count:,} | {' | '.join(took + most)} |")
+        rows.append([phase.name, f"{phase.count:,}", *took, *most])
+    print_table(["ms, and MB at the peak", "commands", *names, *(f"MB: {name}" for name in names)], rows)
 
 
-def print_others(results, names):
-    """What the peers that go over all pairs took."""
+def print_others(results: Results, names: Sequence[str]) -> None:
+    """Prints what the peers that go over all pairs took."""
     for name in names:
         took = [f"{phase.name} {sample.cpu * 1000:,.1f} ms" for (phase, program), sample in results.best.items() if program == name]
         print(f"{name}: {', '.join(took)}")
 
 
-def print_quotients(results, names):
-    """Of each pair of phases the first's seconds by the second's."""
+def print_quotients(results: Results, names: Sequence[str]) -> None:
+    """Prints for each pair of phases the seconds of the first by those of the second."""
     seconds = {(phase.name, name): sample.cpu for (phase, name), sample in results.best.items()}
-    print(f"\n| by | | {' | '.join(names)} |\n|---|---|{'---|' * len(names)}")
+    rows = []
     for part, whole in BY.items():
         if all((phase, name) in seconds for phase in (part, whole) for name in names):
-            print(f"| {part} | {whole} | {' | '.join(f'{seconds[part, name] / seconds[whole, name]:.2f}' for name in names)} |")
+            rows.append([part, whole, *(f"{seconds[part, name] / seconds[whole, name]:.2f}" for name in names)])
+    print_table(["by", "", *names], rows)
 
 
-def arguments():
+def arguments() -> argparse.Namespace:
     parser = argparse.ArgumentParser(description=__doc__)
     parser.add_argument("--quick", action="store_true", help="a fifth of the pairs, each once")
     parser.add_argument("--pairs", type=int, default=1_000_000)
     parser.add_argument("--repeats", type=int, default=5, help="how often each session is run; the least counts")
     parser.add_argument("--only", default="", help="the sessions that have a phase with this in its name")
     parser.add_argument("--program", type=Path, default=PROGRAM)
-    chosen = parser.parse_args()
-    if not chosen.program.exists():
-        sys.exit(f"{chosen.program} is missing: `rt run` in crates/bwsh builds it")
-    if chosen.quick:
-        chosen.pairs, chosen.repeats = chosen.pairs // 5, 1
-    return chosen
+    options = parser.parse_args()
+    exit_if_missing(options.program)
+    if options.quick:
+        options.pairs, options.repeats = options.pairs // 5, 1
+    return options
 
 
-def main():
-    chosen = arguments()
+def main() -> None:
+    options = arguments()
     with tempfile.TemporaryDirectory() as made:
         folder = Path(made)
-        peer = build_peer(folder)
-        commands = {PEER: peer} if peer else {}
-        commands |= {name: [chosen.program, *words] for name, words in SETTINGS.items()}
+        peer = build_rust_peer(folder)
+        commands: dict[str, Command] = {PEER: peer} if peer else {}
+        commands |= {name: [options.program, *words] for name, words in SETTINGS.items()}
         names = list(commands)
         commands |= {name: [*peer, word] for word, name in OTHERS.items()} if peer else {}
-        results, memory = measure(Work(chosen.pairs), commands, chosen, folder)
+        results, memory = measure(Workload(options.pairs), commands, options, folder)
     others = [name for name in commands if name not in names]
-    print_table(results, memory, names)
+    print_phases(results, memory, names)
     print_quotients(results, names)
     print_others(results, others)
 

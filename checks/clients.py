@@ -1,4 +1,4 @@
-"""The clients, on the program: the Python module's own tests, and the example in shell."""
+"""The clients: the tests of the Python module, and the example in shell, on the program."""
 
 import os
 import re
@@ -7,37 +7,37 @@ import subprocess
 import sys
 from pathlib import Path
 
-from checks.harness import Case, Outcome, Programs, new_folder
+from tools.cases import SMALL_STORE, Case, Outcome, Programs
+from tools.processes import TOP, new_folder
 
-CLIENTS = Path(__file__).resolve().parent.parent / "clients"
+CLIENTS = TOP / "clients"
 TESTS = ("Replies", "Lasting", "Faults", "Kills", "Pipes")
 PATIENCE = 300  # seconds, on a busy machine too
-SMALL = ("--fan=4", "--chain=2", "--max-key=16", "--max-value=16", "--seg-size=256", "--segments=4")
 SESSIONS = 40  # of the example in shell, which fill such a log more than once
 
 
 def run_tests(programs: Programs, name: str) -> Outcome:
-    """Runs the tests of a class, where a warning, of a pipe that wasn't closed, say, is an error too."""
+    """Runs the tests of a class. A warning, such as that of a pipe that was not closed, is an error too."""
     command = [sys.executable, "-B", "-W", "error", "-m", "unittest", f"test_taukremil.{name}"]
     environment = {**os.environ, "BWSH": str(programs.store)}
     ran = subprocess.run(command, cwd=CLIENTS / "python", env=environment, capture_output=True, timeout=PATIENCE)
-    said = ran.stderr.decode(errors="replace").strip()
-    return Outcome(measured=said.splitlines()[-3]) if ran.returncode == 0 else Outcome(said)
+    report = ran.stderr.decode(errors="replace").strip()
+    return Outcome(measured=report.splitlines()[-3]) if ran.returncode == 0 else Outcome(report)
 
 
 def run_shell(programs: Programs) -> Outcome:
-    """Runs the example in shell on one small file until flushes have cleaned it, and sees what it prints each time."""
+    """Runs the example in shell on one small file until flushes have cleaned it, and checks what it prints each time."""
     if shutil.which("bash") is None:
         return Outcome(left_out="there is no bash here")
     with new_folder() as folder:
         path, last, cleans = Path(folder) / "store", 1, 0
-        subprocess.run([programs.store, "--create", "--disk", path, *SMALL], stdin=subprocess.DEVNULL, check=True)
+        subprocess.run([programs.store, "--create", "--disk", path, *SMALL_STORE], stdin=subprocess.DEVNULL, check=True)
         for _ in range(SESSIONS):
             command = ["bash", str(CLIENTS / "shell/coproc.sh"), str(programs.store), str(path)]
             ran = subprocess.run(command, capture_output=True, timeout=PATIENCE)
             flushed = re.fullmatch(rb"the value is hello\nflushed (\d+)\n", ran.stdout)
             if not flushed or ran.returncode or ran.stderr or int(flushed[1]) <= last:
-                return Outcome(f"status {ran.returncode}, printed {ran.stdout!r}, said {ran.stderr!r}")
+                return Outcome(f"status {ran.returncode}, output {ran.stdout!r}, errors {ran.stderr!r}")
             cleans += int(flushed[1]) - last - 1  # a clean takes a number too
             last = int(flushed[1])
         return Outcome(None if cleans else "no flush had to clean", measured=f"{cleans} cleans")

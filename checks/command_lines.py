@@ -1,17 +1,18 @@
-"""Command lines: which settings, crew and file the words name, which are refused, and which ask for help. What a file is made with stands in its
-first bytes; a setting or a crew out of range is named by a fault."""
+"""Command lines: which settings, crew and file the words name, which are refused, and which ask for help. The first bytes of a file have the settings
+with which it was made; a fault names a setting or a crew that is out of range."""
 
 import shlex
 import struct
 from pathlib import Path
 
-from checks.harness import Case, Outcome, Programs, Ran, differs, new_folder, run
+from tools.cases import Case, Outcome, Programs, differs
+from tools.failures import DEVICE
+from tools.processes import RunResult, new_folder, run
 
 TEXT = b"put a 1\n"
-DEVICE = b"fault 9 Device\n"
 BAD_CREW = b"fault 5 BadCrew\n"
 
-# What a line names: fan, chain, key, value, segment, segments. Those that are not given have the program's own.
+# The settings that a line names: fan, chain, key, value, segment, segments. The others are the defaults of the program.
 SETTINGS = [
     ("", (16, 4, 64, 256, 65_536, 64)),
     ("--fan 8 --chain 2 --max-key 3 --max-value 5 --seg-size 700 --segments 9", (8, 2, 3, 5, 700, 9)),
@@ -33,7 +34,7 @@ OUT_OF_RANGE = [
 # Whether the crew of a line is in its range.
 CREWS = [("--fan 8", True), ("--workers 8 --grain 2", True), ("--grain=0 --disk 8", False), ("--workers=0 --grain 2", False)]
 
-# The file that a line names, if any, and whether it is made anew.
+# The file that a line names, if any, and whether a store is made in it.
 FILES: list[tuple[str, str | None, bool]] = [
     ("", None, False),
     ("--disk a", "a", False),
@@ -80,7 +81,7 @@ REFUSED = [
 
 ASK_FOR_HELP = ["--help", "-h", "--fan 8 -h --flan", "--disk a --create -h --create"]
 
-# What the help has to say: each kind of line, what a segment has to hold, the ranges of a crew, who holds a file, and the exit statuses.
+# What the help has to contain: each kind of line, what a segment has to hold, the ranges of a crew, who locks a file, and the exit statuses.
 HELP = [
     b"put K V",
     b"add K V",
@@ -108,13 +109,13 @@ HELP = [
 ]
 
 
-def start(programs: Programs, folder: str, line: str, text: bytes = TEXT) -> Ran:
+def start(programs: Programs, folder: str, line: str, text: bytes = TEXT) -> RunResult:
     """Runs the program with the words of this line."""
     return run([programs.store, *shlex.split(line)], text, folder=Path(folder))
 
 
-def settings(programs: Programs) -> Outcome:
-    """Reads the settings in the first bytes of a file that was made with the words of a line, and of another that it was made over."""
+def check_settings(programs: Programs) -> Outcome:
+    """Checks the settings in the first bytes of a file that was made with the words of a line: in an empty file, and in one with bytes."""
     for line, numbers in SETTINGS:
         with new_folder() as folder:
             path = Path(folder) / "store"
@@ -128,7 +129,7 @@ def settings(programs: Programs) -> Outcome:
     return Outcome()
 
 
-def out_of_range(programs: Programs) -> Outcome:
+def refuse_settings(programs: Programs) -> Outcome:
     with new_folder() as folder:
         for line, name in OUT_OF_RANGE:
             wrong = differs(start(programs, folder, line), 4, b"", b"fault 1 BadSettings %s\n" % name)
@@ -137,7 +138,7 @@ def out_of_range(programs: Programs) -> Outcome:
     return Outcome()
 
 
-def crews(programs: Programs) -> Outcome:
+def check_crews(programs: Programs) -> Outcome:
     with new_folder() as folder:
         for line, is_crew in CREWS:
             ending = (0, b"new\n", b"") if is_crew else (4, b"", BAD_CREW)
@@ -147,8 +148,8 @@ def crews(programs: Programs) -> Outcome:
     return Outcome()
 
 
-def file(programs: Programs, line: str, path: str | None, is_made: bool) -> Outcome:
-    """Sees that a line names this file: it is made, and no other; or it is found, and nothing is made where there is none."""
+def find_file(programs: Programs, line: str, path: str | None, is_made: bool) -> Outcome:
+    """Checks that a line names this file. It is made, and no other file; or it is opened, and nothing is made if it is missing."""
     with new_folder() as folder:
         ran = start(programs, folder, line, b"put a 1\nflush\n")
         names = [each.name for each in Path(folder).iterdir()]
@@ -164,23 +165,23 @@ def file(programs: Programs, line: str, path: str | None, is_made: bool) -> Outc
         return Outcome(wrong)
 
 
-def refused_words(ran: Ran, error: bytes) -> str | None:
-    """Says what is wrong with how a session ended whose words are refused with this error. Nothing was read."""
+def wrong_refusal(ran: RunResult, error: bytes) -> str | None:
+    """Returns what is wrong with the ending of a session whose words are refused with this error. It may not read its input."""
     is_right = ran.status == 2 and not ran.out and ran.err.startswith(error) and not ran.read
-    return None if is_right else f"{ran.reported()}, and read {ran.read} bytes, where {error!r} was due"
+    return None if is_right else f"{ran.describe()}, and read {ran.read} bytes, where {error!r} was expected"
 
 
-def refused(programs: Programs) -> Outcome:
+def refuse_words(programs: Programs) -> Outcome:
     with new_folder() as folder:
         for line in REFUSED:
-            wrong = refused_words(start(programs, folder, line), b"error: ")
+            wrong = wrong_refusal(start(programs, folder, line), b"error: ")
             if wrong or any(Path(folder).iterdir()):
                 return Outcome(f"{line}: {wrong or 'a file was made'}")
-        return Outcome(refused_words(start(programs, folder, "--frob"), b"error: unexpected argument '--frob' found\n"))
+        return Outcome(wrong_refusal(start(programs, folder, "--frob"), b"error: unexpected argument '--frob' found\n"))
 
 
-def no_text(programs: Programs) -> Outcome:
-    """Starts sessions with a word that is no UTF-8 text, which is refused wherever it stands."""
+def refuse_bytes(programs: Programs) -> Outcome:
+    """Starts sessions with a word that is no UTF-8 text. It is refused at every place."""
     for words in ([b"\xff"], [b"--help", b"\xff"], [b"--disk", b"a\xff"]):
         ran = run([programs.store, *words], TEXT)
         wrong = differs(ran, 2, b"", b"error: a word of the command line is no text\n") or (f"it read {ran.read} bytes" if ran.read else None)
@@ -189,24 +190,24 @@ def no_text(programs: Programs) -> Outcome:
     return Outcome()
 
 
-def shown_help(programs: Programs) -> Outcome:
-    """Asks for help, which says what it has to. Nothing was read."""
+def show_help(programs: Programs) -> Outcome:
+    """Checks that the help contains what it has to, and that the session reads no input."""
     with new_folder() as folder:
         texts = [start(programs, folder, line) for line in ASK_FOR_HELP]
     for line, ran in zip(ASK_FOR_HELP, texts):
         missing = [text for text in HELP if text not in ran.out]
         if ran.status or ran.err or ran.read or missing or ran.out != texts[0].out:
-            return Outcome(f"{line}: {ran.reported()}, and read {ran.read} bytes, without {missing}")
+            return Outcome(f"{line}: {ran.describe()}, and read {ran.read} bytes, without {missing}")
     return Outcome()
 
 
 def cases(programs: Programs) -> list[Case]:
     return [
-        Case("the settings that are given", settings, (programs,)),
-        Case("settings out of range", out_of_range, (programs,)),
-        Case("the crew that is given", crews, (programs,)),
-        *(Case(f"the file that is given, {row[0] or 'no word'}", file, (programs, *row)) for row in FILES),
-        Case("what is no command line", refused, (programs,)),
-        Case("a word that is no text", no_text, (programs,)),
-        Case("help where it is asked for", shown_help, (programs,)),
+        Case("the settings that are given", check_settings, (programs,)),
+        Case("settings out of range", refuse_settings, (programs,)),
+        Case("the crew that is given", check_crews, (programs,)),
+        *(Case(f"the file that is given, {row[0] or 'no word'}", find_file, (programs, *row)) for row in FILES),
+        Case("what is no command line", refuse_words, (programs,)),
+        Case("a word that is no text", refuse_bytes, (programs,)),
+        Case("help where it is asked for", show_help, (programs,)),
     ]

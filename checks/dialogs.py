@@ -1,62 +1,18 @@
-"""Sessions over a pipe: each answer is seen before the next line is sent, and lines that are bad, pipes that are closed, kills, and a stream that goes on for long."""
+"""Sessions over a pipe: the answers to a line arrive before the next line is sent; bad lines, closed pipes, kills, and a stream that goes on for
+long."""
 
 import random
-import select
-import subprocess
 from pathlib import Path
 
-from checks.harness import PATIENCE, Case, Outcome, Programs, most_memory, new_folder
+from tools.cases import SMALL_STORE, Case, Outcome, Programs
+from tools.processes import PATIENCE, Dialog, new_folder, peak_memory
 
-SMALL = ("--fan=4", "--chain=2", "--max-key=16", "--max-value=16", "--seg-size=256", "--segments=4")
 LONG = 20_000  # batches of a long stream
-MEMORY = 40_000_000  # bytes that it may take
+MEMORY = 40_000_000  # bytes that a long stream may take
 KILLS = 12
 
 
-class Dialog:
-    """A session that is sent lines, and answers while it runs."""
-
-    def __init__(self, programs: Programs, *words: object):
-        pipe = subprocess.PIPE
-        command = [programs.store, "--stream", *map(str, words)]
-        self.process = subprocess.Popen(command, stdin=pipe, stdout=pipe, stderr=pipe, bufsize=0)
-        self.read = b""
-
-    def send(self, text: bytes) -> None:
-        rest = memoryview(text)
-        while rest:
-            rest = rest[self.process.stdin.write(rest) :]
-
-    def line(self) -> bytes:
-        """The next line that it answers, or what there is of it once it has ended or kept silent for long."""
-        while b"\n" not in self.read:
-            if not select.select([self.process.stdout], [], [], PATIENCE)[0]:
-                break
-            more = self.process.stdout.read(65_536)
-            if not more:
-                break
-            self.read += more
-        line, feed, self.read = self.read.partition(b"\n")
-        return line + feed
-
-    def is_silent(self) -> bool:
-        """Whether it has answered nothing more for a while."""
-        return not self.read and not select.select([self.process.stdout], [], [], 0.1)[0]
-
-    def end(self) -> tuple[int, bytes, bytes]:
-        """How it ends once no line comes any more."""
-        self.process.stdin.close()
-        out, err = self.read + self.process.stdout.read(), self.process.stderr.read()
-        return self.process.wait(PATIENCE), out, err
-
-    def kill(self) -> None:
-        self.process.kill()
-        self.process.wait(PATIENCE)
-        for stream in (self.process.stdin, self.process.stdout, self.process.stderr):
-            stream.close()
-
-
-# Lines that are sent at a time, and what is answered to them.
+# Lines that are sent at a time, and the answers to them.
 TALK = [
     (b"put a 1\ngo\n", b"new\n"),
     (b"get a\nget b\r\ngo\r\n", b"value 1\nmissing\n"),
@@ -70,25 +26,25 @@ TALK = [
 ]
 
 
-def talk(programs: Programs) -> Outcome:
-    """Sends lines, and wants just their answers before it sends the next ones; at the end a line without its end."""
-    dialog = Dialog(programs)
+def check_answers(programs: Programs) -> Outcome:
+    """Sends lines, and expects their answers and nothing else before it sends the next ones. The last line has no line feed."""
+    dialog = Dialog(programs.store)
     for text, answers in TALK:
         dialog.send(text)
         for answer in answers.splitlines(keepends=True):
-            got = dialog.line()
+            got = dialog.read_line()
             if got != answer:
                 dialog.kill()
-                return Outcome(f"{text!r} was answered by {got!r} for {answer!r}")
+                return Outcome(f"the answer to {text!r} is {got!r}, where {answer!r} was expected")
         if not dialog.is_silent():
             dialog.kill()
-            return Outcome(f"{text!r} was answered by more than {answers!r}")
+            return Outcome(f"the answer to {text!r} is longer than {answers!r}")
     dialog.send(b"del a\nget a")
-    ended = dialog.end()
-    return Outcome(None if ended == (0, b"deleted\nmissing\n", b"") else f"it ended so: {ended}")
+    ended = dialog.finish()
+    return Outcome(None if ended == (0, b"deleted\nmissing\n", b"") else f"the session ended with {ended}")
 
 
-# What is sent, what the session answers, and how it ends while its input stays open.
+# The words, the lines, the answers, and how the session ends although its input stays open.
 STOPS = [
     ((), b"put a 1\ngo\nput b 1\nfrob\nget a\ngo\n", b"new\n", (3, b"line 4: unknown command\n")),
     (("--max-key=1",), b"put a 1\ngo\nget a\nput ab 1\ngo\nget a\ngo\n", b"new\n", (4, b"fault 2 KeyTooLong 1\n")),
@@ -97,84 +53,83 @@ STOPS = [
 
 
 def stop(programs: Programs, number: int) -> Outcome:
-    """A session ends at a bad line and at a refused batch though its input stays open."""
+    """Checks that a session ends at a bad line and at a refused batch even if its input stays open."""
     words, text, out, ended = STOPS[number]
-    dialog = Dialog(programs, *words)
+    dialog = Dialog(programs.store, *words)
     dialog.send(text)
     status = dialog.process.wait(PATIENCE)
-    got = dialog.end()
-    return Outcome(None if got == (status, out, ended[1]) and status == ended[0] else f"{text!r} ended so: {got}")
+    got = dialog.finish()
+    return Outcome(None if got == (status, out, ended[1]) and status == ended[0] else f"after {text!r} the session ended with {got}")
 
 
-def close(programs: Programs) -> Outcome:
-    """The pipe of the answers is closed while a session waits for a line."""
-    dialog = Dialog(programs)
+def close_answers(programs: Programs) -> Outcome:
+    """Closes the pipe of the answers while a session waits for a line."""
+    dialog = Dialog(programs.store)
     dialog.send(b"put a 1\ngo\n")
-    first = dialog.line()
-    dialog.process.stdout.close()
+    first = dialog.read_line()
+    dialog.output.close()
     dialog.send(b"get a\ngo\n")
-    status, err = dialog.process.wait(PATIENCE), dialog.process.stderr.read()
-    dialog.process.stdin.close()
+    status, err = dialog.finish_unread()
     return Outcome(None if (first, status, err) == (b"new\n", 4, b"fault 9 Device\n") else f"{first!r}, status {status}, {err!r}")
 
 
-def go_on(programs: Programs) -> Outcome:
-    """Many small batches take no more memory than few, and many flushes of a small log need no clean by hand."""
+def run_long_stream(programs: Programs) -> Outcome:
+    """Runs many small batches, which take no more memory than few, and many flushes of a small log, which need no order to clean it."""
     with new_folder() as folder:
-        dialog = Dialog(programs, "--disk", Path(folder) / "file", "--create", "--clean-when-full", *SMALL)
+        dialog = Dialog(programs.store, "--disk", Path(folder) / "file", "--create", "--clean-when-full", *SMALL_STORE)
         cleans = 0
         for number in range(LONG):
             dialog.send(b"put k%d v%d\n%s\n" % (number % 5, number, b"flush" if number % 10 == 9 else b"go"))
-            answers = [dialog.line()]
+            answers = [dialog.read_line()]
             while number % 10 == 9 and not answers[-1].startswith(b"flushed ") and len(answers) < 9:
-                answers.append(dialog.line())
+                answers.append(dialog.read_line())
             cleans += sum(answer.startswith(b"cleaned ") for answer in answers)
             if answers[0] not in (b"new\n", b"replaced\n") or len(answers) == 9:
                 dialog.kill()
-                return Outcome(f"batch {number} was answered by {answers}")
-        memory = most_memory(dialog.process.pid, programs.store.name)
-        ended = dialog.end()
-        wrong = None if ended == (0, b"", b"") and cleans > 100 and memory < MEMORY else f"{cleans} cleans, {memory} bytes, and it ended so: {ended}"
-        return Outcome(wrong)
+                return Outcome(f"the answers to batch {number} are {answers}")
+        memory = peak_memory(dialog.process.pid, programs.store.name)
+        ended = dialog.finish()
+        is_right = ended == (0, b"", b"") and cleans > 100 and memory < MEMORY
+        return Outcome(None if is_right else f"{cleans} cleans, {memory} bytes, and the session ended with {ended}")
 
 
 def kill(programs: Programs, seed: int) -> Outcome:
-    """Kills sessions between batches, and wants in the next one what the last flush reported."""
+    """Kills sessions between batches. The next one has to find the pairs of the last flush that was reported."""
     chance = random.Random(seed)
     with new_folder() as folder:
-        path, flushed = Path(folder) / "file", {}
-        Dialog(programs, "--disk", path, "--create", *SMALL).end()
+        path, flushed = Path(folder) / "file", dict[bytes, bytes]()
+        Dialog(programs.store, "--disk", path, "--create", *SMALL_STORE).finish()
         for turn in range(KILLS):
-            dialog, held = Dialog(programs, "--disk", path, "--clean-when-full"), dict(flushed)
+            dialog, held = Dialog(programs.store, "--disk", path, "--clean-when-full"), dict(flushed)
             for number in range(chance.randrange(1, 30)):
                 key, value = b"k%d" % chance.randrange(9), b"%d.%d" % (turn, number)
                 is_flush = chance.random() < 0.4
                 dialog.send(b"put %s %s\n%s\n" % (key, value, b"flush" if is_flush else b"go"))
                 held[key] = value
-                while (answer := dialog.line()) and is_flush and not answer.startswith(b"flushed "):
+                while (answer := dialog.read_line()) and is_flush and not answer.startswith(b"flushed "):
                     pass
                 flushed = dict(held) if is_flush else flushed
             dialog.kill()
-            look = Dialog(programs, "--disk", path)
-            look.send(b"scan % * 99\n")
-            status, out, err = look.end()
-            rows = dict(line.split(b" ") for line in out.splitlines()[1:])
+            reader = Dialog(programs.store, "--disk", path)
+            reader.send(b"scan % * 99\n")
+            status, out, err = reader.finish()
+            rows = {key: value for key, value in (line.split(b" ") for line in out.splitlines()[1:])}
             if (status, rows, err) != (0, flushed, b""):
-                return Outcome(f"after kill {turn} of seed {seed} the file held {rows} for {flushed}; status {status}, {err!r}")
+                return Outcome(f"after kill {turn} of seed {seed} the file held {rows}, where {flushed} was expected; status {status}, {err!r}")
     return Outcome(None)
 
 
-def hold(programs: Programs) -> Outcome:
-    """A session over a pipe holds its file alone, though no line of it has come yet; a killed one lets go of it."""
+def lock(programs: Programs) -> Outcome:
+    """Checks that a session over a pipe locks its file before it has read a line, and that the lock is gone after a kill."""
     with new_folder() as folder:
         path = Path(folder) / "file"
-        Dialog(programs, "--disk", path, "--create").end()
-        dialog = Dialog(programs, "--disk", path)
+        Dialog(programs.store, "--disk", path, "--create").finish()
+        dialog = Dialog(programs.store, "--disk", path)
         dialog.send(b"verify\n")
-        first = dialog.line()
-        second = Dialog(programs, "--disk", path).end()
+        first = dialog.read_line()
+        second = Dialog(programs.store, "--disk", path).finish()
         dialog.kill()
-        third = Dialog(programs, "--disk", path).end()
+        third = Dialog(programs.store, "--disk", path).finish()
         right = (b"ok 1 1 0\n", (4, b"", b"fault 9 Device\n"), (0, b"", b""))
         return Outcome(None if (first, second, third) == right else f"{first!r}, then {second}, then {third}")
 
@@ -183,10 +138,10 @@ def cases(programs: Programs) -> list[Case]:
     stops = [Case(f"what stops a session over a pipe, {number}", stop, (programs, number)) for number in range(len(STOPS))]
     kills = [Case(f"kills of sessions over a pipe, seed {seed}", kill, (programs, seed)) for seed in range(4)]
     return [
-        Case("a session over a pipe that goes on for long", go_on, (programs,)),
+        Case("a session over a pipe that goes on for long", run_long_stream, (programs,)),
         *kills,
-        Case("answers before the next line", talk, (programs,)),
-        Case("a session over a pipe holds its file", hold, (programs,)),
-        Case("a pipe that is closed", close, (programs,)),
+        Case("answers before the next line", check_answers, (programs,)),
+        Case("a session over a pipe holds its file", lock, (programs,)),
+        Case("a pipe that is closed", close_answers, (programs,)),
         *stops,
     ]

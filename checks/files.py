@@ -1,4 +1,4 @@
-"""Sessions on files: several at once on one, files that can't be written, and files that can't be made."""
+"""Sessions on files: several at once on one file, files that cannot be written, and files that cannot be made."""
 
 import contextlib
 import os
@@ -6,11 +6,11 @@ import shutil
 import subprocess
 import tempfile
 from collections.abc import Iterator
-from dataclasses import dataclass
 from pathlib import Path
 
-from checks.harness import PATIENCE, Case, Limits, Outcome, Programs, Ran, differs, new_folder, run
-from checks.rules import LOOK, look_of
+from tools.answers import READ_ALL, answer_to_read_all, rows_of
+from tools.cases import Case, Outcome, Programs, differs
+from tools.processes import Limits, RunResult, new_folder, run, stalled, start
 
 FAULT = "fault 9 Device"
 NOBODY = 65534  # the user that owns no file
@@ -24,7 +24,7 @@ Pairs = dict[bytes, bytes]
 
 
 def changes(writer: int, time: int) -> list[tuple[bytes, bytes]]:
-    """What a session puts, each with a flush; its keys are its own."""
+    """Returns what a session puts, each with a flush. No other session has these keys."""
     return [(b"w%d.%d" % (writer, number % KEYS), b"%d.%d" % (time, number)) for number in range(CHANGES)]
 
 
@@ -32,67 +32,46 @@ def batch_file(puts: list[tuple[bytes, bytes]]) -> bytes:
     return b"".join(b"put %s %s\nflush\n" % put for put in puts)
 
 
-def shown(pairs: Pairs) -> bytes:
-    """The lines of a scan of all pairs."""
-    return look_of(sorted(pairs.items()), 0, 0).rsplit(b"ok", 1)[0]
+def rows(pairs: Pairs) -> bytes:
+    """Returns the answer to a scan of all pairs."""
+    return rows_of(sorted(pairs.items()))
 
 
 def make(programs: Programs, path: Path, text: bytes, *words: str) -> None:
     made = run([programs.store, "--disk", path, "--create", *words], text)
     if made.status:
-        raise ValueError(f"the file was not made: {made.reported()}")
+        raise ValueError(f"the file was not made: {made.describe()}")
 
 
-@dataclass(frozen=True)
-class Started:
-    """A session that runs beside others, and the files of what it prints and says."""
-
-    child: subprocess.Popen
-    out: Path
-    err: Path
-
-    def end(self) -> Ran:
-        return Ran(self.child.wait(PATIENCE), self.out.read_bytes(), self.err.read_bytes(), 0.0, 0)
-
-
-def start(command: list, text: bytes, folder: Path) -> Started:
-    """Starts a session on this batch file, with its files in a new folder."""
-    folder.mkdir()
-    source, out, err = (folder / name for name in ("source", "out", "err"))
-    source.write_bytes(text)
-    with open(source, "rb") as stdin, open(out, "wb") as stdout, open(err, "wb") as stderr:
-        return Started(subprocess.Popen(command, stdin=stdin, stdout=stdout, stderr=stderr, env={}), out, err)
-
-
-def after_writer(ran: Ran, puts: list[tuple[bytes, bytes]], pairs: Pairs) -> tuple[Pairs, str | None]:
-    """The pairs after a session that writes, and what is wrong with how it ended: it did all, or was refused and did nothing."""
+def after_writer(ran: RunResult, puts: list[tuple[bytes, bytes]], pairs: Pairs) -> tuple[Pairs, str | None]:
+    """Returns the pairs after a session that writes, and what is wrong with its ending. It has to do all, or to be refused and do nothing."""
     if ran.is_fault(FAULT) and not ran.out:
         return pairs, None
     lines = ran.out.splitlines()
     is_reported = len(lines) == 2 * len(puts) and all(line.startswith(b"flushed ") for line in lines[1::2])
     if ran.status or ran.err or not is_reported:
-        return pairs, f"a session that writes ended with {ran.reported()}"
+        return pairs, f"a session that writes ended with {ran.describe()}"
     return pairs | dict(puts), None
 
 
-def after_readers(readers: list[Ran], seen: list[Pairs]) -> str | None:
-    """What is wrong with what the readers printed: it has to be the pairs at some moment, or nothing where they were refused."""
+def after_readers(readers: list[RunResult], moments: list[Pairs]) -> str | None:
+    """Returns what is wrong with the answers of sessions that read. Each has to print the pairs of one moment, or to be refused and print nothing."""
     for ran in readers:
         is_refused = ran.is_fault(FAULT) and not ran.out
-        is_right = ran.status == 0 and any(ran.out == shown(pairs) for pairs in seen)
+        is_right = ran.status == 0 and any(ran.out == rows(pairs) for pairs in moments)
         if not is_refused and not is_right:
-            return f"a session that reads ended with {ran.reported()}"
+            return f"a session that reads ended with {ran.describe()}"
     return None
 
 
 def run_together(programs: Programs, path: Path, time: int, pairs: Pairs) -> tuple[Pairs, int, str | None]:
-    """Starts two sessions that write and two that read. The pairs after it, how many were refused, and what is wrong."""
+    """Starts two sessions that write and two that read. Returns the pairs after them, how many sessions were refused, and what is wrong."""
     first, second = changes(0, time), changes(1, time)
     texts = [batch_file(first), SCAN, batch_file(second), SCAN]
     with tempfile.TemporaryDirectory(dir=path.parent) as folder:
         places = range(4) if time % 2 else reversed(range(4))
         started = {at: start([programs.store, "--disk", path], texts[at], Path(folder) / str(at)) for at in places}
-        ends = [started[at].end() for at in range(4)]
+        ends = [started[at].wait() for at in range(4)]
     one, wrong = after_writer(ends[0], first, pairs)
     other, also_wrong = after_writer(ends[2], second, pairs)
     both, _ = after_writer(ends[2], second, one)
@@ -100,8 +79,8 @@ def run_together(programs: Programs, path: Path, time: int, pairs: Pairs) -> tup
     return both, sum(ran.is_fault(FAULT) for ran in ends), wrong
 
 
-def run_at_once(programs: Programs, group: int) -> Outcome:
-    """Starts sessions together again and again on one file, and looks at it after each time."""
+def run_together_often(programs: Programs, group: int) -> Outcome:
+    """Starts sessions together again and again on one file, and reads the file after each time."""
     pairs, refused = {b"first": b"1"}, 0
     with new_folder() as folder:
         path = Path(folder) / "file"
@@ -109,63 +88,51 @@ def run_at_once(programs: Programs, group: int) -> Outcome:
         for time in range(TIMES // GROUPS):
             pairs, more, wrong = run_together(programs, path, time, pairs)
             refused += more
-            ran = run([programs.store, "--disk", path], LOOK)
-            wrong = wrong or (None if ran.status == 0 and ran.out.startswith(shown(pairs)) else f"the file has {ran.reported()}")
+            ran = run([programs.store, "--disk", path], READ_ALL)
+            wrong = wrong or (None if ran.status == 0 and ran.out.startswith(rows(pairs)) else f"the file has {ran.describe()}")
             if wrong:
                 return Outcome(f"time {time} of group {group}: {wrong}")
     return Outcome(measured=f"{refused} of {TIMES // GROUPS * 4} sessions refused")
-
-
-@contextlib.contextmanager
-def holding(programs: Programs, path: Path, text: bytes) -> Iterator[subprocess.Popen]:
-    """A session that has the file open and stands still, since nobody reads what it prints."""
-    with subprocess.Popen([programs.store, "--disk", path], stdin=subprocess.PIPE, stdout=subprocess.PIPE, env={}) as child:
-        child.stdin.write(text)
-        child.stdin.close()
-        child.stdout.read(1)
-        try:
-            yield child
-        finally:
-            child.kill()
 
 
 MUCH = b"get x\ngo\n" * 60_000  # more replies than a pipe holds
 
 
 def run_beside(programs: Programs, text: bytes, is_shared: bool) -> Outcome:
-    """Starts sessions beside one that holds the file, or that shares it, and once more after that was killed."""
-    sessions = {LOOK: is_shared, b"put b 2\nflush\n": False, b"clean\n": False, b"upgrade\n": False}
+    """Starts sessions beside one that has locked the file, or that shares it, and one after that was killed."""
+    sessions = {READ_ALL: is_shared, b"put b 2\nflush\n": False, b"clean\n": False, b"upgrade\n": False}
     with new_folder() as folder:
         path = Path(folder) / "file"
         make(programs, path, b"put a 1\nflush\n")
-        with holding(programs, path, text + MUCH):
+        with stalled([programs.store, "--disk", path], text + MUCH):
             before = path.read_bytes()
             for session, is_let in sessions.items():
                 ran = run([programs.store, "--disk", path], session)
-                wrong = differs(ran, 0, look_of([(b"a", b"1")], 1, 1)) if is_let else differs(ran, 4, b"", f"{FAULT}\n".encode())
+                wrong = differs(ran, 0, answer_to_read_all([(b"a", b"1")], 1, 1)) if is_let else differs(ran, 4, b"", f"{FAULT}\n".encode())
                 if wrong:
                     return Outcome(f"beside it {session!r}: {wrong}")
             wrong = differs(run([programs.store, "--disk", path, "--create"], b""), 4, b"", f"{FAULT}\n".encode())
             if wrong or path.read_bytes() != before:
                 return Outcome(f"--create beside it: {wrong or 'the file has other bytes'}")
         ran = run([programs.store, "--disk", path], b"put b 2\nget a\nflush\n")
-        return Outcome(None if ran.out.startswith(b"new\nvalue 1\nflushed ") else f"after it was killed: {ran.reported()}")
+        return Outcome(None if ran.out.startswith(b"new\nvalue 1\nflushed ") else f"after it was killed: {ran.describe()}")
 
 
 def as_nobody() -> list[str] | None:
-    """The words that start a program as another user, where this one may write to all files; none where it may not; nothing where it can't be."""
+    """Returns the words that start a program as a user who may not write to all files: none if this user may not, None if it cannot be done."""
     if os.geteuid():
         return []
-    words = ["setpriv", f"--reuid={NOBODY}", f"--regid={NOBODY}", "--clear-groups"]
-    if shutil.which(words[0]) is None or subprocess.run([*words, "true"], capture_output=True).returncode:
+    setpriv = shutil.which("setpriv")
+    if setpriv is None:
         return None
-    return [shutil.which(words[0]), *words[1:]]
+    words = [setpriv, f"--reuid={NOBODY}", f"--regid={NOBODY}", "--clear-groups"]
+    return None if subprocess.run([*words, "true"], capture_output=True).returncode else words
 
 
 def read_only(programs: Programs) -> Outcome:
-    """A file that may only be read is read and verified, and isn't written."""
-    start = as_nobody()
-    if start is None:
+    """Checks that a file that may only be read is read and verified, and not written."""
+    user = as_nobody()
+    if user is None:
         return Outcome(left_out="no program can be started as another user here")
     with new_folder() as folder:
         path, program = Path(folder) / "file", Path(folder) / "program"
@@ -175,12 +142,12 @@ def read_only(programs: Programs) -> Outcome:
         path.chmod(0o444)
         Path(folder).chmod(0o555)
         before = path.read_bytes()
-        read = run([*start, program, "--disk", path], LOOK)
-        written = run([*start, program, "--disk", path], b"put b 2\nflush\n")
-        made = run([*start, program, "--disk", path, "--create"], b"")
+        read = run([*user, program, "--disk", path], READ_ALL)
+        written = run([*user, program, "--disk", path], b"put b 2\nflush\n")
+        made = run([*user, program, "--disk", path, "--create"], b"")
         Path(folder).chmod(0o755)
         refused = (4, b"", f"{FAULT}\n".encode())
-        wrong = differs(read, 0, look_of([(b"a", b"1")], 1, 1)) or differs(written, *refused) or differs(made, *refused)
+        wrong = differs(read, 0, answer_to_read_all([(b"a", b"1")], 1, 1)) or differs(written, *refused) or differs(made, *refused)
         return Outcome(wrong or (None if path.read_bytes() == before else "the file was written"))
 
 
@@ -188,8 +155,9 @@ OLD = [("an empty file", 0), ("a short file", 100), ("a file of the same length"
 BLOCKS = 256  # of 512 bytes: fewer than a store of the default length takes
 
 
-def create_in_vain(programs: Programs, length: int | None) -> Outcome:
-    """A file that can't be made, since none may be so long, leaves what stood there, of whatever length; without one, at most an empty one."""
+def fail_to_create(programs: Programs, length: int | None) -> Outcome:
+    """Fails to make a store since no file may be so long. An old file of any length keeps its bytes; where there was none, at most an empty one
+    remains."""
     with new_folder() as folder:
         path = Path(folder) / "file"
         before = b"" if length is None else b"\xa5" * length
@@ -203,10 +171,10 @@ def create_in_vain(programs: Programs, length: int | None) -> Outcome:
 
 @contextlib.contextmanager
 def small_device(size: int) -> Iterator[Path | None]:
-    """A file system in memory with this many bytes; none where none may be mounted."""
+    """Mounts a file system in memory with this many bytes, and yields its folder; yields None if none may be mounted."""
     with new_folder() as folder:
         mount = ["mount", "-t", "tmpfs", "-o", f"size={size}", "tmpfs", folder]
-        is_mounted = shutil.which("mount") and subprocess.run(mount, capture_output=True).returncode == 0
+        is_mounted = bool(shutil.which("mount")) and subprocess.run(mount, capture_output=True).returncode == 0
         try:
             yield Path(folder) if is_mounted else None
         finally:
@@ -222,7 +190,7 @@ def fill(path: Path) -> None:
 
 
 def full_device(programs: Programs) -> Outcome:
-    """On a full device a new file isn't made, and a flush is refused; what was flushed before comes back."""
+    """Checks that on a full device no file is made and a flush is refused, and that the pairs of the flush before it are recovered."""
     refused = f"{FAULT}\n".encode()
     with small_device(1 << 20) as folder:
         if folder is None:
@@ -233,18 +201,18 @@ def full_device(programs: Programs) -> Outcome:
         made = run([programs.store, "--create", "--disk", new], b"put a 1\nflush\n")
         many = b"".join(b"put k%d %s\n" % (number, b"v" * 200) for number in range(1_000)) + b"flush\n"
         full = run([programs.store, "--disk", path], many)
-        back = run([programs.store, "--disk", path], LOOK)
+        back = run([programs.store, "--disk", path], READ_ALL)
         wrong = differs(made, 4, b"", refused) or differs(full, 4, b"new\n" * 1_000, refused)
-        return Outcome(wrong or differs(back, 0, look_of([(b"a", b"1")], 1, 1)))
+        return Outcome(wrong or differs(back, 0, answer_to_read_all([(b"a", b"1")], 1, 1)))
 
 
 def cases(programs: Programs) -> list[Case]:
     lengths = [("no file", None), *OLD]
     return [
-        *[Case(f"two sessions at once, {TIMES // GROUPS} times, {group}", run_at_once, (programs, group)) for group in range(1, GROUPS + 1)],
+        *[Case(f"two sessions at once, {TIMES // GROUPS} times, {group}", run_together_often, (programs, group)) for group in range(1, GROUPS + 1)],
         Case("sessions beside one that writes", run_beside, (programs, b"flush\n", False)),
         Case("sessions beside one that reads", run_beside, (programs, b"", True)),
         Case("a file that may only be read", read_only, (programs,)),
-        *[Case(f"--create in vain over {name}", create_in_vain, (programs, length)) for name, length in lengths],
+        *[Case(f"--create in vain over {name}", fail_to_create, (programs, length)) for name, length in lengths],
         Case("a full device", full_device, (programs,)),
     ]

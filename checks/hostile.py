@@ -1,4 +1,5 @@
-"""Disks that someone has made to do harm, each looked at under a small stack: the answer must be the right one, and cost no more than their size."""
+"""Files that are made to do harm, each read with a small stack: the answer must be right, and take no more time and memory than the file's size
+gives."""
 
 import random
 from collections.abc import Callable
@@ -6,45 +7,47 @@ from dataclasses import dataclass, replace
 from itertools import islice
 from pathlib import Path
 
-from checks.files import holding
-from checks.forge import HEADER, Settings, counted, delta_index, delta_leaf, disk_of, fitting_disk, frame, free, full_index, full_leaf
-from checks.forge import shared_index, shared_leaf
-from checks.harness import MEGABYTE, SLOW, Case, Limits, Outcome, Programs, Ran, differs, most_memory, new_folder, run
-from checks.ids import colliding_ids
-from checks.rules import LOOK, ending_of, look_of, settings_of, slot_of
+from tools.answers import READ_ALL, Ending, answer_to_read_all, ending_of_read_all
+from tools.cases import SLOW, Case, Outcome, Programs, differs
+from tools.log.colliding_ids import colliding_ids
+from tools.log.reading import read_settings, read_slot
+from tools.log.writing import HEADER, Settings, counted, delta_index, delta_leaf, disk_of, fitting_disk, frame, free, full_index, full_leaf
+from tools.log.writing import shared_index, shared_leaf
+from tools.processes import MEGABYTE, Command, Limits, RunResult, new_folder, peak_memory, run, stalled
 
 DEEP = 200_000  # runs of a page
 RUN = 80  # bytes that a run takes in its page
-ROOM = 262_144 * RUN  # what such a page takes by itself, since its room doubles from 16 on
+ROOM = 262_144 * RUN  # bytes that such a page takes, since its capacity doubles from 16 on
 MANY = 100_000  # free frames
 LEAVES = 61_680  # empty leaves, a mebibyte of their frames
-SLOT, SLOTS = 256, 65_536  # bytes that a page takes in its table, and how many of them have room in that of these leaves, which doubles
-TIMES = 10  # the most memory that a disk may take beyond what its pages take, by its own length
+SLOT, SLOTS = 256, 65_536  # bytes that a page takes in the page table, and the capacity of the table of these leaves, which doubles
+TIMES = 10  # the most memory that a file may take beside its pages, in times its length
 LEVELS = 64  # the most that a tree may have
-CLIMBING = 88  # KB of stack, of the 96 that are enough for a tree of that many, since a change goes up by calls: see the harness
+CLIMBING = 88  # KB of stack. 96 are enough for a tree of 64 levels, which are recursive calls; the system may leave out 8
 DAMAGED, PARTS = 400, 8
-WIDE = Settings(fan=64, max_key=255)  # where keys that share beginnings are longest beside the bytes that spell them
+WIDE = Settings(fan=64, max_key=255)  # with which keys that share beginnings are longest in comparison with their encoding
 KEYS, LONGEST = 64, 255  # such keys of a base, and their bytes
-SLOWER, LEAST = 2, 0.05  # how many times slower a log of such bases may be read than one of whole keys, and seconds that are let pass at all
+SLOWER, LEAST = 2, 0.05  # how many times slower than one of whole keys a log of such bases may be read, and seconds that it may take in any case
 
 EMPTY = full_leaf(0, b"", {})
 ONE_PAIR = full_leaf(0, b"", {b"a": b"1"})
 SHARED_PAIR = shared_leaf(0, b"", {b"a": b"1"})
-LONG_KEYS = 60 * MEGABYTE  # what a megabyte of bases takes whose keys are longest, since each is kept whole
+LONG_KEYS = 60 * MEGABYTE  # what a megabyte of bases with the longest keys takes in memory, where each key is whole
 TOO_DEEP = b"fault 16 BadStructure 7 %d\n"  # rule 7: the depth is above chain
 NO_STORE = (4, b"", b"fault 12 NotAStore\n")
+LOST_PAGE = (4, b"", b"fault 16 BadStructure 10 1\n")  # rule 10: the tree does not reach the page
 
 
 @dataclass(frozen=True)
-class Disk:
-    """A disk, and how a session that looks at it must end, print and say. One that is a store is cleaned too, and upgraded."""
+class HostileDisk:
+    """The bytes of a file, and how a session must end that reads all of it. If it is a store, the file is cleaned and upgraded too."""
 
     name: str
-    made: Callable[[], bytes]
-    ending: tuple[int, bytes, bytes]
+    make: Callable[[], bytes]
+    ending: Ending
     words: tuple[str, ...] = ()
     is_store: bool = False
-    pages: int = 0  # bytes of memory that its pages take by themselves
+    pages: int = 0  # bytes of memory that its pages take
 
 
 def deep_leaf() -> bytes:
@@ -58,14 +61,14 @@ def deep_index() -> bytes:
 
 
 def deep_leaves() -> bytes:
-    """Eight leaves, each with a part of the runs, which stand in turn."""
+    """Makes eight leaves, each with a part of the runs, which alternate in the log."""
     lows = {bytes([ord("a") + pid]) if pid else b"": pid for pid in range(8)}
     bases = [full_leaf(pid, low, {}) for low, pid in lows.items()]
     runs = [delta_leaf(pid, {low: None}) for low, pid in lows.items()]
     return fitting_disk([*bases, full_index(8, b"", lows), *runs * (DEEP // 8)], root=8, height=2)
 
 
-def whole_again() -> bytes:
+def whole_after_runs() -> bytes:
     return fitting_disk([EMPTY, *[delta_leaf(0, {b"b": None})] * DEEP, ONE_PAIR])
 
 
@@ -82,17 +85,17 @@ def rising() -> bytes:
 
 
 def empty_leaves() -> bytes:
-    """Leaves without a pair that no tree reaches."""
+    """Makes leaves without a pair that the tree does not reach."""
     return fitting_disk([ONE_PAIR, *[full_leaf(pid, b"", {}) for pid in range(1, LEAVES + 1)]])
 
 
 def colliding_runs() -> bytes:
-    """Runs without a base, as a clean leaves them, of as many pages."""
+    """Makes runs without a base, as a clean leaves them, of many pages."""
     return fitting_disk([ONE_PAIR, *[delta_leaf(pid, {b"": None}) for pid in islice(colliding_ids(), MANY) if pid != 0]])
 
 
 def tall_tree() -> bytes:
-    """A tree of as many levels as there may be, of two pages each under the root."""
+    """Makes a tree of as many levels as there may be, of two pages each under the root."""
     left, right = 0, 1
     frames = [full_leaf(left, b"", {b"a": b"1"}), full_leaf(right, b"c", {b"c": b"3"})]
     for pid in range(2, 2 * (LEVELS - 1), 2):
@@ -103,31 +106,31 @@ def tall_tree() -> bytes:
 
 
 def many_segments() -> bytes:
-    """A log of as many segments as there may be, but for two, each with one frame, since no other fits beside it."""
+    """Makes a log of two segments fewer than there may be, each with one frame, since a second one does not fit."""
     settings = Settings(fan=4, max_key=30, max_value=10, seg_size=256, segments=65_536)
     wide = full_leaf(0, b"", {bytes([key]) * 30: b"v" * 10 for key in range(4)})
     return disk_of(settings, [*[wide] * 65_533, ONE_PAIR])
 
 
 def key_of(number: int, length: int) -> bytes:
-    """A key of this length that differs from others in its last byte alone."""
+    """Returns a key of this length that differs from the others only in its last byte."""
     return b"k" * (length - 1) + bytes([number])
 
 
 def many_bases(leaf: Callable[..., bytes], length: int) -> list[bytes]:
-    """A megabyte of leaves that no tree reaches, with as many keys as may be, of this length and without values."""
+    """Returns a megabyte of leaves that the tree does not reach, with as many keys as there may be, of this length and with empty values."""
     pairs = {key_of(number, length): b"" for number in range(KEYS)}
     count = MEGABYTE // len(leaf(0, b"", pairs))
     return [leaf(pid, b"", pairs) for pid in range(1, count + 1)]
 
 
 def long_keys() -> bytes:
-    """Leaves that take fifty times their frames, since each key shares all but its last byte with the one before."""
+    """Makes leaves that take fifty times the length of their frames, since each key shares all but its last byte with the one before."""
     return fitting_disk([ONE_PAIR, *many_bases(shared_leaf, LONGEST)], version=2, settings=WIDE)
 
 
 def long_keys_again() -> bytes:
-    """As many bases of one page, where the last one alone lives."""
+    """Makes as many bases of one page, of which only the last one is in use."""
     again = many_bases(shared_leaf, LONGEST)
     return fitting_disk([again[0]] * len(again) + [shared_leaf(1, b"", {b"a": b"1"})], root=1, version=2, settings=WIDE)
 
@@ -137,99 +140,99 @@ def byte_short() -> bytes:
 
 
 def last_length() -> bytes:
-    """A frame whose length goes to the end of all numbers."""
+    """Makes a frame with the greatest length that the field can have."""
     return disk_of(Settings(), [ONE_PAIR, b"\2" + b"\xff" * 16])
 
 
-ONE_ROW = (0, look_of([(b"a", b"1")], 1, 1), b"")
-TWO_ROWS = (0, look_of([(b"a", b"1"), (b"c", b"3")], 2 * LEVELS - 1, LEVELS), b"")
+ONE_ROW = (0, answer_to_read_all([(b"a", b"1")], 1, 1), b"")
+TWO_ROWS = (0, answer_to_read_all([(b"a", b"1"), (b"c", b"3")], 2 * LEVELS - 1, LEVELS), b"")
 NO_FRAME = (4, b"", b"fault 15 BadFrame 0 %d\n" % (HEADER + len(ONE_PAIR)))
 
 DISKS = [
-    Disk(f"{DEEP:,} runs of a leaf", deep_leaf, (4, b"", TOO_DEEP % 0), pages=ROOM),
-    Disk(f"{DEEP:,} runs of a leaf, four workers", deep_leaf, (4, b"", TOO_DEEP % 0), ("--workers", "4"), pages=ROOM),
-    Disk(f"{DEEP:,} runs of an index page", deep_index, (4, b"", TOO_DEEP % 2), pages=ROOM),
-    Disk(f"{DEEP:,} runs of eight leaves", deep_leaves, (4, b"", TOO_DEEP % 0), pages=ROOM),
-    Disk(f"a leaf that is whole again after {DEEP:,} runs", whole_again, ONE_ROW, is_store=True),
-    Disk(f"{MANY:,} free frames with colliding ids", colliding, ONE_ROW, is_store=True),
-    Disk(f"{MANY:,} free frames with colliding ids, four workers", colliding, ONE_ROW, ("--workers", "4"), is_store=True),
-    Disk(f"{MANY:,} free frames with rising ids", rising, ONE_ROW, is_store=True),
-    Disk(f"{MANY:,} runs without a base, with colliding ids", colliding_runs, ONE_ROW, is_store=True),
-    Disk(f"{LEAVES:,} empty leaves that no tree reaches", empty_leaves, (4, b"", b"fault 16 BadStructure 10 1\n"), pages=SLOT * SLOTS),
-    Disk(f"{LEAVES:,} empty leaves, four workers", empty_leaves, (4, b"", b"fault 16 BadStructure 10 1\n"), ("--workers", "4"), pages=SLOT * SLOTS),
-    Disk("a log of 65,534 segments", many_segments, ONE_ROW, is_store=True),
-    Disk(f"a tree of {LEVELS} levels", tall_tree, TWO_ROWS),
-    Disk("leaves of long keys that share beginnings", long_keys, (4, b"", b"fault 16 BadStructure 10 1\n"), pages=LONG_KEYS),
-    Disk("leaves of long keys, four workers", long_keys, (4, b"", b"fault 16 BadStructure 10 1\n"), ("--workers", "4"), pages=LONG_KEYS),
-    Disk("a leaf of long keys that is whole again and again", long_keys_again, ONE_ROW, is_store=True),
-    Disk("zeros", lambda: bytes(MEGABYTE), NO_STORE),
-    Disk("bytes 0xff", lambda: b"\xff" * MEGABYTE, NO_STORE),
-    Disk("an empty file", lambda: b"", NO_STORE),
-    Disk("a file of 63 bytes", lambda: Settings().block()[:63], NO_STORE),
-    Disk("a file of a settings block", lambda: Settings().block(), NO_STORE),
-    Disk("a file that is a byte short", byte_short, NO_STORE),
-    Disk("a frame of four gibibytes", last_length, NO_FRAME),
+    HostileDisk(f"{DEEP:,} runs of a leaf", deep_leaf, (4, b"", TOO_DEEP % 0), pages=ROOM),
+    HostileDisk(f"{DEEP:,} runs of a leaf, four workers", deep_leaf, (4, b"", TOO_DEEP % 0), ("--workers", "4"), pages=ROOM),
+    HostileDisk(f"{DEEP:,} runs of an index page", deep_index, (4, b"", TOO_DEEP % 2), pages=ROOM),
+    HostileDisk(f"{DEEP:,} runs of eight leaves", deep_leaves, (4, b"", TOO_DEEP % 0), pages=ROOM),
+    HostileDisk(f"a leaf that is whole again after {DEEP:,} runs", whole_after_runs, ONE_ROW, is_store=True),
+    HostileDisk(f"{MANY:,} free frames with colliding ids", colliding, ONE_ROW, is_store=True),
+    HostileDisk(f"{MANY:,} free frames with colliding ids, four workers", colliding, ONE_ROW, ("--workers", "4"), is_store=True),
+    HostileDisk(f"{MANY:,} free frames with rising ids", rising, ONE_ROW, is_store=True),
+    HostileDisk(f"{MANY:,} runs without a base, with colliding ids", colliding_runs, ONE_ROW, is_store=True),
+    HostileDisk(f"{LEAVES:,} empty leaves that no tree reaches", empty_leaves, (4, b"", b"fault 16 BadStructure 10 1\n"), pages=SLOT * SLOTS),
+    HostileDisk(f"{LEAVES:,} empty leaves, four workers", empty_leaves, LOST_PAGE, ("--workers", "4"), pages=SLOT * SLOTS),
+    HostileDisk("a log of 65,534 segments", many_segments, ONE_ROW, is_store=True),
+    HostileDisk(f"a tree of {LEVELS} levels", tall_tree, TWO_ROWS),
+    HostileDisk("leaves of long keys that share beginnings", long_keys, (4, b"", b"fault 16 BadStructure 10 1\n"), pages=LONG_KEYS),
+    HostileDisk("leaves of long keys, four workers", long_keys, (4, b"", b"fault 16 BadStructure 10 1\n"), ("--workers", "4"), pages=LONG_KEYS),
+    HostileDisk("a leaf of long keys that is whole again and again", long_keys_again, ONE_ROW, is_store=True),
+    HostileDisk("zeros", lambda: bytes(MEGABYTE), NO_STORE),
+    HostileDisk("bytes 0xff", lambda: b"\xff" * MEGABYTE, NO_STORE),
+    HostileDisk("an empty file", lambda: b"", NO_STORE),
+    HostileDisk("a file of 63 bytes", lambda: Settings().block()[:63], NO_STORE),
+    HostileDisk("a file of a settings block", lambda: Settings().block(), NO_STORE),
+    HostileDisk("a file that is a byte short", byte_short, NO_STORE),
+    HostileDisk("a frame of four gibibytes", last_length, NO_FRAME),
 ]
 
 
 def small_memory(programs: Programs, folder: Path) -> int:
-    """What a session on a small store has in use: it stands still, since nobody reads what it prints."""
+    """Returns the peak memory of a session on a small store."""
     path, value = folder / "small", b"v" * 250
     path.write_bytes(disk_of(Settings(), [full_leaf(0, b"", {b"a": value})]))
-    with holding(programs, path, b"get a\n" * 400) as child:
-        return most_memory(child.pid, programs.store.name)
+    with stalled([programs.store, "--disk", path], b"get a\n" * 400) as child:
+        return peak_memory(child.pid, programs.store.name)
 
 
-def too_dear(ran: Ran, least: int, length: int) -> str | None:
-    """Whether a session took more time or memory than the length of its disk gives, beyond the least memory that it takes."""
+def wrong_cost(ran: RunResult, least: int, length: int) -> str | None:
+    """Returns how a session took more time or memory than the length of its file gives, beside `least` bytes of memory."""
     seconds = SLOW * max(1.0, length / MEGABYTE)
     memory = least + TIMES * max(length, MEGABYTE)
     if ran.seconds > seconds:
-        return f"{ran.seconds:.2f} s of the processor, where {seconds:.2f} are the most"
+        return f"{ran.seconds:.2f} s of the processor, where {seconds:.2f} may be taken"
     if ran.memory > memory:
-        return f"{ran.memory / MEGABYTE:.0f} MB, where {memory / MEGABYTE:.0f} are the most"
+        return f"{ran.memory / MEGABYTE:.0f} MB, where {memory / MEGABYTE:.0f} may be taken"
     return None
 
 
-def looked_at(command: list, path: Path, disk: bytes, ending: tuple[int, bytes, bytes]) -> tuple[Ran, str | None]:
-    """How a session that looks at this disk ran, and what is wrong with it; it may not write."""
-    ran = run([*command, "--disk", path], LOOK)
+def read_file(command: Command, path: Path, disk: bytes, ending: Ending) -> tuple[RunResult, str | None]:
+    """Runs a session that reads all of this file. Returns its result, and what is wrong with it. It may not write to the file."""
+    ran = run([*command, "--disk", path], READ_ALL)
     wrong = differs(ran, *ending)
     return ran, wrong or (None if path.read_bytes() == disk else "the session wrote to the file that it only read")
 
 
-def written(command: list, path: Path, line: bytes, printed: bytes, ending: tuple[int, bytes, bytes]) -> tuple[Ran, str | None]:
-    """How a session ran that writes to the disk by this line, and what is wrong with it, or with what the next session sees."""
+def write_file(command: Command, path: Path, line: bytes, answer: bytes, ending: Ending) -> tuple[RunResult, str | None]:
+    """Runs a session that writes to the file by this line. Returns its result, and what is wrong with it, or with what the next session reads."""
     ran = run([*command, "--disk", path], line)
-    return ran, differs(ran, 0, printed) or differs(run([*command, "--disk", path], LOOK), *ending)
+    return ran, differs(ran, 0, answer) or differs(run([*command, "--disk", path], READ_ALL), *ending)
 
 
-def rewritten(made: bytes) -> list[tuple[str, bytes, bytes]]:
-    """What is done to a disk that is a store: what it is called, its line, and what is printed. It was committed once, and cleaned then."""
+def writing_orders(made: bytes) -> list[tuple[str, bytes, bytes]]:
+    """Returns the orders that are run on a file that is a store and was committed once: a name, the line, and the answer."""
     upgrade = ("upgraded", b"upgrade\n", b"upgraded 3\n")
-    return [("cleaned", b"clean\n", b"cleaned 1\n"), *([] if slot_of(made, settings_of(made)).version else [upgrade])]
+    return [("cleaned", b"clean\n", b"cleaned 1\n"), *([] if read_slot(made, read_settings(made)).version else [upgrade])]
 
 
-def look_at(programs: Programs, number: int) -> Outcome:
+def check_disk(programs: Programs, number: int) -> Outcome:
     disk = DISKS[number]
     with new_folder() as folder:
-        path, made = Path(folder) / "disk", disk.made()
+        path, made = Path(folder) / "disk", disk.make()
         least = small_memory(programs, Path(folder))
         path.write_bytes(made)
-        command = [programs.store, *disk.words]
-        ran, wrong = looked_at(command, path, made, disk.ending)
+        command: Command = [programs.store, *disk.words]
+        ran, wrong = read_file(command, path, made, disk.ending)
         measured = f"{len(made) / MEGABYTE:.1f} MB: {ran.seconds:.2f} s, {ran.memory / MEGABYTE:.1f} MB (a small store {least / MEGABYTE:.1f})"
-        wrong = wrong or too_dear(ran, least + disk.pages, len(made))
-        for name, line, printed in rewritten(made) if disk.is_store else []:
+        wrong = wrong or wrong_cost(ran, least + disk.pages, len(made))
+        for name, line, answer in writing_orders(made) if disk.is_store else []:
             if wrong is None:
-                ran, wrong = written(command, path, line, printed, disk.ending)
+                ran, wrong = write_file(command, path, line, answer, disk.ending)
                 measured += f"; {name} in {ran.seconds:.2f} s, {ran.memory / MEGABYTE:.1f} MB"
-                wrong = wrong or too_dear(ran, least + disk.pages, len(made))
+                wrong = wrong or wrong_cost(ran, least + disk.pages, len(made))
         return Outcome(wrong, measured=measured)
 
 
 def climb(programs: Programs, workers: int) -> Outcome:
-    """Whether batches that change both leaves of the tallest tree, and empty them, are answered, and what they left is found again."""
+    """Runs batches that change both leaves of the tallest tree, and empty them, and checks the answers and what the next session reads."""
     keys = [b"%c%d" % (first, number) for first in b"ac" for number in range(8)]
     put = b"".join(b"put %s 1\n" % key for key in keys) + b"go\nscan % * 100\nflush\n"
     rows = b"rows 18\n" + b"".join(b"%s %s\n" % pair for pair in sorted([(b"a", b"1"), (b"c", b"3"), *[(key, b"1") for key in keys]]))
@@ -238,7 +241,7 @@ def climb(programs: Programs, workers: int) -> Outcome:
         path = Path(folder) / "disk"
         path.write_bytes(tall_tree() + bytes(MEGABYTE))
         for text, printed in lines:
-            command = [programs.store, "--disk", path, "--workers", str(workers), "--clean-when-full"]
+            command: Command = [programs.store, "--disk", path, "--workers", str(workers), "--clean-when-full"]
             wrong = differs(run(command, text, Limits(CLIMBING)), 0, printed)
             if wrong:
                 return Outcome(wrong)
@@ -246,18 +249,19 @@ def climb(programs: Programs, workers: int) -> Outcome:
 
 
 def compare_times(programs: Programs) -> Outcome:
-    """Whether a megabyte of bases whose keys share beginnings is read as fast as one of whole keys, which are a byte each."""
+    """Checks that a megabyte of bases whose keys share beginnings is read as fast as one of whole keys of a byte each."""
     with new_folder() as folder:
         seconds = []
-        for leaf, length in ((full_leaf, 1), (shared_leaf, 1), (shared_leaf, LONGEST)):
+        kinds: list[tuple[Callable[..., bytes], int]] = [(full_leaf, 1), (shared_leaf, 1), (shared_leaf, LONGEST)]
+        for leaf, length in kinds:
             path = Path(folder) / "disk"
             path.write_bytes(fitting_disk([ONE_PAIR, *many_bases(leaf, length)], version=2, settings=WIDE))
-            seconds.append(min(run([programs.store, "--disk", path], LOOK).seconds for _ in range(5)))
+            seconds.append(min(run([programs.store, "--disk", path], READ_ALL).seconds for _ in range(5)))
         measured = f"{seconds[0]:.3f} s with whole keys of a byte, {seconds[1]:.3f} and {seconds[2]:.3f} s with shared ones of 1 and {LONGEST}"
         return Outcome(measured if max(seconds) > SLOWER * seconds[0] + LEAST else None, measured=measured)
 
 
-# Bytes of a base of version 2 that are no frame where keys have 16 bytes at most: what is wrong, the low key, the count, and the entries of a leaf.
+# Bytes of a base of version 2 that are no frame if keys have at most 16 bytes: what is wrong, the low key, the count, and the entries of a leaf.
 NO_BASES = [
     ("a first key that shares more than its low key", b"ab", 1, "03 01 63 0000"),
     ("a first key that shares fewer bytes than it could", b"ab", 1, "01 02 62 63 0000"),
@@ -275,23 +279,24 @@ NO_BASES = [
 
 
 def refuse_frames(programs: Programs) -> Outcome:
-    """Whether what is no frame of version 2 is refused at its place, whatever stands after it; and frames of its kinds in a log of version 1."""
+    """Checks that bytes which are no frame of version 2 are refused at their place, whatever follows, and that its frames are refused in a log of
+    version 1."""
     refused = [(what, frame(6, 0, counted(low) + count.to_bytes(2, "big") + bytes.fromhex(entries)), 2) for what, low, count, entries in NO_BASES]
     refused += [("a shared leaf in a log of version 1", SHARED_PAIR, 0), ("a shared index page there", shared_index(0, b"", {b"": 1}), 0)]
     refused += [("a frame of kind 8", frame(8, 0), 2), ("a shared leaf that is read as an index page", b"\7" + SHARED_PAIR[1:], 2)]
     with new_folder() as folder:
         path, at = Path(folder) / "disk", HEADER + len(ONE_PAIR)
         for what, bad, version in refused:
-            for following in ([], [ONE_PAIR], [bad], [b"\0" * 9], [b"\xff" * 20]):
-                disk = disk_of(replace(SMALL, seg_size=1024), [ONE_PAIR, bad + b"".join(following)], version=version)
+            for following in (b"", ONE_PAIR, bad, b"\0" * 9, b"\xff" * 20):
+                disk = disk_of(replace(SMALL, seg_size=1024), [ONE_PAIR, bad + following], version=version)
                 path.write_bytes(disk)
-                _, wrong = looked_at([programs.store], path, disk, (4, b"", b"fault 15 BadFrame 0 %d\n" % at))
-                if wrong or ending_of(disk)[2] != b"fault 15 BadFrame 0 %d\n" % at:
+                _, wrong = read_file([programs.store], path, disk, (4, b"", b"fault 15 BadFrame 0 %d\n" % at))
+                if wrong or ending_of_read_all(disk)[2] != b"fault 15 BadFrame 0 %d\n" % at:
                     return Outcome(f"{what}: {wrong or 'the rules read it'}")
     return Outcome(measured=f"{len(refused)} frames")
 
 
-# Frames, and their bytes as the examples of docs/FORMAT.md have them.
+# Frames, and their bytes in the examples of docs/FORMAT.md.
 EXAMPLES = [
     (EMPTY, "01 0000000c 0000000000000000 0000 0000"),
     (delta_leaf(0, {b"a": None}), "02 0000000e 0000000000000000 0001 0001 61 00"),
@@ -313,17 +318,17 @@ EXAMPLES = [
 ]
 
 
-def spell() -> Outcome:
-    """Whether disks are written here as the document says."""
+def check_writing() -> Outcome:
+    """Checks that frames are written here as the document has them."""
     wrong = [example for made, example in EXAMPLES if made != bytes.fromhex(example)]
-    return Outcome(f"written otherwise: {wrong[0]}" if wrong else None)
+    return Outcome(f"other bytes than {wrong[0]}" if wrong else None)
 
 
 SMALL = Settings(fan=4, chain=3, max_key=16, max_value=16, seg_size=256, segments=16)
 
 
 def small_leaf(chance: random.Random, pid: int, low: bytes, end: bytes, leaf: Callable[..., bytes]) -> list[bytes]:
-    """The frames of a leaf whose keys begin as its low key, and runs on it. A few keys are beyond its end."""
+    """Returns the frames of a leaf whose keys begin with its low key, and of its runs. A few keys are beyond its end."""
     drawn = [low + bytes([byte]) * chance.choice([1, 1, 2]) for byte in chance.sample(range(256), 6)]
     keys = [low, *[key for key in drawn if key < end or chance.random() < 0.01]]
     pairs = {key: chance.randbytes(chance.randrange(4)) for key in keys[: chance.randrange(5)]}
@@ -332,9 +337,10 @@ def small_leaf(chance: random.Random, pid: int, low: bytes, end: bytes, leaf: Ca
 
 
 def small_tree(chance: random.Random, version: int) -> bytes:
-    """A disk with a tree of three levels and what older pages have left. The runs of a page stay after its base. In a log of version 2 some
-    bases have whole keys, as an older one left them."""
-    leaves, indexes = ([full_leaf, shared_leaf], [full_index, shared_index]) if version else ([full_leaf], [full_index])
+    """Makes a file with a tree of three levels and frames of older pages. The runs of a page follow its base. In a log of version 2 some bases have
+    whole keys, as before an upgrade."""
+    leaves: list[Callable[..., bytes]] = [full_leaf, shared_leaf][: 1 + bool(version)]
+    indexes: list[Callable[..., bytes]] = [full_index, shared_index][: 1 + bool(version)]
     lows = [b"", b"c", b"cf", b"k", b"kk", b"t"]
     ends = [*lows[1:], b"\xff" * 9]
     pages = [small_leaf(chance, pid, low, end, chance.choice(leaves)) for pid, (low, end) in enumerate(zip(lows, ends))]
@@ -345,7 +351,7 @@ def small_tree(chance: random.Random, version: int) -> bytes:
 
 
 def damage(chance: random.Random, disk: bytes) -> bytes:
-    """A disk with some bytes changed, most of them in its log; or one that was cut off, or in which bytes moved."""
+    """Returns a file with some bytes changed, most of them in its log; or cut off, or with bytes moved."""
     changed, end = bytearray(disk), len(disk.rstrip(b"\0"))
     for _ in range(chance.choice([0, 1, 1, 1, 2, 3])):
         at = chance.randrange(256) if chance.random() < 0.2 else chance.randrange(512, end)
@@ -356,23 +362,23 @@ def damage(chance: random.Random, disk: bytes) -> bytes:
     return bytes(changed[: chance.randrange(len(disk))] if chance.random() < 0.02 else changed)
 
 
-def look_at_damaged(programs: Programs, part: int) -> Outcome:
+def check_damaged(programs: Programs, part: int) -> Outcome:
     chance, stores = random.Random(part), 0
     with new_folder() as folder:
         for number in range(DAMAGED // PARTS):
             disk = damage(chance, small_tree(chance, chance.choice([0, 2])))
             path = Path(folder) / f"disk{number}"
             path.write_bytes(disk)
-            ending = ending_of(disk)
+            ending = ending_of_read_all(disk)
             stores += ending[0] == 0
-            _, wrong = looked_at([programs.store], path, disk, ending)
+            _, wrong = read_file([programs.store], path, disk, ending)
             if wrong:
                 return Outcome(f"disk {number} of seed {part}: {wrong}")
     return Outcome(measured=f"{DAMAGED // PARTS} disks, {stores} of them stores")
 
 
 def small_store() -> bytes:
-    """A disk of version 2 with bases of all kinds and runs."""
+    """Makes a file of version 2 with bases of all kinds and runs."""
     frames = [shared_leaf(0, b"", {b"a": b"1", b"aa": b"2"}), delta_leaf(0, {b"aaa": b"3", b"a": None})]
     frames += [shared_leaf(1, b"ab", {b"ab": b"", b"abc": b"5"}), full_leaf(2, b"abd", {b"abd": b"6"})]
     frames += [shared_index(3, b"", {b"": 0, b"ab": 1}), delta_index(3, {b"abd": 2}), free(4)]
@@ -380,7 +386,7 @@ def small_store() -> bytes:
 
 
 def change_each_byte(programs: Programs, part: int) -> Outcome:
-    """Looks at a disk of version 2 with one byte changed, for each byte that is looked at, and several changes."""
+    """Reads a file of version 2 with one byte changed, for each byte that is read, in several ways."""
     disk, stores, count = small_store(), 0, 0
     places = [*range(64), *range(128, 256), *range(512, len(disk.rstrip(b"\0")) + 2)]
     with new_folder() as folder:
@@ -389,18 +395,19 @@ def change_each_byte(programs: Programs, part: int) -> Outcome:
             for byte in {0, 1, 2, 3, 255, disk[at] ^ 1, disk[at] + 1 & 255} - {disk[at]}:
                 changed = disk[:at] + bytes([byte]) + disk[at + 1 :]
                 path.write_bytes(changed)
-                ending = ending_of(changed)
+                ending = ending_of_read_all(changed)
                 stores, count = stores + (ending[0] == 0), count + 1
-                _, wrong = looked_at([programs.store], path, changed, ending)
+                _, wrong = read_file([programs.store], path, changed, ending)
                 if wrong:
                     return Outcome(f"byte {at} as {byte}: {wrong}")
     return Outcome(measured=f"{count} disks, {stores} of them stores")
 
 
 def cases(programs: Programs) -> list[Case]:
-    forged = [Case(disk.name, look_at, (programs, number)) for number, disk in enumerate(DISKS)]
-    damaged = [Case(f"damaged disks, part {part + 1} of {PARTS}", look_at_damaged, (programs, part)) for part in range(PARTS)]
-    changed = [Case(f"a disk of version 2 with a byte changed, part {part + 1} of {PARTS}", change_each_byte, (programs, part)) for part in range(PARTS)]
-    frames = [Case("the frames of docs/FORMAT.md", spell), Case("frames of version 2 that are none", refuse_frames, (programs,))]
+    forged = [Case(disk.name, check_disk, (programs, number)) for number, disk in enumerate(DISKS)]
+    damaged = [Case(f"damaged disks, part {part + 1} of {PARTS}", check_damaged, (programs, part)) for part in range(PARTS)]
+    name = "a disk of version 2 with a byte changed"
+    changed = [Case(f"{name}, part {part + 1} of {PARTS}", change_each_byte, (programs, part)) for part in range(PARTS)]
+    frames = [Case("the frames of docs/FORMAT.md", check_writing), Case("frames of version 2 that are none", refuse_frames, (programs,))]
     climbed = [Case(f"a tree of {LEVELS} levels that is climbed, {workers} workers", climb, (programs, workers)) for workers in (1, 4)]
     return [*frames, *forged, *climbed, *damaged, *changed, Case("whole keys and shared ones, a megabyte of each", compare_times, (programs,))]

@@ -1,27 +1,27 @@
-"""Sessions that are killed on a file in memory, by `bench/kill.py`."""
+"""Sessions that are killed on a file in memory."""
 
 import contextlib
 import io
-from argparse import Namespace
 from pathlib import Path
 
-import kill
+from tools.cases import Case, Outcome, Programs
+from tools.kills import KillOptions, kill_often
+from tools.processes import new_folder
 
-from checks.harness import Case, Outcome, Programs, new_folder
-
-SEEDS, KILLS = 4, 10
-BATCHES, LIVES = 3_000, 4
+SEEDS = 4
+OPTIONS = KillOptions(kills=10, lives=4, batches=3_000)
 
 
 def kill_sessions(programs: Programs, seed: int) -> Outcome:
-    options = Namespace(seed=seed, kills=KILLS, batches=BATCHES, lives=LIVES)
+    options = KillOptions(OPTIONS.kills, OPTIONS.lives, OPTIONS.batches, seed)
     with new_folder() as folder, contextlib.redirect_stderr(io.StringIO()):
         try:
-            wrongs, further = kill.kill_often([programs.store], options, Path(folder))
+            wrongs, further = kill_often([programs.store], options, Path(folder))
         except SystemExit as ended:
             return Outcome(str(ended))
-    return Outcome("; ".join(wrongs) or None, measured=f"{further[0]} came back at the last flush that was reported, {further[1]} one further")
+    measured = f"{further[0]} recovered the last flush that was reported, {further[1]} one more"
+    return Outcome("; ".join(wrongs) or None, measured=measured)
 
 
 def cases(programs: Programs) -> list[Case]:
-    return [Case(f"{KILLS} kills, seed {seed}", kill_sessions, (programs, seed)) for seed in range(1, SEEDS + 1)]
+    return [Case(f"{OPTIONS.kills} kills, seed {seed}", kill_sessions, (programs, seed)) for seed in range(1, SEEDS + 1)]

@@ -4,7 +4,7 @@ import shutil
 import subprocess
 from pathlib import Path
 
-from checks.harness import Case, Outcome
+from tools.cases import Case, Outcome
 
 CHECKED = ["build", "check", "checks", "tools", "bench", "clients/python", "examples"]
 COMMANDS = {"ruff": ["ruff", "check", "--no-cache", *CHECKED], "mypy": ["mypy", "--no-incremental", "--cache-dir=/dev/null"]}

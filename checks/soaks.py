@@ -1,32 +1,32 @@
-"""Drawn sessions with kills, crashes and failing calls, by `bench/soak.py`; and faults that are planted, which it must all find."""
+"""Random sessions with kills, crashes and failing calls, and planted faults that the comparison with the model must find."""
 
 from pathlib import Path
 
-from soak import PLANTS, Soak, Wrong
-
-from checks.harness import Case, Outcome, Programs, new_folder
+from tools.cases import Case, Outcome, Programs
+from tools.processes import new_folder
+from tools.soak.sessions import PLANTS, Difference, Soak
 
 SEEDS, STORES = 4, 6
 MOST = 30  # stores until a planted fault must be found
 
 
-def soak(programs: Programs, seed: int, stores: int, plant: str | None = None) -> Outcome:
+def run_soak(programs: Programs, seed: int, stores: int, plant: str | None = None) -> Outcome:
     with new_folder() as folder:
-        stand = Soak(programs.store, seed, Path(folder), plant)
+        soak = Soak(programs.store, seed, Path(folder), plant)
         try:
             for number in range(1, stores + 1):
-                for _ in stand.live(number):
+                for _ in soak.run_store(number):
                     pass
-        except Wrong as wrong:
-            return Outcome(f"store {stand.number} of seed {seed}: {wrong}")
-        return Outcome(measured=stand.totals())
+        except Difference as difference:
+            return Outcome(f"store {soak.number} of seed {seed}: {difference}")
+        return Outcome(measured=soak.totals())
 
 
-def find(programs: Programs, plant: str) -> Outcome:
-    found = soak(programs, 1, MOST, plant).wrong
+def find_plant(programs: Programs, plant: str) -> Outcome:
+    found = run_soak(programs, 1, MOST, plant).wrong
     return Outcome(None if found else "it was not found", measured=found or "")
 
 
 def cases(programs: Programs) -> list[Case]:
-    soaks = [Case(f"{STORES} stores, seed {seed}", soak, (programs, seed, STORES)) for seed in range(1, SEEDS + 1)]
-    return soaks + [Case(f"a planted fault, {plant}", find, (programs, plant)) for plant in PLANTS]
+    soaks = [Case(f"{STORES} stores, seed {seed}", run_soak, (programs, seed, STORES)) for seed in range(1, SEEDS + 1)]
+    return soaks + [Case(f"a planted fault, {plant}", find_plant, (programs, plant)) for plant in PLANTS]

@@ -1,56 +1,58 @@
-"""Sessions whose standard streams are closed. A file that is opened then gets the descriptor of a stream, and with it what is meant for that."""
+"""Sessions whose standard streams are closed. A file that is opened then gets the descriptor of a stream, and could get what is written to the
+stream."""
 
 import re
 from collections.abc import Iterator
 from dataclasses import dataclass, replace
 from pathlib import Path
 
-from checks import rules
-from checks.harness import Case, Limits, Outcome, Programs, Ran, differs, new_folder, run
-from checks.rules import LOOK, look_of
+from tools.answers import READ_ALL, Ending, answer_to_read_all
+from tools.cases import Case, Outcome, Programs, differs, first_difference
+from tools.failures import DEVICE
+from tools.log.reading import read_store
+from tools.processes import Command, Limits, RunResult, new_folder, run
 
-FAULT = b"fault 9 Device\n"
 CLOSED = (">&-", "<&-", "2>&-", ">&- 2>&-", "<&- >&-", "<&- 2>&-", "<&- >&- 2>&-")
 OLD = b"put a 1\nflush\nput a 2\nput b 3\nflush\n"
-IN_PLACE = re.compile(rb"\r[^\r\n]*\x1b\[K")  # a line that is written in place of the last one, as --progress does
+IN_PLACE = re.compile(rb"\r[^\r\n]*\x1b\[K")  # a line that replaces the one before, as --progress writes it
 OLD_PAIRS = [(b"a", b"2"), (b"b", b"3")]
-OLD_LOOK = look_of(OLD_PAIRS, 1, 1)
+OLD_ANSWER = answer_to_read_all(OLD_PAIRS, 1, 1)
 
 
 @dataclass(frozen=True)
-class Session:
-    """A session on an old file, or on one that it makes: its words, its batch file, and how it ends where no stream is closed, but for what shows
-    progress. Where it copies, `copied` is what the copy then holds."""
+class StreamSession:
+    """A session on an old file, or on one that it makes: its words, its batch file, and how it ends if no stream is closed, without its progress. If
+    it makes a copy, `copied` has the pairs of the copy."""
 
     name: str
     words: tuple[str, ...]
     text: bytes
-    ending: tuple[int, bytes, bytes]
+    ending: Ending
     copied: list[tuple[bytes, bytes]] | None = None
 
-    def on(self, program: Path, path: Path) -> list[str | Path]:
-        """The words by which it runs on this file. A copy goes to a file beside it."""
+    def command(self, program: Path, path: Path) -> Command:
+        """Returns the command that runs it on this file. A copy goes to a file beside it."""
         return [program, *self.words, f"--disk={path}", *([f"--copy-to={copy_of(path)}"] if self.copied is not None else [])]
 
 
 SESSIONS = [
-    Session("a session that flushes", (), b"put c 4\nflush\n", (0, b"new\nflushed 4\n", b"")),
-    Session("a session that only reads", (), LOOK, (0, OLD_LOOK, b"")),
-    Session("a session without a line", (), b"", (0, b"", b"")),
-    Session("a clean that is refused", (), b"clean\n", (4, b"", b"fault 11 NothingToClean\n")),
-    Session("a session that upgrades", (), b"put c 4\nupgrade\n", (0, b"new\nupgraded 4\n", b"")),
-    Session("a bad line", (), b"x\n", (3, b"", b"line 1: unknown command\n")),
-    Session("--create over the file", ("--create",), b"put d 5\nflush\n", (0, b"new\nflushed 2\n", b"")),
-    Session("a stream that flushes", ("--stream",), b"put c 4\nflush\n", (0, b"new\nflushed 4\n", b"")),
-    Session("a stream that only reads", ("--stream",), LOOK, (0, OLD_LOOK, b"")),
-    Session("a stream with a bad line", ("--stream",), b"x\n", (3, b"", b"line 1: unknown command\n")),
-    Session("a stream with --create over the file", ("--stream", "--create"), b"put d 5\nflush\n", (0, b"new\nflushed 2\n", b"")),
-    Session("progress", ("--progress",), b"put c 4\nflush\n", (0, b"new\nflushed 4\n", b"")),
-    Session("progress of a stream", ("--progress", "--stream"), b"put c 4\nflush\n", (0, b"new\nflushed 4\n", b"")),
-    Session("progress to a bad line", ("--progress",), b"x\n", (3, b"", b"line 1: unknown command\n")),
-    Session("a copy", (), b"get b\n", (0, b"value 3\n", b""), OLD_PAIRS),
-    Session("a copy with progress", ("--progress",), b"put c 4\nflush\n", (0, b"new\nflushed 4\n", b""), [*OLD_PAIRS, (b"c", b"4")]),
-    Session("a copy after a stream", ("--stream",), b"put c 4\n", (0, b"new\n", b""), [*OLD_PAIRS, (b"c", b"4")]),
+    StreamSession("a session that flushes", (), b"put c 4\nflush\n", (0, b"new\nflushed 4\n", b"")),
+    StreamSession("a session that only reads", (), READ_ALL, (0, OLD_ANSWER, b"")),
+    StreamSession("a session without a line", (), b"", (0, b"", b"")),
+    StreamSession("a clean that is refused", (), b"clean\n", (4, b"", b"fault 11 NothingToClean\n")),
+    StreamSession("a session that upgrades", (), b"put c 4\nupgrade\n", (0, b"new\nupgraded 4\n", b"")),
+    StreamSession("a bad line", (), b"x\n", (3, b"", b"line 1: unknown command\n")),
+    StreamSession("--create over the file", ("--create",), b"put d 5\nflush\n", (0, b"new\nflushed 2\n", b"")),
+    StreamSession("a stream that flushes", ("--stream",), b"put c 4\nflush\n", (0, b"new\nflushed 4\n", b"")),
+    StreamSession("a stream that only reads", ("--stream",), READ_ALL, (0, OLD_ANSWER, b"")),
+    StreamSession("a stream with a bad line", ("--stream",), b"x\n", (3, b"", b"line 1: unknown command\n")),
+    StreamSession("a stream with --create over the file", ("--stream", "--create"), b"put d 5\nflush\n", (0, b"new\nflushed 2\n", b"")),
+    StreamSession("progress", ("--progress",), b"put c 4\nflush\n", (0, b"new\nflushed 4\n", b"")),
+    StreamSession("progress of a stream", ("--progress", "--stream"), b"put c 4\nflush\n", (0, b"new\nflushed 4\n", b"")),
+    StreamSession("progress to a bad line", ("--progress",), b"x\n", (3, b"", b"line 1: unknown command\n")),
+    StreamSession("a copy", (), b"get b\n", (0, b"value 3\n", b""), OLD_PAIRS),
+    StreamSession("a copy with progress", ("--progress",), b"put c 4\nflush\n", (0, b"new\nflushed 4\n", b""), [*OLD_PAIRS, (b"c", b"4")]),
+    StreamSession("a copy after a stream", ("--stream",), b"put c 4\n", (0, b"new\n", b""), [*OLD_PAIRS, (b"c", b"4")]),
 ]
 
 
@@ -58,23 +60,23 @@ def copy_of(path: Path) -> Path:
     return path.with_suffix(".copy")
 
 
-def run_on(programs: Programs, session: Session, path: Path, closed: str = "") -> Ran:
-    """Runs a session on this file. What shows progress is left out of what it says."""
-    ran = run(session.on(programs.store, path), session.text, Limits(closed=closed))
+def run_on(programs: Programs, session: StreamSession, path: Path, closed: str = "") -> RunResult:
+    """Runs a session on this file, and removes its progress from the errors."""
+    ran = run(session.command(programs.store, path), session.text, Limits(redirections=closed))
     return replace(ran, err=IN_PLACE.sub(b"", ran.err)) if "--progress" in session.words else ran
 
 
-def wrong_copy(session: Session, path: Path, is_done: bool) -> str | None:
-    """What is wrong with a session's copy, if it is. It holds what the store holds, or nothing where the session isn't done."""
+def wrong_copy(session: StreamSession, path: Path, is_done: bool) -> str | None:
+    """Returns what is wrong with a session's copy. It has to hold the pairs of the store, or to be empty or missing if the session did not do all."""
     copy = copy_of(path)
     made = copy.read_bytes() if copy.exists() else b""
     if session.copied is None or not is_done:
         return f"a copy of {len(made)} bytes" if made else None
-    found = rules.store_of_disk(made).pairs
+    found = read_store(made).pairs
     return None if found == session.copied else f"the copy holds {found}"
 
 
-def old_file(programs: Programs, path: Path) -> bytes:
+def make_old_file(programs: Programs, path: Path) -> bytes:
     made = run([programs.store, "--disk", path, "--create"], OLD)
     wrong = differs(made, 0, b"new\nflushed 2\nreplaced\nnew\nflushed 3\n")
     if wrong:
@@ -82,45 +84,45 @@ def old_file(programs: Programs, path: Path) -> bytes:
     return path.read_bytes()
 
 
-def ends_unseen(ran: Ran, session: Session, closed: str) -> str | None:
-    """What is wrong with how a session with closed streams ended. What goes to a closed stream isn't seen. A bad line that can be read comes
-    before a closed output, but for a stream. With standard error alone closed a session may go on or answer that a device failed."""
+def wrong_ending(ran: RunResult, session: StreamSession, closed: str) -> str | None:
+    """Returns what is wrong with the ending of a session with closed streams, of which the closed ones cannot be seen. A bad line that can be read is
+    found before a closed output, except with --stream. If only standard error is closed, a session may go on or end by fault 9."""
     status, out, err = session.ending
     if closed == "2>&-" and (ran.status, ran.out) == (4, b""):
         return None
     if closed != "2>&-" and (status != 3 or "<&-" in closed or ">&-" in closed.split() and "--stream" in session.words):
-        status, out, err = 4, b"", FAULT
+        status, out, err = 4, b"", DEVICE
     return differs(ran, status, out, b"" if "2>&-" in closed else err)
 
 
 def close(programs: Programs, number: int, closed: str) -> Outcome:
-    """Runs a session with these streams closed, and the same with all of them open, on files that are the same before."""
+    """Runs a session with these streams closed, and the same session with all streams open, on equal files."""
     session = SESSIONS[number]
     with new_folder() as folder:
         path, other = Path(folder) / "file", Path(folder) / "other"
-        before = old_file(programs, path)
+        before = make_old_file(programs, path)
         other.write_bytes(before)
         whole = run_on(programs, session, other)
         ran = run_on(programs, session, path, closed)
         after = path.read_bytes()
-        wrong = differs(whole, *session.ending) or ends_unseen(ran, session, closed)
+        wrong = differs(whole, *session.ending) or wrong_ending(ran, session, closed)
         is_done = ran.status == session.ending[0] and closed == "2>&-"
         wrong = wrong or wrong_copy(session, other, whole.status == 0) or wrong_copy(session, path, is_done and ran.status == 0)
         if wrong is None and after != (other.read_bytes() if is_done else before):
-            at = next((at for at, pair in enumerate(zip(before, after)) if pair[0] != pair[1]), min(len(before), len(after)))
-            wrong = f"{ran.reported()}, and the file has other bytes from {at} on: {after[at : at + 40]!r}"
+            at = first_difference(before, after)
+            wrong = f"{ran.describe()}, and the file has other bytes from {at} on: {after[at : at + 40]!r}"
         return Outcome(wrong)
 
 
 def close_and_create(programs: Programs, words: tuple[str, ...], closed: str) -> Outcome:
-    """Runs a session that makes a file where there is none."""
+    """Runs a session that makes a new file."""
     with new_folder() as folder:
         path = Path(folder) / "file"
-        ran = run([programs.store, *words, "--disk", path], b"put d 5\nflush\n", Limits(closed=closed))
+        ran = run([programs.store, *words, "--disk", path], b"put d 5\nflush\n", Limits(redirections=closed))
         if path.exists() and (closed != "2>&-" or ran.status):
-            return Outcome(f"{ran.reported()}, and there is a file of {path.stat().st_size} bytes")
-        session = Session("", words, b"", (0, b"new\nflushed 2\n", b""))
-        return Outcome(ends_unseen(ran, session, closed))
+            return Outcome(f"{ran.describe()}, and there is a file of {path.stat().st_size} bytes")
+        session = StreamSession("", words, b"", (0, b"new\nflushed 2\n", b""))
+        return Outcome(wrong_ending(ran, session, closed))
 
 
 def all_cases(programs: Programs) -> Iterator[Case]:

@@ -1,19 +1,19 @@
-"""The tests of the engine: what no clause says, in Rattle, of the engine's own calls and those of the crates below it. `tests/build.py` builds them without a proof."""
+"""The tests of the engine, in Rattle: calls of the engine and of the crates below it, for what no clause says. `./build engine_tests` builds them
+without proofs."""
 
 import re
 import subprocess
 from pathlib import Path
 
-from checks.harness import Case, Outcome, Programs
-from checks.refused import TOOLS
+from tools import kit
+from tools.cases import Case, Outcome, Programs
 
-RUNNER = TOOLS.parent / "bin/rattle-test"
 PATIENCE = 300  # seconds that a test may take
 RESULT = re.compile(r"^test result: ok\. (\d+) passed; 0 failed; 0 ignored; 0 filtered out$", re.MULTILINE)
 
 
 def run_all(program: Path) -> Outcome:
-    ran = subprocess.run([RUNNER, "--seconds", str(PATIENCE), program], capture_output=True, text=True, errors="replace")
+    ran = subprocess.run([kit.RATTLE_TEST, "--seconds", str(PATIENCE), program], capture_output=True, text=True, errors="replace")
     found = RESULT.search(ran.stdout)
     if ran.returncode or not found:
         return Outcome("\n".join(line for line in (ran.stdout + ran.stderr).splitlines() if not line.endswith("... ok"))[-2_000:])

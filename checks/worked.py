@@ -1,22 +1,24 @@
 """The bytes of a file after worked examples, as docs/EXAMPLES.md and docs/FORMAT.md give them: its frames, and the slots of its last two commits.
 
-The file held bytes 0xff before, fewer or more than a store has, and is made anew.
+Before each example the file has bytes 0xff, fewer or more than a store has, and the store is made in it.
 """
 
 from dataclasses import dataclass
 from pathlib import Path
 
-from checks.forge import Settings, Slot, delta_index, delta_leaf, free, full_index, full_leaf, log_of, shared_index, shared_leaf
-from checks.harness import Case, Outcome, Programs, differs, new_folder, run
+from tools.cases import SMALL_STORE, Case, Outcome, Programs, differs, first_difference
+from tools.log.writing import Settings, Slot, delta_index, delta_leaf, disk_with, free, full_index, full_leaf, segments_of, shared_index, shared_leaf
+from tools.processes import new_folder, run
 
 S = Settings(fan=4, chain=2, max_key=16, max_value=16, seg_size=256, segments=4)
-WORDS = ("--fan=4", "--chain=2", "--max-key=16", "--max-value=16", "--seg-size=256", "--segments=4", "--workers=2", "--grain=1", "--create", "--disk=store")
+WORDS = (*SMALL_STORE, "--workers=2", "--grain=1", "--create", "--disk=store")
 LONG = b"0123456789abcdef"
 
 
 @dataclass(frozen=True)
-class Worked:
-    """An example of the log by its number: how many bytes the file held, the lines, how the session ends, and the frames and the slots of the file."""
+class WorkedExample:
+    """An example of the log by its number: how many bytes the file has before, the lines, how the session ends, and the frames and the slots of the
+    file."""
 
     number: str
     held: int
@@ -26,18 +28,11 @@ class Worked:
     slots: list[Slot]
 
     def disk(self) -> bytes:
-        """Makes the bytes of the file: each segment up to its last frame, and zeros where nothing was written."""
-        disk = bytearray(S.disk_length())
-        disk[:64] = S.block()
-        for slot in self.slots:
-            disk[slot.place() : slot.place() + 64] = slot.bytes()
-        for number, segment in enumerate(log_of(S, self.frames)):
-            disk[S.place(number) : S.place(number) + len(segment)] = segment
-        return bytes(disk)
+        return disk_with(S, self.slots, segments_of(S, self.frames))
 
 
 def ones(letters: bytes) -> dict[bytes, bytes]:
-    """Makes pairs of these letters with the value 1."""
+    """Returns pairs of these letters with the value 1."""
     return {bytes([letter]): b"1" for letter in letters}
 
 
@@ -64,13 +59,13 @@ FIVE = [
     full_index(7, b"", {b"": 5, b"g": 6}),
 ]
 
-# Page 0 got a run, a with sixteen bytes; its base with this value.
+# A run of page 0 that gives the key a a value of sixteen bytes, and a base of the page with this value.
 LONG_RUN = delta_leaf(0, {b"a": LONG})
 LONG_BASE = full_leaf(0, b"", {b"a": LONG, b"b": b"2"})
 
 EXAMPLES = [
-    Worked("1", 8, b"go\nflush\n", (0, b"flushed 1\n", b""), [NEW], [Slot(1, 0, 33, 0, 1)]),
-    Worked(
+    WorkedExample("1", 8, b"go\nflush\n", (0, b"flushed 1\n", b""), [NEW], [Slot(1, 0, 33, 0, 1)]),
+    WorkedExample(
         "4, 9, 10",
         1_536,
         PUT_FIVE + b"flush\ndel a\ndel b\ndel c\ndel d\ndel e\ngo\nput a 1\ngo\ndel a\nflush\n" + PUT_FIVE + b"flush\n",
@@ -78,7 +73,7 @@ EXAMPLES = [
         [*FOUR, NEW, free(1), free(2), LEFT, RIGHT, ROOT],
         [Slot(3, 0, 179, 0, 1), Slot(4, 0, 310, 2, 2)],
     ),
-    Worked(
+    WorkedExample(
         "5, 13",
         1_535,
         b"".join(b"put %c 1\n" % letter for letter in b"abcdefghijklmnopq") + b"flush\ndel d\ndel e\ndel f\ngo\nput d 1\ngo\ndel d\nflush\n",
@@ -86,7 +81,7 @@ EXAMPLES = [
         [*FIVE, full_leaf(0, b"", ones(b"abc")), free(1), delta_index(5, {b"d": None})],
         [Slot(2, 0, 399, 7, 3), Slot(3, 0, 466, 7, 3)],
     ),
-    Worked(
+    WorkedExample(
         "12",
         1_537,
         PUT_FIVE + b"go\nput a 9\nflush\n",
@@ -94,17 +89,21 @@ EXAMPLES = [
         [NEW, LEFT, delta_leaf(0, {b"a": b"9"}), RIGHT, ROOT],
         [Slot(1, 0, 33, 0, 1), Slot(2, 0, 158, 2, 2)],
     ),
-    Worked(
+    WorkedExample(
         "14",
         4_000,
         b"put a 123456789\nput b 123456789\nput c 123456789\nflush\n"
         + b"".join(b"put %c123456789abcdef 0123456789abcdef\n" % letter for letter in b"defg")
         + b"flush\nclean\n",
         (4, 3 * b"new\n" + b"flushed 2\n" + 4 * b"new\n" + b"flushed 3\n", b"fault 11 NothingToClean\n"),
-        [NEW, delta_leaf(0, dict.fromkeys((b"a", b"b", b"c"), b"123456789")), delta_leaf(0, {b"%c123456789abcdef" % letter: LONG for letter in b"defg"})],
+        [
+            NEW,
+            delta_leaf(0, dict.fromkeys((b"a", b"b", b"c"), b"123456789")),
+            delta_leaf(0, {b"%c123456789abcdef" % letter: LONG for letter in b"defg"}),
+        ],
         [Slot(2, 0, 93, 0, 1), Slot(3, 0, 256, 0, 1)],
     ),
-    Worked(
+    WorkedExample(
         "16",
         0,
         PUT_FIVE + b"flush\n" + 4 * PUT_LONG + b"put z 9\nclean\nclean\n",
@@ -116,7 +115,7 @@ EXAMPLES = [
         [*FOUR, LONG_RUN, LONG_RUN, LONG_BASE, LONG_RUN, LONG_BASE, LONG_RUN, RIGHT, ROOT],
         [Slot(6, 0, 309, 2, 2), Slot(7, 1, 464, 2, 2)],
     ),
-    Worked(
+    WorkedExample(
         "15.1, and then a run",
         1_536,
         PUT_FIVE + b"flush\nupgrade\nput a 9\nflush\n",
@@ -139,10 +138,10 @@ def write(programs: Programs, number: int) -> Outcome:
         path = Path(folder) / "store"
         path.write_bytes(b"\xff" * example.held)
         wrong = differs(run([programs.store, *WORDS], example.text, folder=Path(folder)), *example.ending)
-        due, now = example.disk(), path.read_bytes()
-        if wrong is None and now != due:
-            at = next((at for at, pair in enumerate(zip(now, due)) if pair[0] != pair[1]), min(len(now), len(due)))
-            wrong = f"{len(now)} bytes, from {at} on {now[at : at + 40]!r}, where {len(due)} and {due[at : at + 40]!r} were due"
+        expected, now = example.disk(), path.read_bytes()
+        if wrong is None and now != expected:
+            at = first_difference(now, expected)
+            wrong = f"{len(now)} bytes, from {at} on {now[at : at + 40]!r}, where {len(expected)} and {expected[at : at + 40]!r} were expected"
         return Outcome(wrong)
 
 

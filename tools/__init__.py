@@ -1,1 +1,1 @@
-"""What the checks, the measurements and the examples share: building programs, running them, reading a log's bytes, and a model of the store."""
+"""What the checks, the measurements and the scripts at the top of the repository share. This package imports none of them."""

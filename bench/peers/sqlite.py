@@ -1,19 +1,19 @@
-"""SQLite, by Python's own module: each batch is one transaction in WAL mode. The words are those of `pairs.h`, and a last one of a load
-sets `synchronous`: with FULL each commit is synced, with NORMAL only each checkpoint is, so that a power cut may take commits back."""
+"""SQLite, by Python's own module: each batch is one transaction in WAL mode. The words are those of `pairs.h`. The last word of a load sets
+`synchronous`: with FULL each commit is synced, with NORMAL only each checkpoint, so that a power cut may undo commits."""
 
 import signal
 import sqlite3
 import sys
 
 
-def opened(store):
+def connect(store: str) -> sqlite3.Connection:
     return sqlite3.connect(f"{store}/pairs.db", isolation_level=None)
 
 
-def load(store, path, batch, synchronous):
+def load(store: str, path: str, batch: int, synchronous: str) -> None:
     with open(path, "rb") as file:
         pairs = [line.rstrip(b"\n").split(b" ") for line in file]
-    database = opened(store)
+    database = connect(store)
     database.execute("PRAGMA journal_mode = WAL")
     database.execute(f"PRAGMA synchronous = {synchronous}")
     database.execute("CREATE TABLE pairs (key BLOB PRIMARY KEY, value BLOB) WITHOUT ROWID")
@@ -26,8 +26,8 @@ def load(store, path, batch, synchronous):
     signal.pause()
 
 
-def get(store, key):
-    (value,) = opened(store).execute("SELECT value FROM pairs WHERE key = ?", [key.encode()]).fetchone()
+def get(store: str, key: str) -> None:
+    (value,) = connect(store).execute("SELECT value FROM pairs WHERE key = ?", [key.encode()]).fetchone()
     print("value", value.decode(), flush=True)
 
 

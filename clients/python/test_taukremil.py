@@ -36,14 +36,14 @@ def new_folder() -> tempfile.TemporaryDirectory[str]:
 
 
 def kill(store: Store) -> None:
-    """Ends the program of a store as no program of its own does."""
+    """Kills the program of a store."""
     assert store.pid is not None
     os.kill(store.pid, signal.SIGKILL)
 
 
 @dataclass
 class Model:
-    """What a store has to answer: a dict, and its keys in order."""
+    """The expected replies of a store: a dict, and its keys in order."""
 
     values: dict[bytes, bytes] = field(default_factory=dict)
     keys: list[bytes] = field(default_factory=list)
@@ -93,7 +93,7 @@ class Model:
 
 
 class Chance:
-    """Commands by chance, on few keys, some with bytes that are written with escapes."""
+    """Random commands on few keys, some with bytes that are written with escapes."""
 
     def __init__(self, seed: int) -> None:
         self.source = random.Random(seed)
@@ -132,7 +132,7 @@ class Chance:
 
 
 class StoreTest(unittest.TestCase):
-    """Each test has a folder of its own, in which a store stands."""
+    """Each test has a folder of its own, with the file of a store."""
 
     def setUp(self) -> None:
         folder = new_folder()
@@ -259,7 +259,7 @@ class Replies(StoreTest):
 
         @dataclass(frozen=True)
         class Meddle:
-            """A look whose answer is read only once another call was tried."""
+            """A command whose reply is read only after another call was tried."""
 
             call: Callable[[], object]
 

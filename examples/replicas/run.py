@@ -46,7 +46,8 @@ def lines_of(log: Path) -> list[Line]:
 
 @dataclass
 class Process:
-    """A replica or a writer: its command, what it says, and its process where it runs."""
+    """A replica or a writer: its command, its output, and its process if it runs. It is not one of tools/processes.py: this example is copied and run
+    alone, and its processes are services that signals end."""
 
     name: str
     command: list[str]
@@ -85,7 +86,7 @@ class Process:
 
 
 @dataclass
-class Replica(Process):
+class ReplicaProcess(Process):
     """A replica, with its store."""
 
     store: Path = Path()
@@ -97,14 +98,14 @@ class Replica(Process):
         return any(line["revision"] >= revision for line in self.lines("looked"))
 
 
-def replicas_in(folder: Path, ports: list[int], options: argparse.Namespace) -> list[Replica]:
+def replicas_in(folder: Path, ports: list[int], options: argparse.Namespace) -> list[ReplicaProcess]:
     found = []
     for number in range(3):
         name = f"r{number + 1}"
         store, log = folder / f"{name}.store", folder / f"{name}.log"
         turned = ports[number:] + ports[:number]  # each asks another member first
         words = [HERE / "replica.py", store, log, *turned, "--program", options.program, "--every", options.every]
-        found.append(Replica(name, [sys.executable, *map(str, words)], log, store=store))
+        found.append(ReplicaProcess(name, [sys.executable, *map(str, words)], log, store=store))
     return found
 
 
@@ -120,7 +121,7 @@ def writers_in(folder: Path, ports: list[int], seed: int) -> list[Process]:
 class Chaos:
     """Kills one or the other thing at a moment by chance, and starts it again."""
 
-    def __init__(self, source: random.Random, members: cluster.Cluster, replicas: list[Replica]) -> None:
+    def __init__(self, source: random.Random, members: cluster.Cluster, replicas: list[ReplicaProcess]) -> None:
         self.source, self.members, self.replicas = source, members, replicas
         self.done: dict[str, int] = {}
 
@@ -197,7 +198,7 @@ def audit(events: list[Event], acknowledged: list[Line], rows: list[Row]) -> Non
             raise SystemExit(f"batch {name.decode()} was acknowledged, and is lost")
 
 
-def see_equal(replicas: list[Replica]) -> tuple[int, str]:
+def see_equal(replicas: list[ReplicaProcess]) -> tuple[int, str]:
     """Sees that what replicas have said at one revision is equal; at how many revisions, and the last of it."""
     seen: dict[int, set[tuple[str, str]]] = {}
     by: dict[int, set[str]] = {}
@@ -216,7 +217,7 @@ def see_equal(replicas: list[Replica]) -> tuple[int, str]:
     return shared, f"revision {last}: {report}, {digest[:16]}.."
 
 
-def see_files(replicas: list[Replica], program: Path) -> list[Row]:
+def see_files(replicas: list[ReplicaProcess], program: Path) -> list[Row]:
     """Sees that the files have equal bytes, now that all have ended, and returns the pairs of one."""
     digests = {hashlib.sha256(replica.store.read_bytes()).hexdigest() for replica in replicas}
     if len(digests) > 1:
@@ -225,7 +226,7 @@ def see_files(replicas: list[Replica], program: Path) -> list[Row]:
         return store.scan()
 
 
-def lags_of(replica: Replica) -> list[float]:
+def lags_of(replica: ReplicaProcess) -> list[float]:
     """Returns how late it was with each revision, when it first came to flush that."""
     first: dict[str, float] = {}
     for line in replica.lines("flushed"):
@@ -240,7 +241,7 @@ def of_times(times: list[float]) -> str:
     return f"median {median:,.0f} ms, 95 of 100 within {most:,.0f} ms, longest {times[-1]:,.1f} s"
 
 
-def await_all(replicas: list[Replica], has_come: Callable[[Replica], bool]) -> None:
+def await_all(replicas: list[ReplicaProcess], has_come: Callable[[ReplicaProcess], bool]) -> None:
     """Waits until each replica has come so far, while all of them run."""
     end = time.monotonic() + PATIENCE
     while not all(map(has_come, replicas)):
@@ -251,7 +252,7 @@ def await_all(replicas: list[Replica], has_come: Callable[[Replica], bool]) -> N
         time.sleep(0.1)
 
 
-def drain(members: cluster.Cluster, replicas: list[Replica]) -> None:
+def drain(members: cluster.Cluster, replicas: list[ReplicaProcess]) -> None:
     """Puts a last batch, after which replicas flush and look, and waits for them."""
     last = Batch("end", time.time(), [], flush=True)
     revision = Gateway(members.ports).put_once(last.key(), last.text())
@@ -294,7 +295,7 @@ def play(folder: Path, options: argparse.Namespace) -> None:
 
 def report(
     chaos: Chaos,
-    replicas: list[Replica],
+    replicas: list[ReplicaProcess],
     writers: list[Process],
     events: list[Event],
     seconds: float,

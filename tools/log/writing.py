@@ -1,9 +1,9 @@
-"""The bytes of a disk, as docs/FORMAT.md has them."""
+"""Writes the bytes of a store's file, as docs/FORMAT.md has them."""
 
 import struct
 from collections.abc import Iterable
-from os.path import commonprefix
 from dataclasses import dataclass, replace
+from os.path import commonprefix
 
 BEGIN = 512  # where the segments begin
 HEADER = 16  # bytes before a segment's first frame
@@ -12,7 +12,7 @@ MOST = 2**62  # of positions and sequence numbers
 
 @dataclass(frozen=True)
 class Settings:
-    """The settings of a store; those that are not given are the program's own."""
+    """The settings of a store. The defaults are the program's own."""
 
     fan: int = 16
     chain: int = 4
@@ -29,14 +29,14 @@ class Settings:
         return BEGIN + self.segments * self.seg_size
 
     def place(self, segment: int) -> int:
-        """Where this segment stands on the disk."""
+        """Returns where this segment begins in the file."""
         return BEGIN + segment % self.segments * self.seg_size
 
 
 @dataclass(frozen=True)
 class Slot:
-    """What a commit leaves: the number of commits, the log from its first segment to the end of its last frame, the tree's root and height, and the
-    version of the log, 0 for the first one and 2 for the second."""
+    """What a commit writes: the number of commits, the first segment of the log and the end of its last frame, the root and the height of the tree,
+    and the version of the log, which is 0 for version 1 and 2 for version 2."""
 
     sequence: int
     head: int
@@ -53,6 +53,7 @@ class Slot:
 
 
 def counted(text: bytes) -> bytes:
+    """Returns a text after its length."""
     return struct.pack(">H", len(text)) + text
 
 
@@ -69,9 +70,14 @@ def full(kind: int, pid: int, low: bytes, cells: list[tuple[bytes, bytes]]) -> b
     return frame(kind, pid, counted(low) + struct.pack(">H", len(cells)) + entries)
 
 
+def common_length(key: bytes, before: bytes) -> int:
+    """Returns how many bytes two keys share at their beginnings."""
+    return len(commonprefix([key, before]))
+
+
 def shared_key(key: bytes, before: bytes) -> bytes:
-    """A key by the one before it: how many bytes they share at their beginnings, and the rest."""
-    shared = len(commonprefix([key, before]))
+    """Encodes a key after the one before it: how many bytes they share at their beginnings, and the rest."""
+    shared = common_length(key, before)
     return struct.pack(">BB", shared, len(key) - shared) + key[shared:]
 
 
@@ -91,7 +97,7 @@ def full_leaf(pid: int, low: bytes, pairs: dict[bytes, bytes]) -> bytes:
 
 
 def delta_leaf(pid: int, changes: dict[bytes, bytes | None]) -> bytes:
-    return delta(2, pid, [(key, None if changes[key] is None else counted(changes[key])) for key in sorted(changes)])
+    return delta(2, pid, [(key, None if value is None else counted(value)) for key, value in sorted(changes.items())])
 
 
 def full_index(pid: int, low: bytes, children: dict[bytes, int]) -> bytes:
@@ -107,7 +113,7 @@ def shared_index(pid: int, low: bytes, children: dict[bytes, int]) -> bytes:
 
 
 def delta_index(pid: int, changes: dict[bytes, int | None]) -> bytes:
-    return delta(4, pid, [(key, None if changes[key] is None else page_cell(changes[key])) for key in sorted(changes)])
+    return delta(4, pid, [(key, None if child is None else page_cell(child)) for key, child in sorted(changes.items())])
 
 
 def free(pid: int) -> bytes:
@@ -118,8 +124,8 @@ def header(segment: int) -> bytes:
     return struct.pack(">4s4xQ", b"BWSG", segment)
 
 
-def log_of(settings: Settings, frames: Iterable[bytes]) -> list[bytes]:
-    """The segments that these frames fill from the first on, each up to its last frame."""
+def segments_of(settings: Settings, frames: Iterable[bytes]) -> list[bytes]:
+    """Returns the segments that these frames fill from the first one on, each up to its last frame."""
     segments = [bytearray(header(0))]
     for each in frames:
         if len(segments[-1]) + len(each) > settings.seg_size:
@@ -128,27 +134,33 @@ def log_of(settings: Settings, frames: Iterable[bytes]) -> list[bytes]:
     return [bytes(segment) for segment in segments]
 
 
-def disk_of(settings: Settings, frames: Iterable[bytes], root: int = 0, height: int = 1, version: int = 0) -> bytes:
-    """A disk whose log has these frames from its first segment on, and was committed once."""
-    log = log_of(settings, frames)
-    tail = (len(log) - 1) * settings.seg_size + len(log[-1])
-    slot = Slot(1, 0, tail, root, height, version)
+def disk_with(settings: Settings, slots: Iterable[Slot], segments: Iterable[bytes]) -> bytes:
+    """Returns a file with these slots and these first segments, and zeros everywhere else."""
     disk = bytearray(settings.disk_length())
     disk[:64] = settings.block()
-    disk[slot.place() : slot.place() + 64] = slot.bytes()
-    for number, segment in enumerate(log):
+    for slot in slots:
+        disk[slot.place() : slot.place() + 64] = slot.bytes()
+    for number, segment in enumerate(segments):
         disk[settings.place(number) : settings.place(number) + len(segment)] = segment
     return bytes(disk)
 
 
+def disk_of(settings: Settings, frames: Iterable[bytes], root: int = 0, height: int = 1, version: int = 0) -> bytes:
+    """Returns a file whose log has these frames from its first segment on, and was committed once."""
+    segments = segments_of(settings, frames)
+    tail = (len(segments) - 1) * settings.seg_size + len(segments[-1])
+    return disk_with(settings, [Slot(1, 0, tail, root, height, version)], segments)
+
+
 def fitting_disk(frames: list[bytes], root: int = 0, height: int = 1, version: int = 0, settings: Settings = Settings()) -> bytes:
-    """A disk that is not much longer than its log: it has two segments free, one for a flush and one for a clean."""
-    used = len(log_of(settings, frames))
+    """Returns a file that is not much longer than its log: two segments are free, one for a flush and one for a clean."""
+    used = len(segments_of(settings, frames))
     return disk_of(replace(settings, segments=used + 2), frames, root, height, version)
 
 
-def appended(settings: Settings, disk: bytes, slot: Slot, frames: Iterable[bytes], version: int) -> bytes:
-    """The disk once these frames are committed after the log that the slot gives, with its tree as it is. At least one segment stays free."""
+def append(settings: Settings, disk: bytes, slot: Slot, frames: Iterable[bytes], version: int) -> bytes:
+    """Returns the file after these frames are committed at the end of the log that `slot` describes. The tree is unchanged. At least one segment has
+    to remain free."""
     now, at = bytearray(disk), slot.tail
     for each in frames:
         segment, offset = at // settings.seg_size, at % settings.seg_size

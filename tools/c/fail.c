@@ -1,14 +1,13 @@
 /* Fails calls of one kind, FAIL_CALL: FAIL_COUNT of them from the number FAIL_FROM on, counted from 0, with the error FAIL_ERROR. The kinds are
 
    input, output, error         a read of standard input, a write to standard output, to standard error
-   open                         opening the file FAIL_FILE to write; those that follow are of this file:
-   hold, share, length          its lock for itself, its shared lock, asking for its length
+   open                         opening the file FAIL_FILE for writing; those that follow are calls on this file:
+   hold, share, length          its exclusive lock, its shared lock, asking for its length
    cut, read, write, sync       setting its length, a read, a write, a sync
-   thread                       starting a thread: that ends the program with FAIL_ERROR as its status
+   thread                       starting a thread: this ends the program with FAIL_ERROR as its status
 
-   Where FAIL_CUT is set, each read and each write of the file or of a stream takes a byte. Where FAIL_WAIT is set, those of the file take as
-   many milliseconds more. It is loaded in front of the C library; `calls.py` builds and runs it. It includes nothing, since the kit has a
-   compiler and no headers. */
+   If FAIL_CUT is set, each read and each write of the file or of a stream takes a byte. If FAIL_WAIT is set, those of the file take so many milliseconds
+   more. It is loaded in front of the C library; `tools/failures.py` uses it. It includes nothing, since the kit has a compiler and no headers. */
 typedef __SIZE_TYPE__ size_t;
 
 int *__errno_location(void);
@@ -35,7 +34,7 @@ __attribute__((constructor)) static void start(void) {
     pause = getenv("FAIL_WAIT") ? atol(getenv("FAIL_WAIT")) : 0;
 }
 
-/* Counts a call of this kind, and says whether it fails. */
+/* Counts a call of this kind, and returns whether it fails. */
 static int fails(const char *call) {
     if (strcmp(call, kind) != 0) {
         return 0;

@@ -1,5 +1,5 @@
-/* Refuses the call number REFUSE of malloc, calloc, realloc and their kin, counted from 1 over all threads, and says so on standard error.
-   It is loaded in front of the C library; `refused.py` builds and runs it. It includes nothing, since the kit has a compiler and no headers. */
+/* Refuses the call number REFUSE of malloc, calloc, realloc and the like, counted from 1 over all threads, and writes `<refused>` to standard error.
+   It is loaded in front of the C library; `tools/failures.py` uses it. It includes nothing, since the kit has a compiler and no headers. */
 typedef __SIZE_TYPE__ size_t;
 
 void *__libc_malloc(size_t);

@@ -1,13 +1,14 @@
-/* Stands between the program and the file of its store. At the call SOAK_AT, or the allocation of that number, it does the deed SOAK_DEED:
+/* Is loaded in front of the C library, between the program and the file of its store. At the call SOAK_AT, or the allocation of that number, it makes the
+   failure SOAK_FAILURE, which is a letter:
 
    k, h, K  kills the program before the call, after half of a write, after the call
-   f, F, s  fails the call; after half of a write; as F, and each later write and sync of the file too
-   c, i     cuts a read or a write short at its half; interrupts the call, which does nothing (but statx, which no signal interrupts)
+   f, F, s  fails the call; fails it after half of a write; as F, and each later write and sync of the file too
+   c, i     cuts a read or a write short at its half; interrupts the call, which does nothing (except statx, which no signal interrupts)
    m, a     refuses the allocation; kills the program there
 
-   It counts the reads of the input, the writes to the output, and the calls of the file SOAK_FILE but its seeks. In SOAK_RECORD it writes what
-   comes to the file: W, the place and the length in eight bytes each, and the bytes, before a write; T and the length, once it was set; S after a
-   sync; D at the deed. `soak.py` builds and runs it. It includes nothing, since the kit has a compiler and no headers. */
+   It counts the reads of the input, the writes to the output, and the calls on the file SOAK_FILE except its seeks. In SOAK_RECORD it records the calls
+   that change the file: W, the place and the length in eight bytes each, and the bytes, before a write; T and the length, after it was set; S after a sync;
+   D at the failure. `tools/soak` builds and uses it. It includes nothing, since the kit has a compiler and no headers. */
 typedef __SIZE_TYPE__ size_t;
 
 void *__libc_malloc(size_t);
@@ -23,7 +24,7 @@ enum { EINTR = 4, EIO = 5, ENOMEM = 12 };
 enum { INPUT = 0, OUTPUT = 1, SIGKILL = 9, O_NEW = 01 | 0100 | 01000 | 02000000, SEEK_CUR = 1 };
 
 static const char *path;
-static char deed;
+static char failure;
 static long at, calls, allocations;
 static int record = -1, file = -1;
 
@@ -31,7 +32,7 @@ static void note(const void *bytes, size_t size) { syscall(WRITE, record, bytes,
 
 __attribute__((constructor)) static void start(void) {
     path = getenv("SOAK_FILE");
-    deed = *getenv("SOAK_DEED");
+    failure = *getenv("SOAK_FAILURE");
     at = atol(getenv("SOAK_AT"));
     record = syscall(OPEN, getenv("SOAK_RECORD"), O_NEW, 0666);
     __atomic_store_n(&allocations, 0, __ATOMIC_SEQ_CST);
@@ -44,17 +45,17 @@ static int fail(int error) {
     return -1;
 }
 
-/* The deed, if it is done at this call; and 0 else. One that kills before the call does not return, nor one of half of what has no half. */
-static char deed_now(int has_half, int is_stopped) {
+/* Returns the failure if this call has to make it, or else 0. It does not return if the failure kills before the call, or after half of a call that has no half. */
+static char failure_now(int has_half, int is_stopped) {
     long call = __atomic_add_fetch(&calls, 1, __ATOMIC_SEQ_CST);
-    if (deed == 'm' || deed == 'a' || (deed == 's' ? call < at || !is_stopped : call != at)) {
+    if (failure == 'm' || failure == 'a' || (failure == 's' ? call < at || !is_stopped : call != at)) {
         return 0;
     }
     note("D", 1);
-    if (deed == 'k' || (deed == 'h' && !has_half)) {
+    if (failure == 'k' || (failure == 'h' && !has_half)) {
         die();
     }
-    return deed;
+    return failure;
 }
 
 static int is_failing(char now) { return now == 'f' || now == 'F' || now == 's' || now == 'i'; }
@@ -63,7 +64,7 @@ static int error_of(char now) { return now == 'i' ? EINTR : EIO; }
 
 /* A call without halves. What is noted of it is noted before the program is killed. */
 static long whole(int is_stopped, const void *noted, size_t size, long number, long a, long b, long c, long d, long e) {
-    char now = deed_now(0, is_stopped);
+    char now = failure_now(0, is_stopped);
     if (is_failing(now) && !(now == 'i' && number == STATX)) {
         return fail(error_of(now));
     }
@@ -97,7 +98,7 @@ int ftruncate(int fd, long length) {
 }
 
 long read(int fd, void *buf, size_t size) {
-    char now = fd == INPUT || fd == file ? deed_now(0, 0) : 0;
+    char now = fd == INPUT || fd == file ? failure_now(0, 0) : 0;
     if (is_failing(now)) {
         return fail(error_of(now));
     }
@@ -115,7 +116,7 @@ long write(int fd, const void *bytes, size_t size) {
         note(place, sizeof place);
         note(bytes, size);
     }
-    char now = fd == OUTPUT || fd == file ? deed_now(1, fd == file) : 0;
+    char now = fd == OUTPUT || fd == file ? failure_now(1, fd == file) : 0;
     if (now == 'f' || now == 'i') {
         return fail(error_of(now));
     }
@@ -127,11 +128,11 @@ long write(int fd, const void *bytes, size_t size) {
 }
 
 static int is_refused(void) {
-    if (__atomic_add_fetch(&allocations, 1, __ATOMIC_SEQ_CST) != at || (deed != 'm' && deed != 'a')) {
+    if (__atomic_add_fetch(&allocations, 1, __ATOMIC_SEQ_CST) != at || (failure != 'm' && failure != 'a')) {
         return 0;
     }
     note("D", 1);
-    if (deed == 'a') {
+    if (failure == 'a') {
         die();
     }
     return fail(ENOMEM);

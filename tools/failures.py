@@ -1,0 +1,93 @@
+"""Programs whose system calls fail (`c/fail.c`) or whose allocations are refused (`c/refuse.c`), by libraries in front of the C library."""
+
+import errno
+import itertools
+import subprocess
+import time
+from collections.abc import Callable
+from dataclasses import dataclass
+from pathlib import Path
+
+from tools.cases import Outcome
+from tools.processes import PATIENCE, Command, abbreviate
+
+FAIL, REFUSE = (Path(__file__).resolve().parent / "c" / name for name in ("fail.c", "refuse.c"))
+ALWAYS = 1_000_000  # calls
+REFUSED = b"<refused>"  # the library writes this to standard error when it refuses an allocation
+NO_MEMORY, DEVICE = b"fault 6 NoMemory\n", b"fault 9 Device\n"
+BUDGET = 90  # seconds of the clock that a case may take
+# A session with an order of each kind, and its answers.
+TEXT = b"put %41 1\nget A\nscan % * 9\nverify\ndel A\nput B 1\nwipe A *\nget A\nupgrade\n"
+ANSWERS = b"new\nvalue 1\nrows 1\nA 1\nok 1 1 1\ndeleted\nnew\nwiped 1\nmissing\nupgraded 2\n"
+
+
+@dataclass(frozen=True)
+class FailingCalls:
+    """Calls of one kind that fail with this error: `count` of them from the number `first` on, which is counted from 0. `cuts` has reads and writes
+    take a byte at a time. `wait` has those of the file take so many milliseconds more."""
+
+    call: str
+    first: int = 0
+    count: int = ALWAYS
+    error: int = errno.EIO
+    cuts: bool = False
+    wait: int = 0
+
+    def environment(self, library: Path, file: object) -> dict[str, str]:
+        """Returns the environment of a program whose calls on this file, or on its standard streams, fail."""
+        numbers = {"FAIL_FROM": str(self.first), "FAIL_COUNT": str(self.count), "FAIL_ERROR": str(self.error), "FAIL_WAIT": str(self.wait)}
+        words = {"LD_PRELOAD": str(library), "FAIL_CALL": self.call, "FAIL_FILE": str(file)}
+        return {**words, **numbers, **({"FAIL_CUT": "1"} if self.cuts else {})}
+
+
+def refusing(library: Path, number: int) -> dict[str, str]:
+    """Returns the environment of a program whose allocation of this number is refused."""
+    return {"LD_PRELOAD": str(library), "REFUSE": str(number)}
+
+
+def wrong_test(ran: subprocess.CompletedProcess[bytes]) -> str | None:
+    """Returns how a test failed, if it did."""
+    errors = ran.stderr.replace(REFUSED, b"").strip().decode(errors="replace")[-200:]
+    return f"status {ran.returncode}: {errors}" if ran.returncode else None
+
+
+def wrong_session(ran: subprocess.CompletedProcess[bytes], answers: bytes, is_fault: Callable[[bytes], bool]) -> str | None:
+    """Returns what is wrong with how a session ended. It has to answer all, or to end by one of the faults that `is_fault` accepts because an
+    allocation was refused; then its answers are a beginning of the right ones, in whole lines."""
+    out, err = ran.stdout, ran.stderr.replace(REFUSED, b"")
+    is_done = (ran.returncode, out, err) == (0, answers, b"")
+    is_beginning = answers.startswith(out) and (not out or out.endswith(b"\n"))
+    is_refused = REFUSED in ran.stderr and ran.returncode == 4 and is_fault(err) and is_beginning
+    return None if is_done or is_refused else f"status {ran.returncode}, output {abbreviate(out)}, errors {abbreviate(err)}"
+
+
+def refuse_each(
+    command: Command,
+    library: Path,
+    first: int,
+    step: int,
+    budget: float = BUDGET,
+    text: bytes = b"",
+    wrong_run: Callable[[subprocess.CompletedProcess[bytes]], str | None] = wrong_test,
+    prepare: Callable[[], object] = lambda: None,
+) -> Outcome:
+    """Runs a command again and again, with the allocation of one number refused, from `first` on in steps, until there is no allocation of that
+    number. Calls `prepare` before each run, and `wrong_run` after it, which returns what is wrong. Leaves the rest out after `budget` seconds."""
+    failed: list[str] = []
+    end = time.monotonic() + budget
+    for number in itertools.count(first, step):
+        if time.monotonic() > end:
+            return Outcome(describe_failures(failed, number // step), f"the allocations from {number} on, since {budget:.0f} s have passed")
+        prepare()
+        ran = subprocess.run(command, env=refusing(library, number), input=text, capture_output=True, timeout=PATIENCE)
+        wrong = wrong_run(ran)
+        if REFUSED not in ran.stderr:
+            break
+        if wrong:
+            failed.append(f"{number} ({wrong})")
+    runs = (number - first) // step
+    return Outcome(f"{wrong}, with none refused" if wrong else describe_failures(failed, runs), measured=f"{runs} runs")
+
+
+def describe_failures(failed: list[str], runs: int) -> str | None:
+    return f"of {runs} runs {len(failed)} failed, the first with allocation {failed[0]} refused" if failed else None

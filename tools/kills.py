@@ -1,0 +1,193 @@
+"""Kills sessions on a store in a file, in and between their flushes, and compares what is recovered with what was answered."""
+
+import random
+import subprocess
+import sys
+from collections import Counter
+from collections.abc import Iterable, Iterator, Sequence
+from dataclasses import dataclass
+from itertools import zip_longest
+from pathlib import Path
+
+from tools.answers import token
+from tools.model import OrderedMap
+from tools.processes import run_until
+
+# Small pages and segments: leaves are split and merged all the time, and every few flushes begin a segment.
+SETTINGS = "--fan 8 --chain 4 --max-key 16 --max-value 64 --seg-size 1024 --segments 65536".split()
+KEYS = 300
+MOST = 50_000  # flushes of a store before the next one is made: its log has room for a run more
+READ_BACK = b"scan % * 4294967295\nverify\nflush\n"  # prints all pairs, the report, and the number of the last flush
+
+Lines = list[bytes]
+
+
+def changes(number: int) -> dict[bytes, bytes | None]:
+    """Returns the batch of this number: to each key its new value, or None to delete it. The first change is a put, so there is always something to
+    flush; the others are puts in a hundred batches, and deletes in the next hundred."""
+    keys = [b"k%d" % ((number * 37 + at * 11) % KEYS) for at in range(1 + number % 5)]
+    value = b"%d" % number + b"." * (number % 40)
+    return {key: value if at == 0 or number // 100 % 2 == 0 else None for at, key in enumerate(keys)}
+
+
+def wiped_range(number: int) -> tuple[bytes, bytes | None] | None:
+    """Returns the bounds of the wipe with which the batch of this number begins. One of ten does, and one of a hundred has no upper bound."""
+    first = number * 7 % KEYS
+    if number % 10 != 9:
+        return None
+    return b"k%d" % first, None if number % 100 == 49 else b"k%d" % (first + 20)
+
+
+def batch_lines(number: int) -> Iterator[bytes]:
+    """Yields the lines of the batch of this number."""
+    bounds = wiped_range(number)
+    if bounds:
+        yield b"wipe %s %s\n" % (bounds[0], bounds[1] or b"*")
+    for key, value in changes(number).items():
+        yield b"del %s\n" % key if value is None else b"put %s %s\n" % (key, value)
+
+
+def batch_file(numbers: Iterable[int]) -> bytes:
+    """Returns the batches of these numbers, each with a flush."""
+    return b"".join(b"".join([*batch_lines(number), b"flush\n"]) for number in numbers)
+
+
+def play(pairs: OrderedMap, number: int) -> Lines:
+    """Runs a batch and its flush on the model, and returns the lines that are printed for them. Making the store has the sequence number 1."""
+    bounds = wiped_range(number)
+    lines = pairs.wipe(*bounds) if bounds else []
+    for key, value in changes(number).items():
+        lines += pairs.delete(key) if value is None else pairs.put(key, value)
+    return [*lines, b"flushed %d" % (number + 1)]
+
+
+def map_after(number: int) -> OrderedMap:
+    """Returns the map after the batches up to this number, from 1 on."""
+    pairs = OrderedMap()
+    for each in range(1, number + 1):
+        play(pairs, each)
+    return pairs
+
+
+def answers(first: int, last: int) -> Lines:
+    """Returns all lines that are printed for these batches."""
+    pairs = map_after(first - 1)
+    return [line for number in range(first, last + 1) for line in play(pairs, number)]
+
+
+def read_back_after(number: int) -> Lines:
+    """Returns what READ_BACK prints if the store after the batches up to this number was recovered. The report is cut down to the number of pairs."""
+    pairs = map_after(number).pairs
+    rows = [token(key) + b" " + token(pairs[key]) for key in sorted(pairs)]
+    return [b"rows %d" % len(rows), *rows, b"ok %d" % len(rows), b"flushed %d" % (number + 1)]
+
+
+def whole_lines(output: bytes) -> Lines:
+    """Returns the lines of the output without one that the kill cut off."""
+    return output.split(b"\n")[:-1]
+
+
+def count_flushes(output: bytes) -> int:
+    """Returns how many flushes were reported."""
+    return sum(line.startswith(b"flushed") for line in whole_lines(output))
+
+
+def first_difference(lines: Lines, expected: Lines) -> str:
+    at, (line, right) = next((at, pair) for at, pair in enumerate(zip_longest(lines, expected), 1) if pair[0] != pair[1])
+    return f"{line!r}, where {right!r} was expected, on line {at} of {len(lines)}"
+
+
+@dataclass
+class KilledStore:
+    """A store in a file whose sessions are killed, and how many batches it has, each of them flushed."""
+
+    program: Sequence[Path]
+    path: Path
+    done: int = 0
+    kills: int = 0
+
+    def create(self) -> "KilledStore":
+        made = subprocess.run([*self.program, "--disk", self.path, "--create", *SETTINGS], stdin=subprocess.DEVNULL)
+        if made.returncode:
+            sys.exit(f"{self.path} was not made: status {made.returncode}")
+        return self
+
+    def run(self, batches: int, folder: Path, delay: float | None = None) -> tuple[int, bytes, float]:
+        """Runs `batches` more batches, and kills the session when `delay` seconds have passed since its first lines. Returns its status, its output,
+        and how long it ran after its first lines."""
+        text, out = folder / "batches", folder / "out"
+        text.write_bytes(batch_file(range(self.done + 1, self.done + batches + 1)))
+        status, seconds = run_until([*self.program, "--disk", self.path], text, out, delay=delay)
+        return status, out.read_bytes(), seconds
+
+    def read_back(self) -> Lines:
+        """Returns what is recovered, as `read_back_after` has it, or how the session ended that reads it."""
+        ended = subprocess.run([*self.program, "--disk", self.path], input=READ_BACK, capture_output=True)
+        if ended.returncode:
+            return [b"status %d: %s" % (ended.returncode, ended.stderr.strip())]
+        words = [line.split() for line in ended.stdout.splitlines()]
+        return [b" ".join([line[0], line[-1]]) if line[:1] == [b"ok"] else b" ".join(line) for line in words]
+
+    def check(self, batches: int, output: bytes) -> str | None:
+        """Returns what is wrong with the output for `batches` batches, or with what is recovered. The store continues from there."""
+        expected = answers(self.done + 1, self.done + batches)
+        lines = whole_lines(output)
+        if lines != expected[: len(lines)]:
+            return f"the output has {first_difference(lines, expected)}"
+        last = self.done + count_flushes(output)
+        recovered = self.read_back()
+        for self.done in range(last, min(last + 1, self.done + batches) + 1):
+            if recovered == read_back_after(self.done):
+                return None
+        return f"after {last} flushes the file has {first_difference(recovered, read_back_after(last))}"
+
+
+def time_whole_run(program: Sequence[Path], batches: int, folder: Path) -> float:
+    """Returns the seconds of a run that is not killed, from its first lines on. All its batches must be recovered."""
+    store = KilledStore(program, folder / "whole").create()
+    status, output, seconds = store.run(batches, folder)
+    wrong = store.check(batches, output) if status == 0 else f"status {status}"
+    if wrong or store.done < batches:
+        sys.exit(f"without a kill: {wrong or f'{store.done} of {batches} batches were done'}")
+    return seconds
+
+
+@dataclass(frozen=True)
+class KillOptions:
+    """How often sessions are killed, and one store before the next is made; how many batches a session has, each with a flush; and the seed."""
+
+    kills: int = 20
+    lives: int = 4
+    batches: int = 1_000
+    seed: int = 1
+
+
+def kill_often(program: Sequence[Path], options: KillOptions, folder: Path) -> tuple[list[str], Counter[int]]:
+    """Kills the sessions of a store, each of which goes on from what was recovered; then those of the next store. Returns what went wrong, and how
+    often the store of the last flush that was reported was recovered (0), or one flush more (1)."""
+    chance = random.Random(options.seed)
+    whole = time_whole_run(program, options.batches, folder)
+    print(f"{options.batches} batches take {whole:.2f} s", file=sys.stderr)
+    wrongs: list[str] = []
+    further: Counter[int] = Counter()
+    store, kill = None, 0
+    while kill < options.kills:
+        if store is None or store.kills == options.lives or store.done > MOST:
+            store = KilledStore(program, folder / f"store{kill + 1}").create()
+        before, delay = store.done, whole * chance.random()
+        status, output, _ = store.run(options.batches, folder, delay)
+        wrong = store.check(options.batches, output) if status in (0, -9) else f"status {status}"
+        if status == 0 and wrong is None:
+            whole *= 0.8  # the session ended before its kill
+            continue
+        kill += 1
+        store.kills += 1
+        flushes = count_flushes(output)
+        found = wrong or f"{flushes} flushes reported, {store.done - before} recovered"
+        print(f"kill {kill} after {delay:.3f} s, {store.path.name} with {before} flushes before: {found}", file=sys.stderr)
+        if wrong:
+            wrongs.append(f"kill {kill}, {store.path.name}: {wrong}")
+            store = None
+        else:
+            further[store.done - before - flushes] += 1
+    return wrongs, further
