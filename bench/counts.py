@@ -2,7 +2,7 @@
 """Counts what a batch costs, by valgrind's callgrind: instructions a command, and misses of a last cache of 2 MB, phase by phase.
 
 The same program on the same commands counts the same whatever else the machine does, so it compares two trees where times can't. It builds
-`crew/` without a proof over the crates of each tree (`library.py`); the counts are of such builds alone. What other threads do is not counted, so
+`crew/` without a proof over the crates of each tree (`tools/building.py`); the counts are of such builds alone. What other threads do is not counted, so
 batches are shorter than the 4,096 commands from which on some trees sort by several threads. It needs valgrind and a C compiler.
 """
 
@@ -17,7 +17,7 @@ from pathlib import Path
 
 sys.path.insert(0, str(Path(__file__).resolve().parent.parent))
 
-from bench import library
+from tools import building
 
 HERE = Path(__file__).resolve().parent
 PHASES = ["load", "gets", "half", "singles", "deletes"]
@@ -36,10 +36,9 @@ def build_counter(folder: Path) -> Path:
 
 def build_program(tree: Path, folder: Path) -> Path:
     """Builds the program over the crates of this tree."""
-    folder.mkdir()
-    library.TOP = tree
-    library.build(["crew"], folder, is_proved=False)
-    return folder / "crew_bench"
+    program = folder / "crew_bench"
+    building.build_unproved(program.name, program, tree)
+    return program
 
 
 def fields(text: str, name: str) -> list[str]:

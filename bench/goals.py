@@ -18,12 +18,13 @@ from typing import Any
 
 sys.path.insert(0, str(Path(__file__).resolve().parent.parent))
 
-from bench import library, persistent, plot
+from bench import persistent, plot
 from bench.crew import GRAIN, PHASES, time_long_batches
 from bench.peer_programs import PEER, build_rust_peer
 from bench.tables import print_table
 from bench.timing import Results, TimedProgram, run_phases
 from bench.workload import HALF, LOAD, LONG, Phase, Workload, dels, gets, write_phases
+from tools import building
 from tools.processes import PROGRAM, Command, exit_if_missing
 
 HERE = Path(__file__).resolve().parent
@@ -254,9 +255,9 @@ def build_library(options: argparse.Namespace) -> list[str]:
     """Builds the programs over the library that are missing or older than the program, and returns the parts that cannot be measured for want of
     one."""
     programs = {part: options.library / f"{name}_bench" for part, name in OVER_LIBRARY.items() if part in options.only}
-    due = [OVER_LIBRARY[part] for part, program in programs.items() if is_older(program, options.program)]
-    if due:
-        library.build(due, options.library, not options.unproved)
+    for program in programs.values():
+        if is_older(program, options.program):
+            (building.build_unproved if options.unproved else building.build_proved)(program.name, program)
     return [part for part, program in programs.items() if is_older(program, options.program)]
 
 
@@ -377,7 +378,7 @@ def arguments() -> argparse.Namespace:
     parser.add_argument("--repeats", type=int, default=3, help="how often each is run; the least counts")
     parser.add_argument("--only", nargs="+", choices=PARTS, default=PARTS, metavar="PART", help=", ".join(PARTS))
     parser.add_argument("--program", type=Path, default=PROGRAM)
-    parser.add_argument("--library", type=Path, default=library.BUILT, help="where range_bench and crew_bench are, and are built if they are missing")
+    parser.add_argument("--library", type=Path, default=building.BUILT, help="where range_bench and crew_bench are, and are built if they are missing")
     parser.add_argument("--unproved", action="store_true", help="notes that the programs are built without proofs, and builds so what is missing")
     parser.add_argument("--folder", default="/var/tmp", help="where the stores are made: on the disk that is to be measured (/var/tmp)")
     parser.add_argument("--figures", type=Path, default=HERE / "goals.json", help="where the figures are written")

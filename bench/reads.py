@@ -11,8 +11,8 @@ from pathlib import Path
 
 sys.path.insert(0, str(Path(__file__).resolve().parent.parent))
 
-from bench import library
 from bench.peer_programs import PEER, build_rust_peer
+from tools import building
 from tools.processes import pipe_of, processor_seconds, wait_for_end
 
 SETTINGS = {"fan 64, chain 16": ["64", "16"], "defaults": ["16", "4"]}
@@ -35,13 +35,13 @@ def seconds(command: Sequence[str | Path]) -> tuple[float, bytes]:
 
 def main() -> None:
     parser = argparse.ArgumentParser(description=(__doc__ or "").splitlines()[0])
-    parser.add_argument("--library", type=Path, default=library.BUILT, help="where range_bench is, and is built if it is missing")
+    parser.add_argument("--library", type=Path, default=building.BUILT, help="where range_bench is, and is built if it is missing")
     parser.add_argument("--repeats", type=int, default=3, help="and the least is taken")
     parser.add_argument("--reads", nargs="*", default=list(READS), choices=list(READS))
     options = parser.parse_args()
     program = options.library / "range_bench"
     if not program.exists():
-        library.build(["range"], options.library, True)
+        building.build_proved(program.name, program)
     with tempfile.TemporaryDirectory() as folder:
         peer = build_rust_peer(Path(folder), "range/peer.rs")
         commands: dict[str, Sequence[str | Path]] = {PEER: peer} if peer else {}

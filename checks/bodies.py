@@ -111,7 +111,7 @@ def fits(edit: Edit, group: list[Edit]) -> bool:
 def run_check(workspace: kit.Workspace, crate: str, folder: Path, kept: Path, functions: list[str]) -> tuple[int, str]:
     """Checks these functions of a copy of a crate over what earlier checks have kept, and returns the prover's status and what it printed."""
     names = [word for function in functions for word in ("--only", function)]
-    words = [kit.RATTLE, "check", *workspace.check_words(crate), "--incremental", kept, *names]
+    words: list[str | Path] = [kit.RATTLE, "check", *workspace.check_words(crate), "--incremental", kept, *names]
     ran = subprocess.run(words, cwd=folder, stdin=subprocess.DEVNULL, stdout=subprocess.PIPE, stderr=subprocess.STDOUT, text=True, errors="replace")
     return ran.returncode, ran.stdout
 
