@@ -256,8 +256,10 @@ def build_library(options: argparse.Namespace) -> list[str]:
     one."""
     programs = {part: options.library / f"{name}_bench" for part, name in OVER_LIBRARY.items() if part in options.only}
     for program in programs.values():
-        if is_older(program, options.program):
-            (building.build_unproved if options.unproved else building.build_proved)(program.name, program)
+        if is_older(program, options.program) and options.unproved:
+            building.build_unproved(program.name, program)
+        elif is_older(program, options.program):
+            building.build_proved(program.name, program)
     return [part for part, program in programs.items() if is_older(program, options.program)]
 
 

@@ -13,7 +13,7 @@ sys.path.append(str(Path(__file__).resolve().parent.parent))
 from tools import building  # noqa: E402
 
 # What each is shown on: the lines of a first session, and those of a second one, on the file that the first left.
-SESSIONS = {
+SESSIONS: dict[str, tuple[list[str], ...]] = {
     "events": (["append 20261127 rain", "append 20261128 walk", "append 20261128 tea"], ["day 20261128", "newest 3"]),
     "people": (["add ann Rome", "add cat Rome"], ["add ann Oslo", "in Rome", "check"]),
     "cache": (["put a one", "put b two", "get a", "evict 1"], ["get a", "get b"]),
