@@ -1,13 +1,13 @@
 -- What the making of a store comes to.
-use Rattle.std.specs.Prelude.{◌≡◌, ℕ, ◌+◌, ◌≤◌, nat_lt, IsTrue, Bool, true, false, if◌then◌else◌, List, length, replicate, Option, Some, None, Result, Ok, Err, MatchOption}
+use Rattle.std.specs.Prelude.{◌≡◌, ℕ, ◌+◌, ◌<◌, ◌≤◌, nat_lt, IsTrue, Bool, true, false, if◌then◌else◌, List, length, replicate, Option, Some, None, Result, Ok, Err, MatchOption}
 use Rattle.std.specs.Option.{option_or}
 use Rattle.std.proofs.Common.{refl, sym, ap, ◌∙◌, subst, arith}
-use Rattle.std.proofs.lemmas.Bool.{ltb-false}
+use Rattle.std.proofs.lemmas.Bool.{ltb-false, le-ltb, lt-ltb}
 use Rattle.std.proofs.Math.Nat.{mul-le-mul}
 use Rattle.std.proofs.lemmas.List.{length-replicate}
 use Rattle.keys.specs.Limits.{first_bad_field}
 use Rattle.keys.specs.declared.fault.Fault.{Fault}
-use Rattle.keys.specs.declared.fault.Fault.TheVariants.{DiskTooSmall}
+use Rattle.keys.specs.declared.fault.Fault.TheVariants.{BadSettings, DiskTooSmall}
 use Rattle.keys.specs.declared.settings.Field.{Field}
 use Rattle.keys.specs.declared.settings.Settings.{Settings}
 use Rattle.keys.specs.declared.version.Version.{Version}
@@ -37,6 +37,31 @@ none_by (Some f) b e = absurd (cc)
 
 pub fits : (s : Settings) (size : ℕ) → create_refusal s size ≡ None → (first_bad_field s ≡ None) × (disk_size s ≤ size)
 fits s size e = let parts = none_by (first_bad_field s) (nat_lt size (disk_size s)) e in (parts.0, ltb-false size (disk_size s) parts.1)
+
+-- why no store is made: for its first bad field
+refused_by : {X U : Type 0} (o : Option Field) (rest : Option Fault) (u : U) (r : Result U Fault) (fault : Fault) (result : Result X Fault) (P : Type 0) → MatchOption o (r ≡ Ok u) (λ field. r ≡ Err (BadSettings field)) → r ≡ Err fault → result ≡ Err fault
+    → MatchOption (option_or (field_fault o) rest) P (λ f. result ≡ Err f)
+refused_by None rest u r fault result P given was reported = absurd (cc)
+refused_by (Some field) rest u r fault result P given was reported =
+    let same : fault ≡ BadSettings field = cc in
+    cc
+
+pub refused_by_field : {X U : Type 0} (s : Settings) (size : ℕ) (u : U) (r : Result U Fault) (fault : Fault) (result : Result X Fault) (P : Type 0) → MatchOption (first_bad_field s) (r ≡ Ok u) (λ field. r ≡ Err (BadSettings field)) → r ≡ Err fault
+    → result ≡ Err fault → MatchOption (create_refusal s size) P (λ f. result ≡ Err f)
+refused_by_field s size u r fault result P given was reported = refused_by (first_bad_field s) (if nat_lt size (disk_size s) then Some DiskTooSmall else None) u r fault result P given was reported
+
+by_size : (s : Settings) (size : ℕ) (b : Bool) → first_bad_field s ≡ None → nat_lt size (disk_size s) ≡ b → create_refusal s size ≡ (if b then Some DiskTooSmall else None)
+by_size s size b good is =
+    ap (λ (o : Option Field). option_or (field_fault o) (if nat_lt size (disk_size s) then Some DiskTooSmall else None)) good
+    ∙ ap (λ (t : Bool). (let o : Option Fault = if t then Some DiskTooSmall else None in o)) is
+
+-- else for the size of its disk
+pub too_small : (s : Settings) (size : ℕ) → first_bad_field s ≡ None → size < disk_size s → create_refusal s size ≡ Some DiskTooSmall
+too_small s size good less = by_size s size true good (lt-ltb size (disk_size s) less)
+
+-- else it isn't refused
+pub none_refused : (s : Settings) (size : ℕ) → first_bad_field s ≡ None → disk_size s ≤ size → create_refusal s size ≡ None
+none_refused s size good room = by_size s size false good (le-ltb size (disk_size s) room)
 
 -- so a disk has room for the bytes of a new store
 pub new-fits : (s : Settings) (bytes : List ℕ) (len small size : ℕ) → first_bad_field s ≡ None → bytes ≡ new_bytes s → small ≤ len → len ≡ size → small ≡ disk_size s → 0 + length bytes ≤ size

@@ -31,6 +31,7 @@ mod PlayLemmas
 mod PlayTurn
 mod ReadBatch
 mod Readied
+mod RefusedCalls
 mod Routed
 mod RunRoutes
 mod SeenLeaves

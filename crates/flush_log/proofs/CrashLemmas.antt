@@ -1,6 +1,7 @@
 -- What a crash leaves of a disk for tests: it is one of what may be left, and follows from the bytes as of the last sync.
-use Rattle.std.proofs.Common.{◌≡◌, inr, ℕ, ◌+◌, ◌-◌, ◌<◌, ◌≤◌, List, [], ◌∷◌, ◌++◌, length, get_or, take, drop, replicate, refl, sym, ap, subst, ◌∙◌, arith, length-append, Result, Ok, Err, IfOk, OnOk, OnErr}
+use Rattle.std.proofs.Common.{◌≡◌, inr, ℕ, ◌+◌, ◌-◌, ◌<◌, ◌≤◌, List, [], ◌∷◌, ◌++◌, length, get_or, take, drop, replicate, refl, sym, ap, subst, ◌∙◌, arith, length-append, Result, Ok, Err, IsErr, IfOk, OnOk, OnErr}
 use Rattle.std.proofs.lemmas.List.{length-map, length-replicate, take-append-drop, drop-append-le, drop_all, drop-map, take_rest, append-nil}
+use Rattle.std.proofs.lemmas.Bool.{false≢true}
 use Rattle.index_page.proofs.ListLemmas.{all_apart}
 use Rattle.flush_log.specs.Overlay.{overlay, IsBeside, AgreeAt}
 use Rattle.flush_log.specs.Disk.{Torn}
@@ -127,6 +128,10 @@ module _ {A : Type 0} (cs held : List (RecordedCall A)) (is : held ≡ cs) (n si
       subst (λ (xs : List Call). AreCalls (length bytes) xs) (sym (calls_after cs held since is))
       (range-following (length bytes) since (calls_of cs) (subst (λ (k : ℕ). AreCalls k (calls_of cs)) (sym (ap length copied ∙ long ∙ zeros)) fit))
 
+  -- the place of the last sync lies within the record
+  pub since-within : since ≤ length (calls_of cs) → since ≤ length held
+  since-within within = let long = length-map cs call_of in let same = ap (λ xs. length xs) is in omega (arith, within, long, same)
+
   -- with these writes torn they are what is left
   pub tear-left : (fill : Fill) (bytes now : List ℕ) → bytes ≡ settled → IsSettledAt (replicate n 0) (calls_of cs) since settled
       → now ≡ all_torn fill (calls_of (take (length held - since) (drop since held))) bytes → now ≡ left_with fill (calls_of cs) (replicate n 0) (replicate n 0)
@@ -168,6 +173,10 @@ module _ (file : List ℕ) (calls more : List Call) (since : ℕ) (settled : Lis
         ∙ sym (ap (λ (xs : List Call). all_torn fill xs now) (drop_all upto more (omega (arith, all))));
   }
 
+-- it does so after one call more
+pub since-following : (calls more : List Call) (x : Call) (since : ℕ) → more ≡ calls ++ x ∷ [] → since ≤ length calls → since ≤ length more
+since-following calls more x since is within = let long = ap length is ∙ length-append calls (x ∷ []) in omega (arith, within, long)
+
 -- a sync of a disk of n zeros: m is the disk's length after it, and its record is lent twice
 pub settled-tear : {A : Type 0} (cs held counted : List (RecordedCall A)) (n m : ℕ) (calls : List Call) (since : ℕ) (settled now : List ℕ) → held ≡ cs → counted ≡ cs → m ≡ n
     → calls_of cs ≡ calls ++ Sync ∷ [] → IsSettledAt (replicate n 0) calls since settled
@@ -186,6 +195,12 @@ settled-either result n m calls more since settled at bytes same done refused wa
     (λ is. settled-write (replicate n 0) calls more since settled was at bytes is)
     (λ is. subst (λ (xs : List Call). IsSettledAt (replicate n 0) xs since settled) (sym is) was))
 
+-- a call of a disk of n zeros that was not recorded; m is the disk's length after it
+pub settled-still : (n m : ℕ) (calls more : List Call) (since : ℕ) (settled : List ℕ) → m ≡ n → more ≡ calls → IsSettledAt (replicate n 0) calls since settled → IsSettledAt (replicate m 0) more since settled
+settled-still n m calls more since settled same is was =
+    subst (λ (k : ℕ). IsSettledAt (replicate k 0) more since settled) (sym same)
+    (subst (λ (xs : List Call). IsSettledAt (replicate n 0) xs since settled) (sym is) was)
+
 -- all that is kept of a disk, m of k bytes before and now, is still all of it
 pub whole-still : (before now k m : ℕ) → m ≡ k → before ≡ k → before ≤ now → now ≤ m → now ≡ m
 whole-still before now k m same was grew short = omega (arith, same, was, grew, short)
@@ -199,6 +214,11 @@ left-now fill n calls c fit is =
     (left-may fill calls (replicate n 0) (replicate n 0) (λ d. d ≡ replicate n 0) (subst (λ (k : ℕ). AreCalls k calls) (sym long) fit) refl refl))
 
 -- ---- a disk that is made of it
+
+-- of a disk that was not made nothing is asked
+pub not_made : {T E : Type 0} (result : Result T E) (P : T → Type 0) → IsErr result → IfOk result P
+not_made (Ok t) P is = absurd (false≢true is)
+not_made (Err e) P is = tt
 
 pub seen_as : {T E X : Type 0} (result : Result T E) (seen : T → X) (a b : X) → a ≡ b → IfOk result (λ t. seen t ≡ a) → IfOk result (λ t. seen t ≡ b)
 seen_as (Ok t) seen a b is h = h ∙ is

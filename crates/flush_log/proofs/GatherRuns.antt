@@ -1,5 +1,5 @@
 -- A walk over frames that gathers and writes them: what is written, and what a crash leaves meanwhile.
-use Rattle.std.proofs.Common.{◌≡◌, ℕ, ◌≤◌, IsTrue, Result, Ok, Err, OnOk, List, [], ◌∷◌, ◌++◌, refl, sym, ap, subst, ◌∙◌, arith, ◌⊎◌, inl, inr}
+use Rattle.std.proofs.Common.{◌≡◌, ℕ, ◌≤◌, IsTrue, Result, Ok, Err, OnOk, List, [], ◌∷◌, ◌++◌, length, refl, sym, ap, subst, ◌∙◌, arith, ◌⊎◌, inl, inr}
 use Rattle.keys.specs.Bytes.{Bytes}
 use Rattle.keys.specs.declared.settings.Settings.{Settings}
 use Rattle.flush_log.specs.Commit.{IsBesideSpans}
@@ -7,7 +7,7 @@ use Rattle.flush_log.specs.Disk.{View, Lawful, Kept, Leaves}
 use Rattle.flush_log.specs.Gathering.{left_by, open_after}
 use Rattle.flush_log.specs.Images.{FitSegments}
 use Rattle.flush_log.specs.Layout.{Span, place_of_span, with_spans}
-use Rattle.flush_log.specs.Overlay.{overlay, AgreeAt}
+use Rattle.flush_log.specs.Overlay.{overlay, IsBeside, AgreeAt}
 use Rattle.flush_log.specs.Slot.{greatest}
 use Rattle.flush_log.proofs.GatherLemmas.{left-append, open-append, open-rises}
 use Rattle.flush_log.proofs.OverlayLemmas.{agree_same, agree_then, agree_less}
@@ -28,6 +28,12 @@ stays v step law same = record {
 -- a run by steps that are such as well
 pub leaves_less : (old new : View) (r q : Bytes → Bytes → Type 0) → ((d e : Bytes) → r d e → q d e) → Leaves old new r → Leaves old new q
 leaves_less old new r q so run = record { time = run.time; crash = λ c left. let from = run.crash c left in (from.0, from.1, so from.0 c from.2) }
+
+-- a write of one span
+pub leaves-span : (s : Settings) (r : Span) (at : ℕ) (old new : View) → at ≡ place_of_span s r → Leaves old new (AgreeAt (IsBeside at (length r.bytes))) → Leaves old new (AgreeAt (IsBesideSpans s (r ∷ [])))
+leaves-span s r at old new is run =
+    leaves_less old new (AgreeAt (IsBeside at (length r.bytes))) (AgreeAt (IsBesideSpans s (r ∷ [])))
+    (λ d e h. agree_less (IsBeside at (length r.bytes)) (IsBesideSpans s (r ∷ [])) d e (λ i out. subst (λ (n : ℕ). IsBeside n (length r.bytes) i) (sym is) out.0) h) run
 
 pub on_ok : {X E P Q : Type 0} (r : Result X E) → (P → Q) → OnOk r P → OnOk r Q
 on_ok (Ok x) so h = so h

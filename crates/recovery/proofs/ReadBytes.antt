@@ -1,6 +1,7 @@
 -- Bytes that a reading of a disk may have found.
-use Rattle.std.specs.Prelude.{◌≡◌, ◌≢◌, ◌⊎◌, ℕ, Bool, true, false, IsTrue, List, replicate, Result, Ok, Err, IsErrAnd, IfErr, OnOk, MatchResult}
+use Rattle.std.specs.Prelude.{◌≡◌, ◌≢◌, ◌⊎◌, ℕ, Bool, true, false, IsTrue, List, replicate, Result, Ok, Err, IsErr, IsErrAnd, IfOk, IfErr, OnOk, MatchResult}
 use Rattle.std.proofs.Common.{refl, sym, subst, ◌∙◌, inl}
+use Rattle.std.proofs.lemmas.Bool.{false≢true}
 use Rattle.std.proofs.lemmas.List.{length-replicate}
 use Rattle.keys.specs.declared.fault.Fault.{Fault}
 use Rattle.keys.specs.declared.fault.Fault.TheVariants.{NoMemory, Device}
@@ -82,6 +83,10 @@ err_on (Err f) Q fault is h = subst Q (sym is) h
 pub not_ok : {X : Type 0} (r : Result X Fault) (P : Type 0) (fault : Fault) → IsErrAnd r (λ f. f ≡ fault) → OnOk r P
 not_ok (Ok x) P fault is = absurd is
 not_ok (Err f) P fault is = tt
+
+pub nothing_of : {X : Type 0} (r : Result X Fault) (P : X → Type 0) → IsErr r → IfOk r P
+nothing_of (Ok x) P is = absurd (false≢true is)
+nothing_of (Err f) P is = tt
 
 pub counted_on : {X : Type 0} (r : Result X Fault) (old mid new : ℕ) → mid ≡ old → OnOk r (new ≡ mid) → OnOk r (new ≡ old)
 counted_on r old mid new same h = subst (λ (n : ℕ). OnOk r (new ≡ n)) same h

@@ -1,16 +1,62 @@
-use Rattle.std.proofs.Common.{rules, List, ℕ, ◌≤◌, ap, ◌∙◌}
+use Rattle.std.proofs.Common.{◌<◌, ◌≤◌, List, ℕ, inl, inr, refl, ap, ◌∙◌, arith}
+use Rattle.std.proofs.lemmas.Result.{err_from_is_err_and}
 use Rattle.keys.specs.Limits.{first_bad_field}
 use Rattle.keys.specs.declared.fault.Fault.TheVariants.{BadSettings}
 use Rattle.flush_log.specs.Overlay.{overlay}
-use Rattle.engine.proofs.CreateLemmas.{not_refused, new-fits}
+use Rattle.flush_log.specs.Segments.{disk_size}
+use Rattle.flush_log.proofs.ViewLemmas.{counted_failed}
+use Rattle.engine.proofs.CreateLemmas.{not_refused, new-fits, refused_by_field, too_small, none_refused}
+use Rattle.engine.proofs.RefusedCalls.{handed_on_is}
 use Rattle.engine.proofs.store.make.Goals as goal
+
+-- ---- refused
+
+pub returns-in_err-check-clause-refused : goal.returns-in_err-check-clause-refused
+returns-in_err-check-clause-refused g c =
+    let fault = c.in_err-check.field-0.0 in
+    refused_by_field c.args.settings.now _ tt c.check.result fault c.from_residual.result _ c.check.ensures c.in_err-check.was (handed_on_is c.from_residual.result fault c.from_residual.ensures.1)
+
+pub returns-then-len-disk_size-clause-refused : goal.returns-then-len-disk_size-clause-refused
+returns-then-len-disk_size-clause-refused g c =
+    let s = c.args.settings.now in
+    let size = (g.D.Disk.view c.args.disk.now).size in
+    let good = not_refused (λ field. BadSettings field) (first_bad_field s) c.check.result tt _ c.check.ensures c.in_ok-check.was in
+    let less : size < disk_size s = omega (arith, c.if-len-disk_size.true, c.len.ensures, c.disk_size.ensures) in
+    rw (too_small s size good less) refl
+
+pub returns-in_err-tree-clause-refused : goal.returns-in_err-tree-clause-refused
+returns-in_err-tree-clause-refused g c =
+    let s = c.args.settings.now in
+    let size = (g.D.Disk.view c.args.disk.now).size in
+    let good = not_refused (λ field. BadSettings field) (first_bad_field s) c.check.result tt _ c.check.ensures c.in_ok-check.was in
+    let room : disk_size s ≤ size = omega (arith, c.if-len-disk_size.false, c.len.ensures, c.disk_size.ensures) in
+    let p = err_from_is_err_and c.from_residual-in_err-tree.result c.from_residual-in_err-tree.ensures.1 in
+    rw (none_refused s size good room, p.1, p.2) (inl refl)
+
+pub returns-in_err-write_through-clause-refused : goal.returns-in_err-write_through-clause-refused
+returns-in_err-write_through-clause-refused g c =
+    let s = c.args.settings.now in
+    let size = (g.D.Disk.view c.args.disk.now).size in
+    let good = not_refused (λ field. BadSettings field) (first_bad_field s) c.check.result tt _ c.check.ensures c.in_ok-check.was in
+    let room : disk_size s ≤ size = omega (arith, c.if-len-disk_size.false, c.len.ensures, c.disk_size.ensures) in
+    let p = err_from_is_err_and c.from_residual-in_err-write_through.result c.from_residual-in_err-write_through.ensures.1 in
+    rw (none_refused s size good room, p.1, p.2) (inr (refl, counted_failed _ _ c.in_err-write_through.ensures.failed))
+
+-- ---- made
 
 pub write_through-requires : goal.write_through-requires
 write_through-requires g c =
     let s = c.args.settings.now in
     let good = not_refused (λ field. BadSettings field) (first_bad_field s) c.check.result tt _ c.check.ensures c.in_ok-check.was in
-    let room : c.disk_size.result ≤ c.len.result = (search rules) in
-    new-fits s c.new_bytes.result c.len.result c.disk_size.result _ good c.new_bytes.ensures room c.len.ensures c.disk_size.ensures
+    new-fits s c.new_bytes.result c.len.result c.disk_size.result _ good c.new_bytes.ensures c.if-len-disk_size.false c.len.ensures c.disk_size.ensures
+
+pub returns-clause-refused : goal.returns-clause-refused
+returns-clause-refused g c =
+    let s = c.args.settings.now in
+    let size = (g.D.Disk.view c.args.disk.now).size in
+    let good = not_refused (λ field. BadSettings field) (first_bad_field s) c.check.result tt _ c.check.ensures c.in_ok-check.was in
+    let room : disk_size s ≤ size = omega (arith, c.if-len-disk_size.false, c.len.ensures, c.disk_size.ensures) in
+    rw (none_refused s size good room) tt
 
 pub returns-clause-bytes : goal.returns-clause-bytes
 returns-clause-bytes g c honest =

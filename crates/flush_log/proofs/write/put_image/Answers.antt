@@ -1,8 +1,21 @@
-use Rattle.std.proofs.Common.{◌∷◌, [], ◌+◌, drop, subst, ◌∙◌, arith}
-use Rattle.flush_log.specs.Gathering.{span_of}
+use Rattle.std.proofs.Common.{◌≡◌, List, ◌∷◌, [], ◌+◌, drop, refl, subst, ◌∙◌, arith}
+use Rattle.std.proofs.lemmas.List.{drop_all}
+use Rattle.keys.specs.Bytes.{Bytes}
+use Rattle.flush_log.specs.Gathering.{span_of, left_by, open_after}
+use Rattle.flush_log.specs.Layout.{with_spans}
 use Rattle.flush_log.proofs.ReachLemmas.{front}
-use Rattle.flush_log.proofs.GatherRuns.{Going, going-room, going-leaves, going-on}
+use Rattle.flush_log.proofs.GatherRuns.{Going, going-starts, going-room, going-leaves, going-on}
 use Rattle.flush_log.proofs.write.put_image.Goals as goal
+
+pub loop-at-init : goal.loop-at-init
+loop-at-init g c =
+    let disk = g.D.Disk in
+    record {
+      inside = c.requires.inside;
+      buffer = c.requires.buffer;
+      failed = refl;
+      going = going-starts c.args.settings.now (span_of c.args.part c.args.buffer.now) c.args.image.now (disk.view c.args.disk.now) (g.met.D.Disk.lawful c.args.disk.now) c.requires.fits c.requires.room;
+    }
 
 pub put_frame-requires-clause-room : goal.put_frame-requires-clause-room
 put_frame-requires-clause-room g c =
@@ -42,3 +55,31 @@ loop-at-preserved g c =
           going-on s start c.args.image.now (disk.view c.args.disk.now) (disk.view c.loop-at.disk) (disk.view c.put_frame.new.disk) r (c.frame.result.now ∷ []) (drop (c.loop-at.at + 1) c.args.image.now)
           (g.met.D.Disk.lawful c.loop-at.disk) going c.put_frame.ensures.kept c.put_frame.ensures.crash (span_of c.in_ok-gathered.gathered c.put_frame.new.buffer) put.same put.written;
     }
+
+pub returns-clause-inside : goal.returns-clause-inside
+returns-clause-inside g c = c.loop-at.invariant.inside
+
+pub returns-clause-same : goal.returns-clause-same
+returns-clause-same g c =
+    let s = c.args.settings.now in
+    let r = span_of c.loop-at.gathered c.loop-at.buffer in
+    let none = drop_all c.loop-at.at c.args.image.now (omega arith) in
+    subst (λ (frames : List Bytes). open_after s r frames ≡ open_after s (span_of c.args.part c.args.buffer.now) c.args.image.now) none c.loop-at.invariant.going.same
+
+pub returns-clause-kept : goal.returns-clause-kept
+returns-clause-kept g c = c.loop-at.invariant.going.kept
+
+pub returns-clause-failed : goal.returns-clause-failed
+returns-clause-failed g c = c.loop-at.invariant.failed
+
+pub returns-clause-written : goal.returns-clause-written
+returns-clause-written g c honest =
+    let s = c.args.settings.now in
+    let view = g.D.Disk.view in
+    let r = span_of c.loop-at.gathered c.loop-at.buffer in
+    let left = left_by s (span_of c.args.part c.args.buffer.now) c.args.image.now in
+    let none = drop_all c.loop-at.at c.args.image.now (omega arith) in
+    subst (λ (frames : List Bytes). with_spans s (view c.loop-at.disk).seen (left_by s r frames) ≡ with_spans s (view c.args.disk.now).seen left) none (c.loop-at.invariant.going.written honest)
+
+pub returns-clause-crash : goal.returns-clause-crash
+returns-clause-crash g c honest = c.loop-at.invariant.going.crash honest

@@ -1,9 +1,10 @@
-use Rattle.std.proofs.Common.{◌≡◌, ℕ, ◌+◌, ◌-◌, refl, sym, subst, ◌∙◌, arith}
+use Rattle.std.proofs.Common.{◌≡◌, ℕ, ◌+◌, ◌-◌, refl, sym, subst, ◌∙◌, arith, inl}
 use Rattle.std.specs.List.{length_refill}
 use Rattle.flush_log.specs.Reading.{read_earlier}
 use Rattle.flush_log.specs.Segments.{last_segment}
 use Rattle.recovery.specs.Gathered.{IsSoFar}
-use Rattle.recovery.proofs.ReadBytes.{kept_self, same_self, kept_then, same_then}
+use Rattle.recovery.specs.Recovered.{IsLate}
+use Rattle.recovery.proofs.ReadBytes.{IsUncounted, kept_self, same_self, kept_then, same_then, same_on, late_since, err_on, not_ok}
 use Rattle.recovery.proofs.ReadLog.{none-read, round-more, is_last}
 use Rattle.recovery.proofs.log_reading.read_earlier.Goals as goal
 
@@ -23,6 +24,12 @@ loop-first-init g c =
       counted = refl;
       read = λ w file is none. (file, none-read (IsSoFar w c.args.so_far.now.gathering c.args.so_far.now.fault) start format t.head (t.head - t.head) file (omega arith) is none);
     }
+
+pub read_whole-requires-clause-within : goal.read_whole-requires-clause-within
+read_whole-requires-clause-within g c =
+    let within = c.requires.within in
+    let kept = c.loop-first.invariant.kept.size in
+    omega (arith, within, kept)
 
 pub loop-first-preserved : goal.loop-first-preserved
 loop-first-preserved g c =
@@ -56,6 +63,92 @@ loop-first-preserved g c =
                 upto bytes front state (c.in_ok-take.ensures.ok w),
           );
     }
+
+-- these segments were not read
+pub returns-in_err-segments-clause-read : goal.returns-in_err-segments-clause-read
+returns-in_err-segments-clause-read g c w file is none =
+    let t = c.args.ends.now in
+    let few = c.min-count.ensures in
+    let less = c.loop-first-test.true in
+    let last = c.last_segment-last.ensures in
+    let free = (is_last c.args.format.now.settings t c.requires.checked c.requires.ends).free in
+    let from = c.loop-first.invariant.from in
+    let (now, upto) = c.loop-first.invariant.read w file is none in
+    let (then, bytes, front, state) = c.in_err-segments.ensures.read now t.head upto.bytes from (omega (arith, free, few, less, last, from)) in
+    (then, bytes, front ∙ upto.front, not_ok c.from_residual.result _ c.in_err-segments.field-0.0 c.from_residual.ensures.1)
+
+pub returns-in_err-segments-clause-room : goal.returns-in_err-segments-clause-room
+returns-in_err-segments-clause-room g c =
+    let buffer = c.loop-first.buffer in
+    sym (length_refill buffer.len buffer.items _ buffer.ok.0) ∙ buffer.ok.0 ∙ c.loop-first.invariant.buffer
+
+pub returns-in_err-segments-clause-err : goal.returns-in_err-segments-clause-err
+returns-in_err-segments-clause-err g c =
+    let failed = g.D.Disk.failed in
+    err_on c.from_residual.result (IsLate (failed c.args.disk.now) (failed c.read_whole.new.disk)) c.in_err-segments.field-0.0 c.from_residual.ensures.1
+    (late_since _ _ _ _ c.loop-first.invariant.counted c.in_err-segments.ensures.err)
+
+pub returns-in_err-segments-clause-kept : goal.returns-in_err-segments-clause-kept
+returns-in_err-segments-clause-kept g c =
+    let view = g.D.Disk.view in
+    kept_then (view c.args.disk.now) (view c.loop-first.disk) (view c.read_whole.new.disk) c.loop-first.invariant.kept c.read_whole.ensures.kept
+
+pub returns-in_err-segments-clause-same : goal.returns-in_err-segments-clause-same
+returns-in_err-segments-clause-same g c =
+    let view = g.D.Disk.view in
+    same_on (view c.args.disk.now) (view c.loop-first.disk) (view c.read_whole.new.disk) c.loop-first.invariant.kept c.loop-first.invariant.same c.read_whole.ensures.same
+
+pub returns-in_err-segments-clause-counted : goal.returns-in_err-segments-clause-counted
+returns-in_err-segments-clause-counted g c = not_ok c.from_residual.result _ c.in_err-segments.field-0.0 c.from_residual.ensures.1
+
+pub returns-in_err-segments-clause-uncounted : goal.returns-in_err-segments-clause-uncounted
+returns-in_err-segments-clause-uncounted g c =
+    let failed = g.D.Disk.failed in
+    err_on c.from_residual.result (IsUncounted (failed c.args.disk.now) (failed c.read_whole.new.disk)) c.in_err-segments.field-0.0 c.from_residual.ensures.1
+    (λ other. c.in_err-segments.ensures.uncounted other ∙ c.loop-first.invariant.counted)
+
+-- these were not taken
+pub returns-in_err-take-clause-read : goal.returns-in_err-take-clause-read
+returns-in_err-take-clause-read g c w file is none =
+    let t = c.args.ends.now in
+    let few = c.min-count.ensures in
+    let less = c.loop-first-test.true in
+    let last = c.last_segment-last.ensures in
+    let free = (is_last c.args.format.now.settings t c.requires.checked c.requires.ends).free in
+    let from = c.loop-first.invariant.from in
+    let (now, upto) = c.loop-first.invariant.read w file is none in
+    let (then, bytes, front, state) = c.in_ok-segments.ensures.read now t.head upto.bytes from (omega (arith, free, few, less, last, from)) in
+    (then, bytes, front ∙ upto.front, not_ok c.from_residual-in_err-take.result _ c.in_err-take.field-0.0 c.from_residual-in_err-take.ensures.1)
+
+pub returns-in_err-take-clause-room : goal.returns-in_err-take-clause-room
+returns-in_err-take-clause-room g c =
+    let buffer = c.loop-first.buffer in
+    sym (length_refill buffer.len buffer.items _ buffer.ok.0) ∙ buffer.ok.0 ∙ c.loop-first.invariant.buffer
+
+pub returns-in_err-take-clause-err : goal.returns-in_err-take-clause-err
+returns-in_err-take-clause-err g c =
+    let failed = g.D.Disk.failed in
+    err_on c.from_residual-in_err-take.result (IsLate (failed c.args.disk.now) (failed c.read_whole.new.disk)) c.in_err-take.field-0.0 c.from_residual-in_err-take.ensures.1
+    (inl c.in_err-take.ensures.err)
+
+pub returns-in_err-take-clause-kept : goal.returns-in_err-take-clause-kept
+returns-in_err-take-clause-kept g c =
+    let view = g.D.Disk.view in
+    kept_then (view c.args.disk.now) (view c.loop-first.disk) (view c.read_whole.new.disk) c.loop-first.invariant.kept c.read_whole.ensures.kept
+
+pub returns-in_err-take-clause-same : goal.returns-in_err-take-clause-same
+returns-in_err-take-clause-same g c =
+    let view = g.D.Disk.view in
+    same_on (view c.args.disk.now) (view c.loop-first.disk) (view c.read_whole.new.disk) c.loop-first.invariant.kept c.loop-first.invariant.same c.read_whole.ensures.same
+
+pub returns-in_err-take-clause-counted : goal.returns-in_err-take-clause-counted
+returns-in_err-take-clause-counted g c = not_ok c.from_residual-in_err-take.result _ c.in_err-take.field-0.0 c.from_residual-in_err-take.ensures.1
+
+pub returns-in_err-take-clause-uncounted : goal.returns-in_err-take-clause-uncounted
+returns-in_err-take-clause-uncounted g c =
+    let failed = g.D.Disk.failed in
+    err_on c.from_residual-in_err-take.result (IsUncounted (failed c.args.disk.now) (failed c.read_whole.new.disk)) c.in_err-take.field-0.0 c.from_residual-in_err-take.ensures.1
+    (λ other. c.in_ok-segments.ensures.counted ∙ c.loop-first.invariant.counted)
 
 pub returns-clause-read : goal.returns-clause-read
 returns-clause-read g c w file is none =

@@ -5,9 +5,9 @@ use Rattle.flush_log.specs.Overlay.{overlay}
 use Rattle.flush_log.specs.Segments.{disk_size, place_of_segment}
 use Rattle.flush_log.proofs.FitLemmas.{are_sized}
 use Rattle.flush_log.proofs.PlaceLemmas.{place-within}
-use Rattle.recovery.specs.Recovered.{IsReadOf}
+use Rattle.recovery.specs.Recovered.{IsReadOf, IsLate}
 use Rattle.recovery.specs.Scan.{held_segment}
-use Rattle.recovery.proofs.ReadBytes.{kept_then, same_then}
+use Rattle.recovery.proofs.ReadBytes.{IsUncounted, kept_self, same_self, kept_then, same_then, late_since, err_on, not_ok, nothing_of, counted_by, uncounted_by}
 use Rattle.recovery.proofs.ReadLog.{one-left, following-next, following-all}
 use Rattle.recovery.proofs.log_reading.read_whole.Goals as goal
 
@@ -21,6 +21,54 @@ read-requires g c =
     let within = c.requires.within in
     let kept = c.loop-number.invariant.kept.size in
     omega (arith, room, place, part, within, kept)
+
+-- memory was refused, and nothing was read
+pub returns-in_err-segments-clause-read : goal.returns-in_err-segments-clause-read
+returns-in_err-segments-clause-read g c file head is low high = (file, is, refl, nothing_of c.from_residual.result _ c.from_residual.ensures.0)
+
+pub returns-in_err-segments-clause-short : goal.returns-in_err-segments-clause-short
+returns-in_err-segments-clause-short g c = nothing_of c.from_residual.result _ c.from_residual.ensures.0
+
+pub returns-in_err-segments-clause-kept : goal.returns-in_err-segments-clause-kept
+returns-in_err-segments-clause-kept g c = kept_self (g.D.Disk.view c.args.disk.now)
+
+pub returns-in_err-segments-clause-same : goal.returns-in_err-segments-clause-same
+returns-in_err-segments-clause-same g c _ = same_self (g.D.Disk.view c.args.disk.now)
+
+pub returns-in_err-segments-clause-counted : goal.returns-in_err-segments-clause-counted
+returns-in_err-segments-clause-counted g c = counted_by c.from_residual.result (g.D.Disk.failed c.args.disk.now) (g.D.Disk.failed c.args.disk.now) refl
+
+pub returns-in_err-segments-clause-uncounted : goal.returns-in_err-segments-clause-uncounted
+returns-in_err-segments-clause-uncounted g c = uncounted_by c.from_residual.result (g.D.Disk.failed c.args.disk.now) (g.D.Disk.failed c.args.disk.now) refl
+
+-- a segment was not read
+pub returns-in_err-read-clause-read : goal.returns-in_err-read-clause-read
+returns-in_err-read-clause-read g c file head is low high =
+    let (now, upto) = c.loop-number.invariant.read file head is low high in
+    (now, c.read.ensures.stays now upto.bytes, upto.front, nothing_of c.from_residual-in_err-read.result _ c.from_residual-in_err-read.ensures.0)
+
+pub returns-in_err-read-clause-short : goal.returns-in_err-read-clause-short
+returns-in_err-read-clause-short g c = nothing_of c.from_residual-in_err-read.result _ c.from_residual-in_err-read.ensures.0
+
+pub returns-in_err-read-clause-err : goal.returns-in_err-read-clause-err
+returns-in_err-read-clause-err g c =
+    let failed = g.D.Disk.failed in
+    err_on c.from_residual-in_err-read.result (IsLate (failed c.args.disk.now) (failed c.read.new.disk)) c.in_err-read.field-0.0 c.from_residual-in_err-read.ensures.1
+    (late_since _ _ _ _ c.loop-number.invariant.counted c.in_err-read.ensures.device)
+
+pub returns-in_err-read-clause-kept : goal.returns-in_err-read-clause-kept
+returns-in_err-read-clause-kept g c =
+    let view = g.D.Disk.view in
+    kept_then (view c.args.disk.now) (view c.loop-number.disk) (view c.read.new.disk) c.loop-number.invariant.kept c.read.ensures.kept
+
+pub returns-in_err-read-clause-counted : goal.returns-in_err-read-clause-counted
+returns-in_err-read-clause-counted g c = not_ok c.from_residual-in_err-read.result _ c.in_err-read.field-0.0 c.from_residual-in_err-read.ensures.1
+
+pub returns-in_err-read-clause-uncounted : goal.returns-in_err-read-clause-uncounted
+returns-in_err-read-clause-uncounted g c =
+    let failed = g.D.Disk.failed in
+    err_on c.from_residual-in_err-read.result (IsUncounted (failed c.args.disk.now) (failed c.read.new.disk)) c.in_err-read.field-0.0 c.from_residual-in_err-read.ensures.1
+    (λ other. c.in_err-read.ensures.uncounted other ∙ c.loop-number.invariant.counted)
 
 pub returns-in_err-read-clause-same : goal.returns-in_err-read-clause-same
 returns-in_err-read-clause-same g c honest =
@@ -81,3 +129,15 @@ returns-clause-read g c file head is low high =
       upto.front,
       following-all (g.D.Disk.view c.loop-number.disk) format head (c.args.first - head) (c.loop-number.number - head) _ c.loop-number.segments.items file now all upto,
     )
+
+pub returns-clause-short : goal.returns-clause-short
+returns-clause-short g c = c.loop-number.invariant.short
+
+pub returns-clause-kept : goal.returns-clause-kept
+returns-clause-kept g c = c.loop-number.invariant.kept
+
+pub returns-clause-same : goal.returns-clause-same
+returns-clause-same g c honest = c.loop-number.invariant.same honest
+
+pub returns-clause-counted : goal.returns-clause-counted
+returns-clause-counted g c = c.loop-number.invariant.counted

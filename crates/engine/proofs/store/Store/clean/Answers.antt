@@ -1,19 +1,65 @@
-use Rattle.std.proofs.Common.{inl, refl, sym, ⊎_elim, ◌∙◌}
+use Rattle.std.proofs.Common.{◌≡◌, true, false, inl, refl, sym, subst, ⊎_elim, ◌∙◌}
+use Rattle.std.proofs.lemmas.Result.{err_from_is_err_and}
 use Rattle.flush_log.specs.AfterFlush.{slot_of}
 use Rattle.flush_log.proofs.SameLemmas.{leaves_itself}
 use Rattle.flush_log.proofs.SlotLemmas.{ends-are}
-use Rattle.engine.specs.State.{store_in}
+use Rattle.recovery.proofs.ReadBytes.{kept_self, same_self}
+use Rattle.engine.specs.Refusal.{is_crew}
+use Rattle.engine.specs.State.{IsSound, store_in}
 use Rattle.engine.proofs.CleanDone.{cleaned-now, cleaned-sound, refused-sound}
+use Rattle.engine.proofs.RefusedCalls.{not_both, failed_no_device, bad_crew_no_device}
 use Rattle.engine.proofs.store.Store.clean.Goals as goal
 
 pub clean-requires-clause-ends : goal.clean-requires-clause-ends
 clean-requires-clause-ends g c = λ κs within. ends-are c.self.inside.settings (slot_of (store_in c.self.inside.tree c.self.inside.log c.self.inside.version)) c.self.invariant.sound.is.slot
 
+-- ---- the store has failed
+
+pub returns-then-self : goal.returns-then-self
+returns-then-self g c =
+    let old = c.args.self.now in
+    let bad : old.has_failed ≡ true = subst (λ x. x.has_failed ≡ true) c.self.view_is c.if-self.true in
+    let sound : IsSound g.D.Disk.view old = rw (← c.self.view_is) c.self.invariant.sound in
+    record {
+      read = λ fine. absurd (not_both old.has_failed bad fine);
+      rest = (refl, kept_self (g.D.Disk.view old.disk));
+      failed = λ _. (refl, refl);
+      bad_crew = λ fine. absurd (not_both old.has_failed bad fine);
+      unchanged = refl;
+      fine = λ _. (refl, refl);
+      device = λ device. absurd (failed_no_device device);
+      unwritten = λ fine. absurd (not_both old.has_failed bad fine);
+      counted = tt;
+      bytes = λ _. tt;
+      settled = λ _. tt;
+      crash = λ fine. absurd (not_both old.has_failed bad fine);
+      sound = (sound, sound);
+    }
+
 -- ---- refused for its crew
 
-pub returns-in_err-admit_crew-clause-crash : goal.returns-in_err-admit_crew-clause-crash
-returns-in_err-admit_crew-clause-crash g c fine settled =
-    leaves_itself (g.D.Disk.view c.args.self.now.disk) _ (g.met.D.Disk.lawful c.args.self.now.disk settled.honest) settled (inl refl)
+pub returns-in_err-admit_crew : goal.returns-in_err-admit_crew
+returns-in_err-admit_crew g c =
+    let old = c.args.self.now in
+    let none_failed : old.has_failed ≡ false = subst (λ x. x.has_failed ≡ false) c.self.view_is c.if-self.false in
+    let sound : IsSound g.D.Disk.view old = rw (← c.self.view_is) c.self.invariant.sound in
+    let why = c.in_err-admit_crew.ensures.err in
+    let p = err_from_is_err_and c.from_residual.result c.from_residual.ensures.1 in
+    rw (p.1, p.2, why.0) (record {
+      read = λ _ able. absurd (not_both (is_crew c.args.crew) able why.1);
+      rest = (refl, kept_self (g.D.Disk.view old.disk));
+      failed = λ bad. absurd (not_both old.has_failed bad none_failed);
+      bad_crew = λ _ _. (refl, refl);
+      unchanged = refl;
+      fine = λ _. (refl, refl);
+      device = λ device. absurd (bad_crew_no_device device);
+      unwritten = λ _ _. inl (same_self (g.D.Disk.view old.disk));
+      counted = tt;
+      bytes = λ _. tt;
+      settled = λ _. tt;
+      crash = λ fine settled. leaves_itself (g.D.Disk.view old.disk) _ (g.met.D.Disk.lawful old.disk settled.honest) settled (inl refl);
+      sound = (sound, sound);
+    })
 
 -- ---- done
 

@@ -1,9 +1,57 @@
-use Rattle.std.proofs.Common.{◌≡◌, ℕ, length, replicate, refl, ap, ◌∙◌}
+use Rattle.std.proofs.Common.{◌≡◌, ℕ, length, replicate, refl, ap, ◌∙◌, rules}
 use Rattle.flush_log.specs.Commit.{seen_after}
 use Rattle.flush_log.specs.Record.{LeftNow, calls_of}
 use Rattle.flush_log.specs.Crash.{left_with}
-use Rattle.flush_log.proofs.CrashLemmas.{left-written, left-now, tear-fits, tear-left, seen_as, seen_has}
+use Rattle.flush_log.proofs.CrashLemmas.{left-written, left-now, since-within, tear-fits, tear-left, seen_as, seen_has, not_made}
 use Rattle.flush_log.proofs.crash_disk.CrashDisk.crashed.Goals as goal
+
+pub returns-in_err-bytes-clause-left : goal.returns-in_err-bytes-clause-left
+returns-in_err-bytes-clause-left g c = not_made c.from_residual.result _ c.from_residual.ensures.0
+
+pub returns-in_err-bytes-clause-filled : goal.returns-in_err-bytes-clause-filled
+returns-in_err-bytes-clause-filled g c = not_made c.from_residual.result _ c.from_residual.ensures.0
+
+pub returns-in_err-bytes-clause-written : goal.returns-in_err-bytes-clause-written
+returns-in_err-bytes-clause-written g c _ = not_made c.from_residual.result _ c.from_residual.ensures.0
+
+pub returns-in_err-bytes-clause-settled : goal.returns-in_err-bytes-clause-settled
+returns-in_err-bytes-clause-settled g c = not_made c.from_residual.result _ c.from_residual.ensures.0
+
+pub returns-in_err-bytes-clause-size : goal.returns-in_err-bytes-clause-size
+returns-in_err-bytes-clause-size g c = not_made c.from_residual.result _ c.from_residual.ensures.0
+
+pub returns-in_err-bytes-clause-failures : goal.returns-in_err-bytes-clause-failures
+returns-in_err-bytes-clause-failures g c = not_made c.from_residual.result _ c.from_residual.ensures.0
+
+pub returns-in_err-bytes-clause-running : goal.returns-in_err-bytes-clause-running
+returns-in_err-bytes-clause-running g c = not_made c.from_residual.result _ c.from_residual.ensures.0
+
+pub returns-in_err-bytes-clause-calls : goal.returns-in_err-bytes-clause-calls
+returns-in_err-bytes-clause-calls g c = not_made c.from_residual.result _ c.from_residual.ensures.0
+
+pub offset_bounds-calls-self : goal.offset_bounds-calls-self
+offset_bounds-calls-self g c =
+    let old = c.args.self.now in
+    let within = since-within old.disk.calls.items c.calls.result.now c.calls.ensures old.disk.len old.since old.settled.items old.left.within in
+    search rules
+
+pub slice_bounds-tear-count : goal.slice_bounds-tear-count
+slice_bounds-tear-count g c =
+    let old = c.args.self.now in
+    let within = since-within old.disk.calls.items c.calls.result.now c.calls.ensures old.disk.len old.since old.settled.items old.left.within in
+    search rules
+
+pub slice_bounds-tear-start : goal.slice_bounds-tear-start
+slice_bounds-tear-start g c =
+    let old = c.args.self.now in
+    let within = since-within old.disk.calls.items c.calls.result.now c.calls.ensures old.disk.len old.since old.settled.items old.left.within in
+    search rules
+
+pub slice_bounds-tear-end : goal.slice_bounds-tear-end
+slice_bounds-tear-end g c =
+    let old = c.args.self.now in
+    let within = since-within old.disk.calls.items c.calls.result.now c.calls.ensures old.disk.len old.since old.settled.items old.left.within in
+    search rules
 
 pub tear-requires : goal.tear-requires
 tear-requires g c =
@@ -50,3 +98,6 @@ returns-clause-failures g c = c.holding.ensures.failures
 
 pub returns-clause-running : goal.returns-clause-running
 returns-clause-running g c = c.holding.ensures.running
+
+pub returns-clause-calls : goal.returns-clause-calls
+returns-clause-calls g c = c.holding.ensures.calls
