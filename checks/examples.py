@@ -1,8 +1,7 @@
 """The programs of `examples/`: sessions that are killed again and again in the middle of their work on a file, which a new session reads after each
-kill; and the two programs that docs/EMBEDDING.md quotes."""
+kill; and the first programs of docs/EMBEDDING.md."""
 
 import random
-import re
 from collections.abc import Callable
 from dataclasses import dataclass, field
 from itertools import zip_longest
@@ -10,7 +9,7 @@ from pathlib import Path
 
 from tools.cases import Case, Outcome, Programs, differs
 from tools.log.reading import read_store
-from tools.processes import TOP, Limits, abbreviate, new_folder, run, run_until
+from tools.processes import Limits, abbreviate, new_folder, run, run_until
 
 SEEDS, KILLS = 2, 5
 COMMANDS = 1_500  # of a session that is not killed
@@ -251,32 +250,9 @@ def close(programs: Programs, name: str, closed: str) -> Outcome:
         return Outcome(wrong or ("there is a file" if new.exists() else None))
 
 
-# ---- The two programs of docs/EMBEDDING.md.
+# ---- The first programs of docs/EMBEDDING.md; checks/pages.py compares that page with their sources.
 
 STEPS = b"2 replies\nflushed %d\nget: 5 bytes\nrange: [107, 101, 121] [118, 97, 108, 117, 101]\n"
-
-
-def indented(text: str) -> list[str]:
-    """Returns the indented blocks of a document without their indentation."""
-    blocks = re.findall(r"(?:^    .*\n(?:\n+(?=    ))?)+", text, re.MULTILINE)
-    return [re.sub(r"^    ", "", block, flags=re.MULTILINE) for block in blocks]
-
-
-def compare_embedding() -> Outcome:
-    """Checks that docs/EMBEDDING.md quotes the first program and the proof exactly, and of the crate with a contract each line of its head, and its
-    function."""
-    document = indented((TOP / "docs/EMBEDDING.md").read_text())
-    first, caller, proof = [block for block in document if len(block.splitlines()) > 8]
-    quoted = [TOP / "examples" / path for path in ("first_steps/src/main.rt.in", "put_then_get/proofs/put_then_get/Answers.antt.in")]
-    for block, path in zip((first, proof), quoted):
-        if path.read_text() != block:
-            return Outcome(f"it has other lines than {path.relative_to(TOP)}")
-    main = (TOP / "examples/put_then_get/src/main.rt.in").read_text()
-    head, function = caller.split("\n\n///")
-    missing = [line for line in head.splitlines() if line not in main.splitlines()]
-    if missing or f"\n///{function}" not in main:
-        return Outcome(f"it has other lines than put_then_get{''.join(f': {line}' for line in missing[:1])}")
-    return Outcome()
 
 
 def run_first_steps(programs: Programs) -> Outcome:
@@ -310,4 +286,4 @@ def cases(programs: Programs) -> list[Case]:
     kills = [Case(f"{name}, {KILLS} kills, seed {seed}", kill_example, (programs, name, seed)) for name in MODELS for seed in range(1, SEEDS + 1)]
     closed = [Case(f"{name}, {closed}", close, (programs, name, closed)) for name in [*MODELS, "put_then_get"] for closed in (">&-", "<&-")]
     ran = [Case("the first steps of docs/EMBEDDING.md", run_first_steps, (programs,)), Case("put_then_get", put_then_get, (programs,))]
-    return [*kills, *closed, *ran, Case("the programs of docs/EMBEDDING.md", compare_embedding)]
+    return [*kills, *closed, *ran]

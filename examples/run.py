@@ -19,6 +19,8 @@ SESSIONS: dict[str, tuple[list[str], ...]] = {
     "cache": (["put a one", "put b two", "get a", "evict 1"], ["get a", "get b"]),
     "put_then_get": (["a one", "b two"], ["a three"]),
     "first_steps": ([], []),
+    "upkeep": ([], []),
+    "owner_thread": ([], []),
 }
 
 
