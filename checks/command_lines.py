@@ -81,7 +81,7 @@ REFUSED = [
 
 ASK_FOR_HELP = ["--help", "-h", "--fan 8 -h --flan", "--disk a --create -h --create"]
 
-# What the help has to contain: each kind of line, what a segment has to hold, the ranges of a crew, who locks a file, and the exit statuses.
+# What the help has to contain: each kind of line, what a segment has to hold, the ranges of a crew, and the exit statuses.
 HELP = [
     b"put K V",
     b"add K V",
@@ -95,15 +95,14 @@ HELP = [
     b"upgrade",
     b"verify",
     b"#",
-    b"%20",
+    b"%XX",
     b"--seg-size <N>",
-    b"a full page of the greatest keys and values",
+    b"must hold a full page",
     b"--workers <N>",
-    b"the work, 1 to 64 ",
+    b"work on a batch, 1 to 64 ",
     b"--grain <N>",
     b"at a time, 1 to 65535 ",
-    b"holds its file alone",
-    b"2  The words",
+    b"2  The command line",
     b"3  A line",
     b"4  A fault",
 ]

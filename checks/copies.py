@@ -162,7 +162,7 @@ def copy_to_no_file(programs: Programs) -> Outcome:
             for words in ((), ("--stream",)):
                 ran = run([programs.store, "--explain", *words, "--copy-to", path], PUTS)
                 is_right = (ran.status, ran.out) == (4, b"") and ran.err.startswith(DEVICE + os.fsencode(path) + b": " + why)
-                if not is_right or not ran.err.endswith(b"; nothing was run\n"):
+                if not is_right or not ran.err.endswith(b". Nothing was run.\n"):
                     return Outcome(f"{path}: {ran.describe()}")
         return Outcome()
 
@@ -256,17 +256,12 @@ def refuse_before_copy(programs: Programs) -> Outcome:
 LONG_KEY = b"put 0123456789abcdef0 1\n"
 MANY = b"".join(b"put sixteen_bytes_%d sixteen_bytes_v1\n" % pair for pair in range(10, 60))
 
-# The input, the answers, the fault, and the end of the line that explains it.
+# The input, its answers, the fault, and what the line that explains it says of the copy.
 REFUSED_COPIES = [
-    (LONG_KEY, b"new\n", b"fault 2 KeyTooLong 0\n", b"a key is too long for it; it takes a greater --max-key\n"),
-    (PUTS + LONG_KEY, PUT + b"new\n", b"fault 2 KeyTooLong 0\n", b"a key is too long for it; it takes a greater --max-key\n"),
-    (
-        PUTS + b"put d 0123456789abcdef0\n",
-        PUT + b"new\n",
-        b"fault 3 ValueTooLong 3\n",
-        b"a value is too long for it; it takes a greater --max-value\n",
-    ),
-    (MANY, 50 * b"new\n", b"fault 10 Full\n", b"its log has no room for all pairs; it takes more --segments, or a greater --seg-size\n"),
+    (LONG_KEY, b"new\n", b"fault 2 KeyTooLong 0\n", b"A key is too long for the copy. Use a larger --max-key."),
+    (PUTS + LONG_KEY, PUT + b"new\n", b"fault 2 KeyTooLong 0\n", b"A key is too long for the copy. Use a larger --max-key."),
+    (PUTS + b"put d 0123456789abcdef0\n", PUT + b"new\n", b"fault 3 ValueTooLong 3\n", b"A value is too long for the copy. Use a larger --max-value."),
+    (MANY, 50 * b"new\n", b"fault 10 Full\n", b"The log of the copy has no room for all pairs. Use more --segments or a larger --seg-size."),
 ]
 
 
@@ -282,7 +277,7 @@ def refuse_copy(programs: Programs, text: bytes, out: bytes, err: bytes, end: by
         for stream in ((), ("--stream",)):
             wrong = wrong or differs(run([*words, *stream], b"get zz\n"), 4, b"missing\n", err) or is_empty(copy)
         explained = run([*words, "--explain"], b"get zz\n")
-        line = err + os.fsencode(copy) + b": all orders are done, but the store is not copied: " + end
+        line = err + os.fsencode(copy) + b": " + end + b" All orders are done, but there is no copy.\n"
         wrong = wrong or differs(explained, 4, b"missing\n", line) or is_empty(copy)
         return Outcome(wrong or (None if store.read_bytes() == before else "the store has other bytes"))
 
@@ -319,7 +314,7 @@ def fail_calls(programs: Programs, library: Path, fails: FailingCalls, is_done: 
             copy.unlink(missing_ok=True)
             command: Command = [programs.store, *SMALL_STORE, "--explain", *words, "--disk", store, "--copy-to", copy]
             ran = run(command, b"get a\n", environment=fails.environment(library, copy))
-            end = b"; all orders are done, but the store is not copied\n" if is_done else b"; nothing was run\n"
+            end = b". All orders are done, but there is no copy.\n" if is_done else b". Nothing was run.\n"
             is_right = (ran.status, ran.out) == (4, b"value 1\n" if is_done else b"")
             if not is_right or not ran.err.startswith(DEVICE + os.fsencode(copy) + b": ") or not ran.err.endswith(end):
                 return Outcome(ran.describe())

@@ -15,92 +15,92 @@ EXPLAINED: list[tuple[tuple[str, ...], bytes, bytes | None, bytes, bytes]] = [
         b"put a 1\n# x\ngo\nput % 1\n\nput 0123456789abcdef 1\nput 0123456789abcdefg 1\n# y\n",
         b"new\n",
         b"fault 2 KeyTooLong 2\n",
-        b"the batch that line 8 ended was not run: the command in line 7 has a key that is too long for this store\n",
+        b"The batch that line 8 ended was not run. The command in line 7 has a key that is longer than max-key of this store.\n",
     ),
     (
         ("--max-value=1",),
         b"go\nverify\nput a 1\nflush\nput b 1\nadd c 22\nflush\nget a\n",
         b"ok 1 1 0\nnew\nflushed 2\n",
         b"fault 3 ValueTooLong 1\n",
-        b"the batch that line 7 ended was not run: the command in line 6 has a value that is too long for this store\n",
+        b"The batch that line 7 ended was not run. The command in line 6 has a value that is longer than max-value of this store.\n",
     ),
     (
         (),
         b"put a 1\ngo\n\n" + 65_536 * b"get a\n",
         b"new\n",
         b"fault 4 BatchTooLong\n",
-        b"the batch that line 65539 ended was not run: it has more than 65535 commands; divide it by lines go\n",
+        b"The batch that line 65539 ended was not run. It has more than 65535 commands. Divide it by lines go.\n",
     ),
     (
         (),
         b"put a 1\nclean\nget a\n",
         b"new\n",
         b"fault 11 NothingToClean\n",
-        b"line 2: the log is in one segment, so there is nothing to clean\n",
+        b"line 2: The log is in one segment, so there is nothing to clean.\n",
     ),
     (
         (),
         b"upgrade\nput a 1\nupgrade\nget a\n",
         b"upgraded 2\nnew\n",
         b"fault 19 AlreadyUpgraded\n",
-        b"line 3: the log has version 2 already\n",
+        b"line 3: The log has version 2 already.\n",
     ),
     (
         ("--fan=65",),
         b"put a 1\n",
         b"",
         b"fault 1 BadSettings fan\n",
-        b"nothing was run: --help has the range of fan, and what a segment has to hold\n",
+        b"Nothing was run. --help has the range of fan. A segment has to hold a full page of the longest keys and values.\n",
     ),
     (
         ("--grain=0",),
         b"put a 1\n",
         b"",
         b"fault 5 BadCrew\n",
-        b"nothing was run: --workers takes 1 to 64, and --grain 1 to 65535\n",
+        b"Nothing was run. --workers takes 1 to 64, and --grain takes 1 to 65535.\n",
     ),
     (
         ("--disk=/no/such/file",),
         b"get a\n",
         b"",
         b"fault 9 Device\n",
-        b"/no/such/file: No such file or directory (os error 2); --create makes a new store there\n",
+        b"/no/such/file: No such file or directory (os error 2). Use --create to create a store there.\n",
     ),
     (
         (),
         b"put a 1\nfrob x\n",
         b"",
         b"line 2: unknown command\n",
-        b"nothing was run: a line begins with a command that --help lists, or with #\n",
+        b"Nothing was run. A line begins with a command that --help lists, or with #.\n",
     ),
     (
         (),
         b"put a\n",
         b"",
         b"line 1: wrong number of words\n",
-        b"nothing was run: --help lists the words that a command takes, and %20 is a blank in one\n",
+        b"Nothing was run. --help lists the words of each command. In a word, %20 is a space.\n",
     ),
     (
         (),
         b"put a %0\n",
         b"",
         b"line 1: bad token\n",
-        b"nothing was run: words are of printed ASCII, and %XX is the byte of two hexadecimal digits\n",
+        b"Nothing was run. Words are printable ASCII, and two hexadecimal digits follow each %.\n",
     ),
     (
         (),
         b"scan a b 4294967296\n",
         b"",
         b"line 1: bad number\n",
-        b"nothing was run: a limit is a number from 0 to 4294967295\n",
+        b"Nothing was run. A limit is a number from 0 to 4294967295.\n",
     ),
     (
         SMALL_STORE,
         18 * LONG_PUT,
         None,
         b"fault 10 Full\n",
-        b"line 36: the log has no room for its flush; a line clean before it makes some, as --clean-when-full does, "
-        b"unless all that the log holds is in use: then the store needs a larger log\n",
+        b"line 36: The log has no room for the flush. A line clean in front of it makes room, as --clean-when-full does. "
+        b"If all of the log is in use, copy the store with --copy-to to a file with a larger log.\n",
     ),
 ]
 
@@ -120,14 +120,14 @@ def print_version(programs: Programs) -> Outcome:
 # What the help has to contain about the options, and about durability.
 HELP = [
     b"--version",
-    b"read before anything is run",
-    b"Nothing lasts without a flush",
-    b"--create replaces what stands",
+    b"all input is read first",
+    b"only flushed changes survive the program",
+    b"what the file held is lost",
     b"--explain",
     b"--stat",
     b"--clean-when-full",
     b"--stream",
-    b"before the next line is waited for",
+    b"Answers each batch before it reads on",
     b"--tidy",
     b"--progress",
 ]
@@ -156,13 +156,15 @@ def explain_files(programs: Programs) -> Outcome:
         path.write_bytes(b"0123456789")
         text = b"put a 1\nflush\n"
         ran = run_explained(programs, path, text)
-        wrong = wrong_explanation(ran, b"fault 12 NotAStore\n", path, b"; --create makes a new one, and what stands there is lost\n")
+        end = b"and was left as it was. With --create a new store replaces what it holds.\n"
+        wrong = wrong_explanation(ran, b"fault 12 NotAStore\n", path, end)
         with path.open("rb+") as held:
             fcntl.flock(held, fcntl.LOCK_EX)
             ran = run_explained(programs, path, text)
-        wrong = wrong or wrong_explanation(ran, b"fault 9 Device\n", path, b"; another program holds or shares it: wait until that has ended\n")
+        end = b". Another program has locked the file. Wait until it ends.\n"
+        wrong = wrong or wrong_explanation(ran, b"fault 9 Device\n", path, end)
         ran = run_explained(programs, Path(folder), text)
-        end = b"Is a directory (os error 21); a store stands in a file\n"
+        end = b"Is a directory (os error 21). A store has to be a file.\n"
         return Outcome(wrong or wrong_explanation(ran, b"fault 9 Device\n", Path(folder), end))
 
 
@@ -182,9 +184,9 @@ def explain_streams(programs: Programs) -> Outcome:
     refused."""
     words: Command = [programs.store, "--explain"]
     closed = run(words, limits=Limits(redirections="<&-"))
-    wrong = differs(closed, 4, b"", b"fault 9 Device\nstandard input: Bad file descriptor (os error 9)\n")
+    wrong = differs(closed, 4, b"", b"fault 9 Device\nstandard input: Bad file descriptor (os error 9).\n")
     closed = run(words, b"put a 1\n", Limits(redirections=">&-"))
-    wrong = wrong or differs(closed, 4, b"", b"fault 9 Device\nstandard output could not be written; not all answers stand there\n")
+    wrong = wrong or differs(closed, 4, b"", b"fault 9 Device\nStandard output could not be written. Some answers are missing.\n")
     refused = run([*words, "--flan"])
     if refused.status != 2 or refused.out or not refused.err.endswith(b"For more information, try '--help'.\n"):
         wrong = wrong or f"refused words ended with {refused.describe()}"
@@ -193,7 +195,7 @@ def explain_streams(programs: Programs) -> Outcome:
 
 MEMORY = 20_000  # KB of addresses, which are enough for a small store
 LONG_LINE = b"#" * 30_000_000
-UNREAD = b"fault 6 NoMemory\nline %d: there was not enough memory to read it\n"
+UNREAD = b"fault 6 NoMemory\nline %d: There was not enough memory to read it.\n"
 
 
 def explain_long_line(programs: Programs) -> Outcome:

@@ -28,7 +28,7 @@ SESSIONS = [
     (("--stream",), b"get a\nput b 2\nflush\n", 0, b"value 1\nnew\nflushed 3\n", b"", True),
     ((), b"get a\nfrob\n", 3, b"", b"line 2: unknown command\n", False),
     (("--stream",), b"get a\ngo\nfrob\n", 3, b"value 1\n", b"line 3: unknown command\n", True),
-    (("--explain",), b"clean\nget a\n", 4, b"", b"fault 11 NothingToClean\nline 1: the log is in one segment, so there is nothing to clean\n", True),
+    (("--explain",), b"clean\nget a\n", 4, b"", b"fault 11 NothingToClean\nline 1: The log is in one segment, so there is nothing to clean.\n", True),
     (("--grain=0",), b"get a\n", 4, b"", b"fault 5 BadCrew\n", False),
     (("--stat",), b"", 0, b"stat sequence 2 head 0 tail 55 segments 1 of 64 pages 1 pairs 1\n", b"", True),
 ]

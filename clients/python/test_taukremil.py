@@ -458,7 +458,7 @@ class Faults(StoreTest):
             with self.assertRaises(Refused) as caught:
                 self.store()
             self.assertEqual(caught.exception.number, 9)
-            self.assertIn("another program", caught.exception.why)
+            self.assertIn("Another program", caught.exception.why)
             self.assertIsNone(first.get(b"a"))
         self.assertIsNone(self.store().get(b"a"))
 

@@ -5,29 +5,29 @@ use Rattle.std.proofs.lemmas.List.{drop_more}
 use Rattle.std.proofs.KnownBytes.{Appends-nil}
 use Rattle.engine.specs.Plays.{answer_of}
 use Rattle.engine.specs.declared.step.Answer as code_answer
-use Rattle.bwsh.specs.declared.session.Ending.{Ending}
+use Rattle.bwsh.specs.declared.session.SessionError.{SessionError}
 use Rattle.bwsh.specs.Session.{Prints}
 use Rattle.bwsh.specs.Shown.{shown_answer}
 use Rattle.bwsh.proofs.Prints.{Prints-all, Prints-after_order, Prints-early}
 
 abbrev pub lines_of_answers : List code_answer.Answer → List (List ℕ)
-lines_of_answers said = flat_map shown_answer (map answer_of said)
+lines_of_answers parsed = flat_map shown_answer (map answer_of parsed)
 
 -- the lines of the answers from this place on
-pub answers_left : (said : List code_answer.Answer) (i : ℕ) (a : code_answer.Answer) → i < length said → a ≡ get_or said i a
-    → lines_of_answers (drop i said) ≡ shown_answer (answer_of a) ++ lines_of_answers (drop (i + 1) said)
-answers_left said i a h is = ap lines_of_answers (drop_more said i a h ∙ ap (λ (b : code_answer.Answer). b ∷ drop (i + 1) said) (sym is))
+pub answers_left : (parsed : List code_answer.Answer) (i : ℕ) (a : code_answer.Answer) → i < length parsed → a ≡ get_or parsed i a
+    → lines_of_answers (drop i parsed) ≡ shown_answer (answer_of a) ++ lines_of_answers (drop (i + 1) parsed)
+answers_left parsed i a h is = ap lines_of_answers (drop_more parsed i a h ∙ ap (λ (b : code_answer.Answer). b ∷ drop (i + 1) parsed) (sym is))
 
 -- what is left to print, printed after what stands there now, is what all of it prints after what stood there first
 abbrev pub PrintsAfter : Option (List ℕ) → List (List ℕ) → Option (List ℕ) → List (List ℕ) → Type 0
-PrintsAfter old all now left = (new : Option (List ℕ)) (end : Result (Unit {0}) Ending) → Prints now new left (Ok tt) end → Prints old new all (Ok tt) end
+PrintsAfter old all now left = (new : Option (List ℕ)) (end : Result (Unit {0}) SessionError) → Prints now new left (Ok tt) end → Prints old new all (Ok tt) end
 
 module _ (old now : Option (List ℕ)) (all left : List (List ℕ)) (leads : PrintsAfter old all now left) where
   pub none_left : left ≡ [] → Prints old now all (Ok tt) (Ok tt)
   none_left none = leads now (Ok tt) (subst (λ (l : List (List ℕ)). Prints now now l (Ok tt) (Ok tt)) (sym none) (inl (refl, Appends-nil now)))
 
   module _ (one rest : List (List ℕ)) (is : left ≡ one ++ rest) (new : Option (List ℕ)) where
-    pub left_early : (early : Ending) → Prints now new one (Ok tt) (Err early) → Prints old new all (Ok tt) (Err early)
+    pub left_early : (early : SessionError) → Prints now new one (Ok tt) (Err early) → Prints old new all (Ok tt) (Err early)
     left_early early p = leads new (Err early) (subst (λ (l : List (List ℕ)). Prints now new l (Ok tt) (Err early)) (sym is) (Prints-early now new one rest (Ok tt) early p))
 
     pub left_later : (done : Unit {0}) → Prints now new one (Ok tt) (Ok done) → PrintsAfter old all new rest

@@ -17,7 +17,7 @@ use Rattle.engine.specs.Batches.{tree_in_turn}
 use Rattle.engine.specs.Steps.{Step, Answer, Stepped, unless_refused, after_step, batching}
 use Rattle.bwsh.specs.declared.batch_file.Order.{Order}
 use Rattle.bwsh.specs.declared.batch_file.Order.TheVariants.{Batch, Flush, Clean, Upgrade, Verify, Numbers}
-use Rattle.bwsh.specs.declared.session.Ending.TheVariants as endings
+use Rattle.bwsh.specs.declared.session.SessionError.TheVariants as errors
 use Rattle.bwsh.specs.BatchFile.{IsNoClean}
 use Rattle.bwsh.specs.Session.{Stored, Seen, Reads, Batches, later, AreLeft, AreTidiedAlike, if_it_holds, tidied, tidied_after, step_in, left_by, refused_by, left_by_step, refusal_of_step, after_order, refusal_of, map_after, own_lines, answer_lines, accepted, first_refusal, orders_end, stopped_by}
 use Rattle.bwsh.specs.Shown.{shown_flushed, shown_cleaned, shown_upgraded}
@@ -165,7 +165,7 @@ module _ (settings : Settings) where
       ∙ ap (λ (r : Option Fault). option_or (refusal_of settings st (other 0) order) r) further
 
   end-alike : (st : Store) (shown other : Reads) (orders : List Order) → AreAlike st shown other orders → orders_end settings st shown orders ≡ orders_end settings st other orders
-  end-alike st shown other orders alike = ap (λ (r : Option Fault). stopped_by (option_map (λ fault. endings.Fault fault) r)) (refusal-alike st shown other orders alike)
+  end-alike st shown other orders alike = ap (λ (r : Option Fault). stopped_by (option_map (λ fault. errors.Fault fault) r)) (refusal-alike st shown other orders alike)
 
   -- so it is where none is a clean
   alike-without_cleans : (st : Store) (shown other : Reads) → AreTidiedAlike shown other → (orders : List Order) → AllByRecursion IsNoClean orders → AreAlike st shown other orders

@@ -7,13 +7,13 @@ use Rattle.keys.specs.declared.settings.Settings.{Settings}
 use Rattle.mapping.specs.Tree.{Store}
 use Rattle.bwsh.specs.declared.batch_file.Order.{Order}
 use Rattle.bwsh.specs.declared.batch_file.Order.TheVariants.{Batch, Flush, Clean, Upgrade, Verify, Numbers}
-use Rattle.bwsh.specs.declared.session.Ending.{Ending}
-use Rattle.bwsh.specs.declared.session.Ending.TheVariants.{Device}
+use Rattle.bwsh.specs.declared.session.SessionError.{SessionError}
+use Rattle.bwsh.specs.declared.session.SessionError.TheVariants.{Device}
 use Rattle.bwsh.specs.BatchFile.{is_flush}
-use Rattle.bwsh.specs.declared.options.asked.Ways.{Ways}
+use Rattle.bwsh.specs.declared.options.asked.Mode.{Mode}
 use Rattle.bwsh.specs.Session.{Stored, Seen, Reads, AreLeft, AreSeen, AreUntidied, TidiesBy, after_order, flush_with_room, run_of, untidied, wants_clean, with_cleans, Runs, RunsFirst, RunsOn, RunsOrder}
 use Rattle.bwsh.proofs.Prints.{Prints-asked, Prints-device, Prints-kept}
-use Rattle.bwsh.proofs.RunLemmas.{AreLeft-left_shown, AreUntidied-first, AreUntidied-left_shown, IsCut, Runs-cut, Runs-goes_on, Runs-none, Runs-stops, first_shown, left_shown}
+use Rattle.bwsh.proofs.RunLemmas.{AreLeft-left_shown, AreUntidied-first, AreUntidied-left_shown, IsCut, Runs-cut, Runs-show_call, Runs-none, Runs-stops, first_shown, left_shown}
 
 -- ---- there are reads that show what is left
 
@@ -69,42 +69,42 @@ leave false settings orders now file = (left_shown settings now file orders, Are
 -- ---- orders that depend on the reads
 
 -- what these orders print, and how they end, is right but for memory and devices, where something is seen at each that can be
-abbrev pub RunsBy : Ways → Bool → Settings → Store → List ℕ → (Reads → List Order) → Option (List ℕ) → Option (List ℕ) → Result (Unit {0}) Ending → Type 0
-RunsBy ways honest settings st left orders old new end =
-    (shown : Reads) × AreSeen ways honest settings st left shown (orders shown) × Runs settings st shown (orders shown) old new end
+abbrev pub RunsBy : Mode → Bool → Settings → Store → List ℕ → (Reads → List Order) → Option (List ℕ) → Option (List ℕ) → Result (Unit {0}) SessionError → Type 0
+RunsBy mode honest settings st left orders old new end =
+    (shown : Reads) × AreSeen mode honest settings st left shown (orders shown) × Runs settings st shown (orders shown) old new end
 
 -- a store is tidied only where that is asked for, at the first order and later
-tidies_first : (ways : Ways) (seen : Seen) (shown : Reads) → (ways.tidy ≡ 0 → seen.tidying ≡ []) → TidiesBy ways shown → TidiesBy ways (first_shown seen shown)
-tidies_first ways seen shown first further off zero = first off
-tidies_first ways seen shown first further off (suc i) = further off i
+tidies_first : (mode : Mode) (seen : Seen) (shown : Reads) → (mode.tidy ≡ 0 → seen.tidying ≡ []) → TidiesBy mode shown → TidiesBy mode (first_shown seen shown)
+tidies_first mode seen shown first further off zero = first off
+tidies_first mode seen shown first further off (suc i) = further off i
 
 -- they end before anything of them is done
-pub RunsBy-cut : (ways : Ways) (honest : Bool) (settings : Settings) (st : Store) (left : List ℕ) (next : Store → Reads → List Order) → Leavable settings next → (old new : Option (List ℕ))
-    → Appends old new [] → (early : Ending) → IsCut early → RunsBy ways honest settings st left (next st) old new (Err early)
-RunsBy-cut ways honest settings st left next leavable old new none early cut =
+pub RunsBy-cut : (mode : Mode) (honest : Bool) (settings : Settings) (st : Store) (left : List ℕ) (next : Store → Reads → List Order) → Leavable settings next → (old new : Option (List ℕ))
+    → Appends old new [] → (early : SessionError) → IsCut early → RunsBy mode honest settings st left (next st) old new (Err early)
+RunsBy-cut mode honest settings st left next leavable old new none early cut =
     let (shown, plain, are) = leavable st left in
     (shown, (λ off. plain, λ h. are), Runs-cut settings st shown (next st shown) old new none early cut)
 
 -- nothing was appended before they are run
-pub RunsBy-asked : (ways : Ways) (honest : Bool) (settings : Settings) (st : Store) (left : List ℕ) (orders : Reads → List Order) (old mid new : Option (List ℕ)) → Appends old mid []
-    → (end : Result (Unit {0}) Ending) → RunsBy ways honest settings st left orders mid new end → RunsBy ways honest settings st left orders old new end
+pub RunsBy-asked : (mode : Mode) (honest : Bool) (settings : Settings) (st : Store) (left : List ℕ) (orders : Reads → List Order) (old mid new : Option (List ℕ)) → Appends old mid []
+    → (end : Result (Unit {0}) SessionError) → RunsBy mode honest settings st left orders mid new end → RunsBy mode honest settings st left orders old new end
 unfolding Runs
-RunsBy-asked ways honest settings st left orders old mid new none end (shown, are, p) = (shown, are, Prints-asked old mid new none _ _ end p)
+RunsBy-asked mode honest settings st left orders old mid new none end (shown, are, p) = (shown, are, Prints-asked old mid new none _ _ end p)
 
-module _ (ways : Ways) (honest : Bool) (settings : Settings) (st : Store) (left : List ℕ) (order : Order) (old new : Option (List ℕ)) (now : Store) (bytes : List ℕ) where
+module _ (mode : Mode) (honest : Bool) (settings : Settings) (st : Store) (left : List ℕ) (order : Order) (old new : Option (List ℕ)) (now : Store) (bytes : List ℕ) where
   -- the orders begin with this one and go on with what is next, where this is seen first
   abbrev pub Heads : Seen → (Reads → List Order) → (Store → Reads → List Order) → Type 0
   Heads file all next = (shown : Reads) → all (first_shown file shown) ≡ order ∷ next (after_order settings st file order).0 shown
 
   -- it stops early: so do the orders that it stands before
-  pub RunsBy-stops : (all : Reads → List Order) (next : Store → Reads → List Order) → Leavable settings next → (early : Ending)
-      → (one : RunsOrder ways honest settings st left order old new (Err early) now bytes) → Heads one.0 all next → RunsBy ways honest settings st left all old new (Err early)
+  pub RunsBy-stops : (all : Reads → List Order) (next : Store → Reads → List Order) → Leavable settings next → (early : SessionError)
+      → (one : RunsOrder mode honest settings st left order old new (Err early) now bytes) → Heads one.0 all next → RunsBy mode honest settings st left all old new (Err early)
   RunsBy-stops all next leavable early (file, is, runs, none) heads =
       let at : Stored = after_order settings st file order in
       let (shown, plain, are) = leavable at.0 at.1 in (
         first_shown file shown,
         (
-          tidies_first ways file shown is.0 (λ off. plain),
+          tidies_first mode file shown is.0 (λ off. plain),
           λ h. subst (AreLeft settings st left (first_shown file shown)) (sym (heads shown)) (is.1 h, are),
         ),
         subst (λ (os : List Order). Runs settings st (first_shown file shown) os old new (Err early)) (sym (heads shown))
@@ -112,15 +112,15 @@ module _ (ways : Ways) (honest : Bool) (settings : Settings) (st : Store) (left 
       )
 
   -- all of it is done: what is next goes on with what it leaves
-  pub RunsBy-goes_on : (all : Reads → List Order) (next : Store → Reads → List Order) (done : Unit {0}) → (one : RunsOrder ways honest settings st left order old new (Ok done) now bytes)
-      → Heads one.0 all next → (last : Option (List ℕ)) (end : Result (Unit {0}) Ending) → RunsBy ways honest settings now bytes (next now) new last end
-      → RunsBy ways honest settings st left all old last end
-  RunsBy-goes_on all next done (file, is, runs, leaves) heads last end (shown, are, further_on) =
+  pub RunsBy-show_call : (all : Reads → List Order) (next : Store → Reads → List Order) (done : Unit {0}) → (one : RunsOrder mode honest settings st left order old new (Ok done) now bytes)
+      → Heads one.0 all next → (last : Option (List ℕ)) (end : Result (Unit {0}) SessionError) → RunsBy mode honest settings now bytes (next now) new last end
+      → RunsBy mode honest settings st left all old last end
+  RunsBy-show_call all next done (file, is, runs, leaves) heads last end (shown, are, further_on) =
       let at : Stored = after_order settings st file order in
       let same : all (first_shown file shown) ≡ order ∷ next now shown = heads shown ∙ ap (λ (s : Store). order ∷ next s shown) (sym leaves.store) in (
         first_shown file shown,
         (
-          tidies_first ways file shown is.0 are.0,
+          tidies_first mode file shown is.0 are.0,
           λ h. subst (AreLeft settings st left (first_shown file shown)) (sym same) (
             is.1 h,
             subst (λ (f : List ℕ). AreLeft settings at.0 f shown (next now shown)) (leaves.bytes h)
@@ -128,7 +128,7 @@ module _ (ways : Ways) (honest : Bool) (settings : Settings) (st : Store) (left 
           ),
         ),
         subst (λ (os : List Order). Runs settings st (first_shown file shown) os old last end) (sym same)
-            (Runs-goes_on settings st file order old new (next now shown) shown now last done end leaves.unrefused leaves.store leaves.holds runs further_on),
+            (Runs-show_call settings st file order old new (next now shown) shown now last done end leaves.unrefused leaves.store leaves.holds runs further_on),
       )
 
 -- ---- orders in front of others
@@ -147,43 +147,43 @@ heads_of true settings st file Upgrade rest makes shown = refl
 heads_of true settings st file Verify rest makes shown = refl
 heads_of true settings st file Numbers rest makes shown = refl
 
-module _ (ways : Ways) (honest : Bool) (settings : Settings) where
+module _ (mode : Mode) (honest : Bool) (settings : Settings) where
   -- one order
-  pub RunsFirst-one : (st : Store) (left : List ℕ) (order : Order) (old new : Option (List ℕ)) (end : Result (Unit {0}) Ending) (now : Store) (bytes : List ℕ) → MakesNone ways.clean_when_full order
-      → RunsOrder ways honest settings st left order old new end now bytes → RunsFirst ways honest settings st left (order ∷ []) old new end now bytes
+  pub RunsFirst-one : (st : Store) (left : List ℕ) (order : Order) (old new : Option (List ℕ)) (end : Result (Unit {0}) SessionError) (now : Store) (bytes : List ℕ) → MakesNone mode.clean_when_full order
+      → RunsOrder mode honest settings st left order old new end now bytes → RunsFirst mode honest settings st left (order ∷ []) old new end now bytes
   RunsFirst-one st left order old new (Ok done) now bytes makes one = λ rest last end q.
-      RunsBy-goes_on ways honest settings st left order old new now bytes (λ shown. run_of ways.clean_when_full settings st shown (order ∷ rest)) (λ s shown. run_of ways.clean_when_full settings s shown rest)
-      done one (heads_of ways.clean_when_full settings st one.0 order rest makes) last end q
+      RunsBy-show_call mode honest settings st left order old new now bytes (λ shown. run_of mode.clean_when_full settings st shown (order ∷ rest)) (λ s shown. run_of mode.clean_when_full settings s shown rest)
+      done one (heads_of mode.clean_when_full settings st one.0 order rest makes) last end q
   RunsFirst-one st left order old new (Err early) now bytes makes one = λ rest.
-      RunsBy-stops ways honest settings st left order old new now bytes (λ shown. run_of ways.clean_when_full settings st shown (order ∷ rest)) (λ s shown. run_of ways.clean_when_full settings s shown rest)
-      (leave ways.clean_when_full settings rest) early one (heads_of ways.clean_when_full settings st one.0 order rest makes)
+      RunsBy-stops mode honest settings st left order old new now bytes (λ shown. run_of mode.clean_when_full settings st shown (order ∷ rest)) (λ s shown. run_of mode.clean_when_full settings s shown rest)
+      (leave mode.clean_when_full settings rest) early one (heads_of mode.clean_when_full settings st one.0 order rest makes)
 
   -- no orders
-  pub RunsFirst-none : (st : Store) (left : List ℕ) (old : Option (List ℕ)) (done : Unit {0}) → RunsFirst ways honest settings st left [] old old (Ok done) st left
+  pub RunsFirst-none : (st : Store) (left : List ℕ) (old : Option (List ℕ)) (done : Unit {0}) → RunsFirst mode honest settings st left [] old old (Ok done) st left
   RunsFirst-none st left old done = λ rest last end q. q
 
   -- any orders end before anything of them is done
-  pub RunsOn-cut : (st : Store) (left : List ℕ) (orders : List Order) (old : Option (List ℕ)) (early : Ending) → IsCut early → RunsOn ways honest settings st left orders old old (Err early)
-  RunsOn-cut st left orders old early cut = RunsBy-cut ways honest settings st left (λ s shown. run_of ways.clean_when_full settings s shown orders) (leave ways.clean_when_full settings orders) old old (Appends-nil old) early cut
+  pub RunsOn-cut : (st : Store) (left : List ℕ) (orders : List Order) (old : Option (List ℕ)) (early : SessionError) → IsCut early → RunsOn mode honest settings st left orders old old (Err early)
+  RunsOn-cut st left orders old early cut = RunsBy-cut mode honest settings st left (λ s shown. run_of mode.clean_when_full settings s shown orders) (leave mode.clean_when_full settings orders) old old (Appends-nil old) early cut
 
-  pub RunsFirst-cut : (st : Store) (left : List ℕ) (orders : List Order) (old : Option (List ℕ)) (early : Ending) (now : Store) (bytes : List ℕ) → IsCut early
-      → RunsFirst ways honest settings st left orders old old (Err early) now bytes
+  pub RunsFirst-cut : (st : Store) (left : List ℕ) (orders : List Order) (old : Option (List ℕ)) (early : SessionError) (now : Store) (bytes : List ℕ) → IsCut early
+      → RunsFirst mode honest settings st left orders old old (Err early) now bytes
   RunsFirst-cut st left orders old early now bytes cut = λ rest. RunsOn-cut st left (orders ++ rest) old early cut
 
   module _ (st : Store) (left : List ℕ) (first second : List Order) (old mid : Option (List ℕ)) (between : Store) (after : List ℕ) where
-    regrouped : (rest : List Order) (last : Option (List ℕ)) (end : Result (Unit {0}) Ending) → RunsOn ways honest settings st left (first ++ (second ++ rest)) old last end
-        → RunsOn ways honest settings st left ((first ++ second) ++ rest) old last end
-    regrouped rest last end p = subst (λ (os : List Order). RunsOn ways honest settings st left os old last end) (sym (append_assoc first second rest)) p
+    regrouped : (rest : List Order) (last : Option (List ℕ)) (end : Result (Unit {0}) SessionError) → RunsOn mode honest settings st left (first ++ (second ++ rest)) old last end
+        → RunsOn mode honest settings st left ((first ++ second) ++ rest) old last end
+    regrouped rest last end p = subst (λ (os : List Order). RunsOn mode honest settings st left os old last end) (sym (append_assoc first second rest)) p
 
     -- these orders, and those after them
-    pub RunsFirst-joined : (done : Unit {0}) → RunsFirst ways honest settings st left first old mid (Ok done) between after
-        → (new : Option (List ℕ)) (end : Result (Unit {0}) Ending) (now : Store) (bytes : List ℕ) → RunsFirst ways honest settings between after second mid new end now bytes
-        → RunsFirst ways honest settings st left (first ++ second) old new end now bytes
+    pub RunsFirst-joined : (done : Unit {0}) → RunsFirst mode honest settings st left first old mid (Ok done) between after
+        → (new : Option (List ℕ)) (end : Result (Unit {0}) SessionError) (now : Store) (bytes : List ℕ) → RunsFirst mode honest settings between after second mid new end now bytes
+        → RunsFirst mode honest settings st left (first ++ second) old new end now bytes
     RunsFirst-joined done one new (Ok again) now bytes two = λ rest last end q. regrouped rest last end (one (second ++ rest) last end (two rest last end q))
     RunsFirst-joined done one new (Err early) now bytes two = λ rest. regrouped rest new (Err early) (one (second ++ rest) new (Err early) (two rest))
 
-    pub RunsFirst-early : (early : Ending) → RunsFirst ways honest settings st left first old mid (Err early) between after
-        → (now : Store) (bytes : List ℕ) → RunsFirst ways honest settings st left (first ++ second) old mid (Err early) now bytes
+    pub RunsFirst-early : (early : SessionError) → RunsFirst mode honest settings st left first old mid (Err early) between after
+        → (now : Store) (bytes : List ℕ) → RunsFirst mode honest settings st left (first ++ second) old mid (Err early) now bytes
     RunsFirst-early early one now bytes = λ rest. regrouped rest mid (Err early) (one (second ++ rest))
 
   -- what was written is handed on to the device, and that may fail
@@ -191,24 +191,24 @@ module _ (ways : Ways) (honest : Bool) (settings : Settings) where
     nothing : Appends mid new []
     nothing = Appends-kept mid mid new [] (Appends-nil mid) kept
 
-    RunsOn-kept : (st : Store) (left : List ℕ) (orders : List Order) (old : Option (List ℕ)) (end : Result (Unit {0}) Ending) → RunsOn ways honest settings st left orders old mid end
-        → RunsOn ways honest settings st left orders old new end
+    RunsOn-kept : (st : Store) (left : List ℕ) (orders : List Order) (old : Option (List ℕ)) (end : Result (Unit {0}) SessionError) → RunsOn mode honest settings st left orders old mid end
+        → RunsOn mode honest settings st left orders old new end
     unfolding Runs
     RunsOn-kept st left orders old end (shown, are, p) = (shown, are, Prints-kept old mid new _ _ end p kept)
 
-    RunsOn-from : (st : Store) (left : List ℕ) (orders : List Order) (last : Option (List ℕ)) (end : Result (Unit {0}) Ending) → RunsOn ways honest settings st left orders new last end
-        → RunsOn ways honest settings st left orders mid last end
+    RunsOn-from : (st : Store) (left : List ℕ) (orders : List Order) (last : Option (List ℕ)) (end : Result (Unit {0}) SessionError) → RunsOn mode honest settings st left orders new last end
+        → RunsOn mode honest settings st left orders mid last end
     unfolding Runs
     RunsOn-from st left orders last end (shown, are, p) = (shown, are, Prints-asked mid new last nothing _ _ end p)
 
-    RunsOn-device : (st : Store) (left : List ℕ) (orders : List Order) (old : Option (List ℕ)) (end : Result (Unit {0}) Ending) → RunsOn ways honest settings st left orders old mid end
-        → RunsOn ways honest settings st left orders old new (Err Device)
+    RunsOn-device : (st : Store) (left : List ℕ) (orders : List Order) (old : Option (List ℕ)) (end : Result (Unit {0}) SessionError) → RunsOn mode honest settings st left orders old mid end
+        → RunsOn mode honest settings st left orders old new (Err Device)
     unfolding Runs
     RunsOn-device st left orders old end (shown, are, p) = (shown, are, Prints-device old mid new _ _ end p kept)
 
-    pub RunsFirst-flushed : (st : Store) (left : List ℕ) (orders : List Order) (old : Option (List ℕ)) (done end : Result (Unit {0}) Ending) (now : Store) (bytes : List ℕ)
-        → RunsFirst ways honest settings st left orders old mid done now bytes → (end ≡ done) ⊎ (end ≡ Err Device)
-        → RunsFirst ways honest settings st left orders old new end now bytes
+    pub RunsFirst-flushed : (st : Store) (left : List ℕ) (orders : List Order) (old : Option (List ℕ)) (done end : Result (Unit {0}) SessionError) (now : Store) (bytes : List ℕ)
+        → RunsFirst mode honest settings st left orders old mid done now bytes → (end ≡ done) ⊎ (end ≡ Err Device)
+        → RunsFirst mode honest settings st left orders old new end now bytes
     RunsFirst-flushed st left orders old (Ok all) end now bytes p (inl e) = rw e (λ rest last ended q. p rest last ended (RunsOn-from now bytes rest last ended q))
     RunsFirst-flushed st left orders old (Ok all) end now bytes p (inr e) =
         rw e (λ rest. RunsOn-kept st left (orders ++ rest) old (Err Device) (p rest mid (Err Device) (RunsOn-cut now bytes rest mid Device (inr refl))))
@@ -220,10 +220,10 @@ run_of-none : (cleans : Bool) (settings : Settings) (st : Store) (shown : Reads)
 run_of-none true settings st shown = refl
 run_of-none false settings st shown = refl
 
-pub RunsOn-none : (ways : Ways) (honest : Bool) (settings : Settings) (st : Store) (left : List ℕ) (old : Option (List ℕ)) → RunsOn ways honest settings st left [] old old (Ok tt)
-RunsOn-none ways honest settings st left old =
+pub RunsOn-none : (mode : Mode) (honest : Bool) (settings : Settings) (st : Store) (left : List ℕ) (old : Option (List ℕ)) → RunsOn mode honest settings st left [] old old (Ok tt)
+RunsOn-none mode honest settings st left old =
     let shown : Reads = λ i. untidied left in
-    let none = run_of-none ways.clean_when_full settings st shown in (
+    let none = run_of-none mode.clean_when_full settings st shown in (
       shown,
       (λ off i. refl, λ h. subst (AreLeft settings st left shown) (sym none) tt),
       subst (λ (os : List Order). Runs settings st shown os old old (Ok tt)) (sym none) (Runs-none settings st shown old),
@@ -232,47 +232,47 @@ RunsOn-none ways honest settings st left old =
 -- ---- orders one after the other
 
 -- what the orders that are left print after what stands there is, after what stood there first, what all of them print
-abbrev pub Leads : Ways → Bool → Settings → Store → List ℕ → List Order → Option (List ℕ) → Store → List ℕ → List Order → Option (List ℕ) → Type 0
-Leads ways honest settings first file orders old st seen left now =
-    (new : Option (List ℕ)) (end : Result (Unit {0}) Ending) → RunsOn ways honest settings st seen left now new end → RunsOn ways honest settings first file orders old new end
+abbrev pub Leads : Mode → Bool → Settings → Store → List ℕ → List Order → Option (List ℕ) → Store → List ℕ → List Order → Option (List ℕ) → Type 0
+Leads mode honest settings first file orders old st seen left now =
+    (new : Option (List ℕ)) (end : Result (Unit {0}) SessionError) → RunsOn mode honest settings st seen left now new end → RunsOn mode honest settings first file orders old new end
 
-module _ (ways : Ways) (honest : Bool) (settings : Settings) (first st : Store) (file seen : List ℕ) (orders left : List Order) (old now : Option (List ℕ))
-    (leads : Leads ways honest settings first file orders old st seen left now) where
-  pub Leads-done : left ≡ [] → RunsOn ways honest settings first file orders old now (Ok tt)
-  Leads-done none = leads now (Ok tt) (subst (λ (l : List Order). RunsOn ways honest settings st seen l now now (Ok tt)) (sym none) (RunsOn-none ways honest settings st seen now))
+module _ (mode : Mode) (honest : Bool) (settings : Settings) (first st : Store) (file seen : List ℕ) (orders left : List Order) (old now : Option (List ℕ))
+    (leads : Leads mode honest settings first file orders old st seen left now) where
+  pub Leads-done : left ≡ [] → RunsOn mode honest settings first file orders old now (Ok tt)
+  Leads-done none = leads now (Ok tt) (subst (λ (l : List Order). RunsOn mode honest settings st seen l now now (Ok tt)) (sym none) (RunsOn-none mode honest settings st seen now))
 
   -- one more is run, on a store that has the settings of the first, and a disk that is as honest
   module _ (order : Order) (rest : List Order) (is : left ≡ order ∷ rest) (b : Bool) (b_is : b ≡ honest) (s : Settings) (s_is : s ≡ settings) (new : Option (List ℕ))
-      (end : Result (Unit {0}) Ending) (after : Store) (bytes : List ℕ) (one : RunsFirst ways b s st seen (order ∷ []) now new end after bytes) where
-    own : RunsFirst ways honest settings st seen (order ∷ []) now new end after bytes
-    own = subst (λ (c : Bool). RunsFirst ways c settings st seen (order ∷ []) now new end after bytes) b_is
-        (subst (λ (t : Settings). RunsFirst ways b t st seen (order ∷ []) now new end after bytes) s_is one)
+      (end : Result (Unit {0}) SessionError) (after : Store) (bytes : List ℕ) (one : RunsFirst mode b s st seen (order ∷ []) now new end after bytes) where
+    own : RunsFirst mode honest settings st seen (order ∷ []) now new end after bytes
+    own = subst (λ (c : Bool). RunsFirst mode c settings st seen (order ∷ []) now new end after bytes) b_is
+        (subst (λ (t : Settings). RunsFirst mode b t st seen (order ∷ []) now new end after bytes) s_is one)
 
-    further_on : (last : Option (List ℕ)) (ended : Result (Unit {0}) Ending) → RunsOn ways honest settings st seen (order ∷ rest) now last ended
-        → RunsOn ways honest settings first file orders old last ended
-    further_on last ended p = leads last ended (subst (λ (l : List Order). RunsOn ways honest settings st seen l now last ended) (sym is) p)
+    further_on : (last : Option (List ℕ)) (ended : Result (Unit {0}) SessionError) → RunsOn mode honest settings st seen (order ∷ rest) now last ended
+        → RunsOn mode honest settings first file orders old last ended
+    further_on last ended p = leads last ended (subst (λ (l : List Order). RunsOn mode honest settings st seen l now last ended) (sym is) p)
 
-    pub Leads-stops : (early : Ending) → end ≡ Err early → RunsOn ways honest settings first file orders old new (Err early)
+    pub Leads-stops : (early : SessionError) → end ≡ Err early → RunsOn mode honest settings first file orders old new (Err early)
     Leads-stops early e =
-        let mine : RunsFirst ways honest settings st seen (order ∷ []) now new (Err early) after bytes =
-        subst (λ (r : Result (Unit {0}) Ending). RunsFirst ways honest settings st seen (order ∷ []) now new r after bytes) e own in
+        let mine : RunsFirst mode honest settings st seen (order ∷ []) now new (Err early) after bytes =
+        subst (λ (r : Result (Unit {0}) SessionError). RunsFirst mode honest settings st seen (order ∷ []) now new r after bytes) e own in
         further_on new (Err early) (mine rest)
 
-    pub Leads-goes_on : (done : Unit {0}) → end ≡ Ok done → Leads ways honest settings first file orders old after bytes rest new
-    Leads-goes_on done e last ended q =
-        let mine : RunsFirst ways honest settings st seen (order ∷ []) now new (Ok done) after bytes =
-        subst (λ (r : Result (Unit {0}) Ending). RunsFirst ways honest settings st seen (order ∷ []) now new r after bytes) e own in
+    pub Leads-show_call : (done : Unit {0}) → end ≡ Ok done → Leads mode honest settings first file orders old after bytes rest new
+    Leads-show_call done e last ended q =
+        let mine : RunsFirst mode honest settings st seen (order ∷ []) now new (Ok done) after bytes =
+        subst (λ (r : Result (Unit {0}) SessionError). RunsFirst mode honest settings st seen (order ∷ []) now new r after bytes) e own in
         further_on last ended (mine rest last ended q)
 
 -- the same of a disk that is as honest, and of a store with the same settings
-pub RunsFirst-same : (ways : Ways) (b honest : Bool) (s settings : Settings) → b ≡ honest → s ≡ settings → (st : Store) (left : List ℕ) (orders : List Order) (old new : Option (List ℕ))
-    (end : Result (Unit {0}) Ending) (now : Store) (bytes : List ℕ) → RunsFirst ways b s st left orders old new end now bytes → RunsFirst ways honest settings st left orders old new end now bytes
-RunsFirst-same ways b honest s settings b_is s_is st left orders old new end now bytes p =
-    subst (λ (c : Bool). RunsFirst ways c settings st left orders old new end now bytes) b_is
-    (subst (λ (t : Settings). RunsFirst ways b t st left orders old new end now bytes) s_is p)
+pub RunsFirst-same : (mode : Mode) (b honest : Bool) (s settings : Settings) → b ≡ honest → s ≡ settings → (st : Store) (left : List ℕ) (orders : List Order) (old new : Option (List ℕ))
+    (end : Result (Unit {0}) SessionError) (now : Store) (bytes : List ℕ) → RunsFirst mode b s st left orders old new end now bytes → RunsFirst mode honest settings st left orders old new end now bytes
+RunsFirst-same mode b honest s settings b_is s_is st left orders old new end now bytes p =
+    subst (λ (c : Bool). RunsFirst mode c settings st left orders old new end now bytes) b_is
+    (subst (λ (t : Settings). RunsFirst mode b t st left orders old new end now bytes) s_is p)
 
-pub RunsOrder-same : (ways : Ways) (b honest : Bool) (s settings : Settings) → b ≡ honest → s ≡ settings → (st : Store) (left : List ℕ) (order : Order) (old new : Option (List ℕ))
-    (end : Result (Unit {0}) Ending) (now : Store) (bytes : List ℕ) → RunsOrder ways b s st left order old new end now bytes → RunsOrder ways honest settings st left order old new end now bytes
-RunsOrder-same ways b honest s settings b_is s_is st left order old new end now bytes p =
-    subst (λ (c : Bool). RunsOrder ways c settings st left order old new end now bytes) b_is
-    (subst (λ (t : Settings). RunsOrder ways b t st left order old new end now bytes) s_is p)
+pub RunsOrder-same : (mode : Mode) (b honest : Bool) (s settings : Settings) → b ≡ honest → s ≡ settings → (st : Store) (left : List ℕ) (order : Order) (old new : Option (List ℕ))
+    (end : Result (Unit {0}) SessionError) (now : Store) (bytes : List ℕ) → RunsOrder mode b s st left order old new end now bytes → RunsOrder mode honest settings st left order old new end now bytes
+RunsOrder-same mode b honest s settings b_is s_is st left order old new end now bytes p =
+    subst (λ (c : Bool). RunsOrder mode c settings st left order old new end now bytes) b_is
+    (subst (λ (t : Settings). RunsOrder mode b t st left order old new end now bytes) s_is p)

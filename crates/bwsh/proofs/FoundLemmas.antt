@@ -8,7 +8,7 @@ use Rattle.std.proofs.lemmas.List.Elements.{All-head, All-tail}
 use Rattle.std.proofs.lemmas.Slice.Eq.{bytes_eq-Decides}
 use Rattle.crew.specs.declared.limits.Crew.{Crew}
 use Rattle.keys.specs.declared.settings.Settings.{Settings}
-use Rattle.bwsh.specs.declared.options.asked.Ways.{Ways}
+use Rattle.bwsh.specs.declared.options.asked.Mode.{Mode}
 use Rattle.clap.specs.Lexer.{without_minus}
 use Rattle.clap.specs.Walk.{Row, Rule, at_row, default_rows, first_of, has_row, more_values, one_of, reading_by, row_text, with_default}
 use Rattle.clap.specs.declared.builder.value_parser.Reading.TheVariants.{AsWritten, WithoutMinus}
@@ -245,7 +245,7 @@ crew_with a b = record { workers = a; grain = b }
 pub crews_equal : {a b c d : ℕ} → a ≡ c → b ≡ d → crew_with a b ≡ crew_with c d
 crews_equal a b = rw (a, b) refl
 
-abbrev ways_with : Bool → Bool → Bool → Bool → Bool → ℕ → Bool → Ways
+abbrev ways_with : Bool → Bool → Bool → Bool → Bool → ℕ → Bool → Mode
 ways_with a b c d e f g = record { version = a; explain = b; stat = c; clean_when_full = d; stream = e; tidy = f; progress = g }
 
 -- so are ways

@@ -19,7 +19,7 @@ mod ShowLemmas
 mod StoreLemmas
 mod StreamLemmas
 mod TidiedLemmas
-mod EndingLemmas
+mod ErrorLemmas
 mod TokensReadBack
 mod TokenLemmas
 mod TurnLemmas

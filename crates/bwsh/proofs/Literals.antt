@@ -6,16 +6,16 @@ use Rattle.keys.specs.declared.command.Command.TheVariants.{Get, Put, Del, Scan,
 use Rattle.keys.specs.declared.command.Reply.{Reply}
 use Rattle.keys.specs.declared.command.Reply.TheVariants.{Rows}
 use Rattle.bstr.specs.Text.{line_len, lines_from}
-use Rattle.bwsh.specs.declared.line.Says.{Says}
-use Rattle.bwsh.specs.declared.line.Says.TheVariants.{Nothing, Go, Bad}
-use Rattle.bwsh.specs.declared.line.Says.TheVariants as says
+use Rattle.bwsh.specs.declared.line.Line.{Line}
+use Rattle.bwsh.specs.declared.line.Line.TheVariants.{Blank, Go, Bad}
+use Rattle.bwsh.specs.declared.line.Line.TheVariants as line_variants
 use Rattle.bwsh.specs.declared.line.Why.TheVariants.{UnknownCommand, WordCount, BadToken, BadNumber}
 use Rattle.bwsh.specs.declared.batch_file.Order.TheVariants.{Batch, Flush, Upgrade, Verify}
 use Rattle.bwsh.specs.Token.{token_bytes, shown_token}
 use Rattle.bwsh.specs.Words.{words_of}
-use Rattle.bwsh.specs.Line.{line_says}
+use Rattle.bwsh.specs.Line.{parse_line}
 use Rattle.bwsh.specs.Number.{number_in}
-use Rattle.bwsh.specs.declared.options.asked.Ways.{Ways}
+use Rattle.bwsh.specs.declared.options.asked.Mode.{Mode}
 use Rattle.bwsh.specs.Options.{asked, options, refused, request_by}
 use Rattle.bwsh.specs.Shown.{shown_reply}
 use Rattle.bwsh.specs.BatchFile.{lines, first_bad, orders_of}
@@ -56,36 +56,36 @@ some_words = refl
 no_words : words_of (32 ∷ 9 ∷ 32 ∷ []) ≡ []
 no_words = refl
 
-a_comment : line_says (codes "  #put a 1") ≡ Nothing
+a_comment : parse_line (codes "  #put a 1") ≡ Blank
 a_comment = refl
 
-an_escaped_command : line_says (codes "%67et a") ≡ Bad UnknownCommand
+an_escaped_command : parse_line (codes "%67et a") ≡ Bad UnknownCommand
 an_escaped_command = refl
 
 -- the number of words goes before what they are
-a_word_too_few : line_says (codes "put a%") ≡ Bad WordCount
+a_word_too_few : parse_line (codes "put a%") ≡ Bad WordCount
 a_word_too_few = refl
 
-a_bad_token : line_says (codes "put a% 1") ≡ Bad BadToken
+a_bad_token : parse_line (codes "put a% 1") ≡ Bad BadToken
 a_bad_token = refl
 
-go_with_a_word : line_says (codes "go a") ≡ Bad WordCount
+go_with_a_word : parse_line (codes "go a") ≡ Bad WordCount
 go_with_a_word = refl
 
 -- the star is no upper bound, and else the key of one byte; zeros may stand in front of a number
-a_scan_without_bound : line_says (codes "scan * * 005") ≡ Says.Command (Scan (42 ∷ []) None 5)
+a_scan_without_bound : parse_line (codes "scan * * 005") ≡ Line.Command (Scan (42 ∷ []) None 5)
 a_scan_without_bound = refl
 
-a_scan_below_a_star : line_says (codes "scan % %2A 4294967295") ≡ Says.Command (Scan [] (Some (42 ∷ [])) 4294967295)
+a_scan_below_a_star : parse_line (codes "scan % %2A 4294967295") ≡ Line.Command (Scan [] (Some (42 ∷ [])) 4294967295)
 a_scan_below_a_star = refl
 
-a_wipe_without_bound : line_says (codes "wipe % *") ≡ Says.Command (Wipe [] None)
+a_wipe_without_bound : parse_line (codes "wipe % *") ≡ Line.Command (Wipe [] None)
 a_wipe_without_bound = refl
 
-a_wipe_up_to_a_key : line_says (codes "wipe b d") ≡ Says.Command (Wipe (98 ∷ []) (Some (100 ∷ [])))
+a_wipe_up_to_a_key : parse_line (codes "wipe b d") ≡ Line.Command (Wipe (98 ∷ []) (Some (100 ∷ [])))
 a_wipe_up_to_a_key = refl
 
-a_wipe_with_a_limit : line_says (codes "wipe b d 3") ≡ Bad WordCount
+a_wipe_with_a_limit : parse_line (codes "wipe b d 3") ≡ Bad WordCount
 a_wipe_with_a_limit = refl
 
 a_number_too_great : number_in (codes "4294967296") ≡ None
@@ -94,37 +94,37 @@ a_number_too_great = refl
 no_digits : number_in [] ≡ None
 no_digits = refl
 
-a_sign_in_front : line_says (codes "scan a * +1") ≡ Bad BadNumber
+a_sign_in_front : parse_line (codes "scan a * +1") ≡ Bad BadNumber
 a_sign_in_front = refl
 
 -- a limit isn't read as a token
-an_escaped_number : line_says (codes "scan a * %31") ≡ Bad BadNumber
+an_escaped_number : parse_line (codes "scan a * %31") ≡ Bad BadNumber
 an_escaped_number = refl
 
 -- what is no token goes before what is no number, and the number of words before both
-a_bad_token_first : line_says (codes "scan a %g1 x") ≡ Bad BadToken
+a_bad_token_first : parse_line (codes "scan a %g1 x") ≡ Bad BadToken
 a_bad_token_first = refl
 
-no_limit : line_says (codes "scan %g1 *") ≡ Bad WordCount
+no_limit : parse_line (codes "scan %g1 *") ≡ Bad WordCount
 no_limit = refl
 
-verify_alone : line_says (codes " verify ") ≡ says.Verify
+verify_alone : parse_line (codes " verify ") ≡ line_variants.Verify
 verify_alone = refl
 
-flush_alone : line_says (codes "flush") ≡ says.Flush
+flush_alone : parse_line (codes "flush") ≡ line_variants.Flush
 flush_alone = refl
 
-upgrade_alone : line_says (codes "upgrade") ≡ says.Upgrade
+upgrade_alone : parse_line (codes "upgrade") ≡ line_variants.Upgrade
 upgrade_alone = refl
 
-upgrade_with_a_word : line_says (codes "upgrade x") ≡ Bad WordCount
+upgrade_with_a_word : parse_line (codes "upgrade x") ≡ Bad WordCount
 upgrade_with_a_word = refl
 
-verify_with_a_word : line_says (codes "verify 1") ≡ Bad WordCount
+verify_with_a_word : parse_line (codes "verify 1") ≡ Bad WordCount
 verify_with_a_word = refl
 
-seven_lines : List Says
-seven_lines = map line_says (codes "get a" ∷ codes "put a 1" ∷ codes "get a" ∷ codes "put a 2" ∷ codes "get a" ∷ codes "del a" ∷ codes "get a" ∷ [])
+seven_lines : List Line
+seven_lines = map parse_line (codes "get a" ∷ codes "put a 1" ∷ codes "get a" ∷ codes "put a 2" ∷ codes "get a" ∷ codes "del a" ∷ codes "get a" ∷ [])
 
 one_batch_of_seven : orders_of [] seven_lines ≡ Batch (Get (97 ∷ []) ∷ Put (97 ∷ []) (49 ∷ []) ∷ Get (97 ∷ []) ∷ Put (97 ∷ []) (50 ∷ []) ∷ Get (97 ∷ []) ∷ Del (97 ∷ []) ∷ Get (97 ∷ []) ∷ []) ∷ []
 unfolding seven_lines
@@ -134,21 +134,21 @@ none_of_seven_is_bad : first_bad 1 seven_lines ≡ None
 unfolding seven_lines
 none_of_seven_is_bad = refl
 
-the_second_is_bad : first_bad 1 (map line_says (codes "put a 1" ∷ codes "frob x" ∷ codes "put" ∷ [])) ≡ Some (2, UnknownCommand)
+the_second_is_bad : first_bad 1 (map parse_line (codes "put a 1" ∷ codes "frob x" ∷ codes "put" ∷ [])) ≡ Some (2, UnknownCommand)
 the_second_is_bad = refl
 
 -- a flush and a verify run the pending batch only where it has commands
-flushes : orders_of [] (map line_says (codes "flush" ∷ codes "get a" ∷ codes "flush" ∷ codes "verify" ∷ [])) ≡ Flush ∷ Batch (Get (97 ∷ []) ∷ []) ∷ Flush ∷ Verify ∷ []
+flushes : orders_of [] (map parse_line (codes "flush" ∷ codes "get a" ∷ codes "flush" ∷ codes "verify" ∷ [])) ≡ Flush ∷ Batch (Get (97 ∷ []) ∷ []) ∷ Flush ∷ Verify ∷ []
 flushes = refl
 
 -- so does an upgrade
-upgrades : orders_of [] (map line_says (codes "upgrade" ∷ codes "get a" ∷ codes "upgrade" ∷ [])) ≡ Upgrade ∷ Batch (Get (97 ∷ []) ∷ []) ∷ Upgrade ∷ []
+upgrades : orders_of [] (map parse_line (codes "upgrade" ∷ codes "get a" ∷ codes "upgrade" ∷ [])) ≡ Upgrade ∷ Batch (Get (97 ∷ []) ∷ []) ∷ Upgrade ∷ []
 upgrades = refl
 
-verifies : orders_of [] (map line_says (codes "verify" ∷ codes "get a" ∷ codes "verify" ∷ codes "go" ∷ [])) ≡ Verify ∷ Batch (Get (97 ∷ []) ∷ []) ∷ Verify ∷ Batch [] ∷ []
+verifies : orders_of [] (map parse_line (codes "verify" ∷ codes "get a" ∷ codes "verify" ∷ codes "go" ∷ [])) ≡ Verify ∷ Batch (Get (97 ∷ []) ∷ []) ∷ Verify ∷ Batch [] ∷ []
 verifies = refl
 
-an_empty_batch : orders_of [] (Go ∷ Nothing ∷ Go ∷ []) ≡ Batch [] ∷ Batch [] ∷ []
+an_empty_batch : orders_of [] (Go ∷ Blank ∷ Go ∷ []) ≡ Batch [] ∷ Batch [] ∷ []
 an_empty_batch = refl
 
 -- only one LF or CR LF is cut from a line, and none from the last where there is none
@@ -174,15 +174,15 @@ some_options : asked (codes "--create" ∷ codes "--disk" ∷ codes "a b" ∷ co
 some_options = refl
 
 -- a session that differs in nothing from one without options
-abbrev no_ways : Ways
+abbrev no_ways : Mode
 no_ways = record { version = false; explain = false; stat = false; clean_when_full = false; stream = false; tidy = 0; progress = false }
 
 request_options : request_by ((codes "create", codes "true") ∷ (codes "disk", codes "a b") ∷ (codes "fan", codes "8") ∷ [])
-    ≡ record { settings = record { fan = 8; chain = 4; max_key = 64; max_value = 256; seg_size = 65536; segments = 64 }; crew = record { workers = 1; grain = 64 }; disk = Some (codes "a b"); create = true; copy_to = None; ways = no_ways }
+    ≡ record { settings = record { fan = 8; chain = 4; max_key = 64; max_value = 256; seg_size = 65536; segments = 64 }; crew = record { workers = 1; grain = 64 }; disk = Some (codes "a b"); create = true; copy_to = None; mode = no_ways }
 request_options = refl
 
 nothing_request : request_by []
-    ≡ record { settings = record { fan = 16; chain = 4; max_key = 64; max_value = 256; seg_size = 65536; segments = 64 }; crew = record { workers = 1; grain = 64 }; disk = None; create = false; copy_to = None; ways = no_ways }
+    ≡ record { settings = record { fan = 16; chain = 4; max_key = 64; max_value = 256; seg_size = 65536; segments = 64 }; crew = record { workers = 1; grain = 64 }; disk = None; create = false; copy_to = None; mode = no_ways }
 nothing_request = refl
 
 -- a path is any text, but after `--disk` none that looks like a flag
@@ -203,13 +203,13 @@ asked_ways : asked (codes "--version" ∷ codes "--fan" ∷ codes "8" ∷ codes 
     ≡ options ((codes "version", codes "true") ∷ (codes "fan", codes "8") ∷ (codes "explain", codes "true") ∷ [])
 asked_ways = refl
 
-request_version : (request_by ((codes "version", codes "true") ∷ [])).ways ≡ record no_ways { version = true }
+request_version : (request_by ((codes "version", codes "true") ∷ [])).mode ≡ record no_ways { version = true }
 request_version = refl
 
-request_to_explain : (request_by ((codes "explain", codes "true") ∷ [])).ways ≡ record no_ways { explain = true }
+request_to_explain : (request_by ((codes "explain", codes "true") ∷ [])).mode ≡ record no_ways { explain = true }
 request_to_explain = refl
 
-request_of_tidying : (request_by ((codes "tidy", codes "007") ∷ (codes "progress", codes "true") ∷ [])).ways ≡ record no_ways { tidy = 7; progress = true }
+request_of_tidying : (request_by ((codes "tidy", codes "007") ∷ (codes "progress", codes "true") ∷ [])).mode ≡ record no_ways { tidy = 7; progress = true }
 request_of_tidying = refl
 
 -- each option that takes a path has its own

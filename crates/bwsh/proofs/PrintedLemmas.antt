@@ -13,8 +13,8 @@ use Rattle.mapping.specs.Tree.{Store}
 use Rattle.verify.specs.Report.{report}
 use Rattle.bwsh.specs.declared.batch_file.Order.{Order}
 use Rattle.bwsh.specs.declared.batch_file.Order.TheVariants.{Batch, Flush, Clean, Upgrade, Verify, Numbers}
-use Rattle.bwsh.specs.declared.line.Says.{Says}
-use Rattle.bwsh.specs.BatchFile.{orders_of, commands_of, commands_said, IsBatch, IsForBatches}
+use Rattle.bwsh.specs.declared.line.Line.{Line}
+use Rattle.bwsh.specs.BatchFile.{orders_of, commands_of, commands_of_lines, IsBatch, IsForBatches}
 use Rattle.bwsh.specs.Session.{Reads, later, answer_lines, numbers_of, printed, after_order}
 use Rattle.bwsh.specs.Shown.{shown_reply, shown_flushed, shown_cleaned, shown_upgraded, shown_report, shown_numbers}
 use Rattle.bwsh.proofs.OrderLemmas.{commands-orders_of, batches-orders_of}
@@ -74,8 +74,8 @@ pub printed-orders : (settings : Settings) (st : Store) (shown : Reads) (m : Lis
     → printed settings st shown m orders ≡ flat_map shown_reply (replies_to m (flat_map commands_of orders))
 printed-orders settings st shown m orders only = printed-commands settings st shown m orders (recursion_from_All IsBatch orders only)
 
-pub printed-said : (settings : Settings) (st : Store) (shown : Reads) (said : List Says) → All IsForBatches said
-    → printed settings st shown [] (orders_of [] said) ≡ flat_map shown_reply (replies_to [] (commands_said said))
-printed-said settings st shown said only =
-    printed-commands settings st shown [] (orders_of [] said) (batches-orders_of [] said (recursion_from_All IsForBatches said only))
-    ∙ ap (λ (cs : List (Command Global)). flat_map shown_reply (replies_to [] cs)) (commands-orders_of [] said)
+pub printed-parsed : (settings : Settings) (st : Store) (shown : Reads) (parsed : List Line) → All IsForBatches parsed
+    → printed settings st shown [] (orders_of [] parsed) ≡ flat_map shown_reply (replies_to [] (commands_of_lines parsed))
+printed-parsed settings st shown parsed only =
+    printed-commands settings st shown [] (orders_of [] parsed) (batches-orders_of [] parsed (recursion_from_All IsForBatches parsed only))
+    ∙ ap (λ (cs : List (Command Global)). flat_map shown_reply (replies_to [] cs)) (commands-orders_of [] parsed)

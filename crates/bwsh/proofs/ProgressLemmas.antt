@@ -6,15 +6,15 @@ use Rattle.std.specs.Io.KnownBytes.{Appends}
 use Rattle.std.proofs.KnownBytes.{Appends-nil, Appends-trans}
 use Rattle.std.proofs.lemmas.List.{map-append}
 use Rattle.keys.specs.Lists.{flat}
-use Rattle.bwsh.specs.Progress.{Sight, in_place, shown_sight, sight_text}
-use Rattle.bwsh.specs.declared.session.Ending.{Ending}
+use Rattle.bwsh.specs.Progress.{ProgressText, in_place, shown_message, progress_text}
+use Rattle.bwsh.specs.declared.session.SessionError.{SessionError}
 use Rattle.bwsh.specs.Options.{Request, AsksFor, AsksForProgress, AsksToExplain}
 use Rattle.bwsh.specs.Session.{IsBegun, IsProgress, IsQuiet, IsReported, IsReportedAfterProgress, IsReportedWith, Answers, IsAnswered, Shows, ShowsOnly, Streams}
 use Rattle.bwsh.proofs.Prints.{flat-append, front-longer, front-more, front-whole}
 
 -- what is written to show some sights, and then some more
-shown_more : (first more : List Sight) → flat (map shown_sight (first ++ more)) ≡ flat (map shown_sight first) ++ flat (map shown_sight more)
-shown_more first more = ap flat (map-append shown_sight first more) ∙ flat-append (map shown_sight first) (map shown_sight more)
+shown_more : (first more : List ProgressText) → flat (map shown_message (first ++ more)) ≡ flat (map shown_message first) ++ flat (map shown_message more)
+shown_more first more = ap flat (map-append shown_message first more) ∙ flat-append (map shown_message first) (map shown_message more)
 
 -- ---- beginnings of what is written
 
@@ -66,25 +66,25 @@ module _ {E : Type 0} (contents : E → Option (List ℕ)) where
       subst (λ (x : Bool). Shows contents true old x new) (sym off) (subst (λ (e : E). IsProgress (contents old) (contents e)) (sym same) p)
 
   -- a line is written, or a beginning of it
-  shown_line : {X : Type 0} (r : Result (Unit {0}) X) (sight : Sight) (text : List ℕ) (old new : E) → sight_text sight ≡ text
+  shown_line : {X : Type 0} (r : Result (Unit {0}) X) (message : ProgressText) (text : List ℕ) (old new : E) → progress_text message ≡ text
       → OnOk r (Appends (contents old) (contents new) (in_place text)) → OnErr r (IsBegun (contents old) (contents new) (in_place text))
       → Shows contents true old (is_ok r) new
-  shown_line (Ok x) sight text old new is a b =
-      (sight ∷ [], subst (Appends (contents old) (contents new)) (ap in_place (sym is) ∙ sym (append-nil (shown_sight sight))) a)
-  shown_line (Err e) sight text old new is a b =
-      (sight ∷ [], subst (IsBegun (contents old) (contents new)) (ap in_place (sym is) ∙ sym (append-nil (shown_sight sight))) b)
+  shown_line (Ok x) message text old new is a b =
+      (message ∷ [], subst (Appends (contents old) (contents new)) (ap in_place (sym is) ∙ sym (append-nil (shown_message message))) a)
+  shown_line (Err e) message text old new is a b =
+      (message ∷ [], subst (IsBegun (contents old) (contents new)) (ap in_place (sym is) ∙ sym (append-nil (shown_message message))) b)
 
   pub Shows-line : {X : Type 0} (on still : Bool) (r : Result (Unit {0}) X) (text : List ℕ) (old new : E) → on ≡ true → still ≡ is_ok r
       → OnOk r (Appends (contents old) (contents new) (in_place text)) → OnErr r (IsBegun (contents old) (contents new) (in_place text))
-      → (sight : Sight) → sight_text sight ≡ text → Shows contents on old still new
-  Shows-line on still r text old new is_on is a b sight shows =
+      → (message : ProgressText) → progress_text message ≡ text → Shows contents on old still new
+  Shows-line on still r text old new is_on is a b message shows =
       subst (λ (x : Bool). Shows contents x old still new) (sym is_on)
-      (subst (λ (x : Bool). Shows contents true old x new) (sym is) (shown_line r sight text old new shows a b))
+      (subst (λ (x : Bool). Shows contents true old x new) (sym is) (shown_line r message text old new shows a b))
 
   -- whatever it was shown by then, it is progress
   pub ShowsOnly-shown : (asked on : Bool) (old new : E) → Shows contents asked old on new → ShowsOnly contents asked old new
   ShowsOnly-shown false on old new p = p.1
-  ShowsOnly-shown true true old new (sights, a) = (sights, (flat (map shown_sight sights), front-whole _, a))
+  ShowsOnly-shown true true old new (messages, a) = (messages, (flat (map shown_message messages), front-whole _, a))
   ShowsOnly-shown true false old new p = p
 
   pub ShowsOnly-same : (asked : Bool) (err : E) → ShowsOnly contents asked err err
@@ -94,9 +94,9 @@ module _ {E : Type 0} (contents : E → Option (List ℕ)) where
 
 -- it is as it was, or got progress, where the words ask for what was shown
 pub quiet_if_asked : {E : Type 0} (contents : E → Option (List ℕ)) (words : List (List ℕ)) (request : Request) (old new : E) → AsksFor words request
-    → ShowsOnly contents request.ways.progress old new → IsQuiet contents words old new
-quiet_if_asked {E} contents words request old new tells p = by request.ways.progress refl p where
-  by : (b : Bool) → request.ways.progress ≡ b → ShowsOnly contents b old new → IsQuiet contents words old new
+    → ShowsOnly contents request.mode.progress old new → IsQuiet contents words old new
+quiet_if_asked {E} contents words request old new tells p = by request.mode.progress refl p where
+  by : (b : Bool) → request.mode.progress ≡ b → ShowsOnly contents b old new → IsQuiet contents words old new
   by true is q = inr ((request, tells, is), q)
   by false is q = inl q
 
@@ -106,7 +106,7 @@ module _ {E : Type 0} (contents : E → Option (List ℕ)) (words : List (List �
   quiet_after p same = subst (λ (e : E). IsQuiet contents words old e) (sym same) p
 
   -- and then an end is reported
-  pub reported_after : (end : Result (Unit {0}) Ending) (more : List ℕ) → IsQuiet contents words old mid → AsksToExplain words ⊎ (more ≡ [])
+  pub reported_after : (end : Result (Unit {0}) SessionError) (more : List ℕ) → IsQuiet contents words old mid → AsksToExplain words ⊎ (more ≡ [])
       → IsReportedWith more end (contents mid) (contents new) → IsReportedAfterProgress words end (contents old) (contents new)
   reported_after end more (inl same) asks is = inl (more, asks, subst (λ (e : E). IsReportedWith more end (contents e) (contents new)) same is)
   reported_after end more (inr (wants, shown)) asks is = inr (wants, (contents mid, shown, (more, asks, is)))
@@ -123,9 +123,9 @@ both_ok (Err e) P Q p q = tt
 
 -- ---- with progress and without
 
-module _ (request : Request) (asked : Bool) (known old new : Option (List ℕ)) (end : Result (Unit {0}) Ending) where
+module _ (request : Request) (asked : Bool) (known old new : Option (List ℕ)) (end : Result (Unit {0}) SessionError) where
   abbrev with_progress : Request
-  with_progress = record request { ways = record request.ways { progress = asked } }
+  with_progress = record request { mode = record request.mode { progress = asked } }
 
   Answers-progress : Answers request known old new end → Answers with_progress known old new end
   unfolding Answers
@@ -133,16 +133,16 @@ module _ (request : Request) (asked : Bool) (known old new : Option (List ℕ)) 
 
   Streams-progress : Streams request known old new end → Streams with_progress known old new end
   unfolding Streams
-  Streams-progress (said, is_known, start, is, shown, is_shown, printed_so) = (said, is_known, start, is, shown, is_shown, printed_so)
+  Streams-progress (parsed, is_known, start, is, shown, is_shown, printed_so) = (parsed, is_known, start, is, shown, is_shown, printed_so)
 
-  pub IsAnswered-progress : IsAnswered request known old new end → IsAnswered (record request { ways = record request.ways { progress = asked } }) known old new end
-  IsAnswered-progress = by request.ways.stream where
+  pub IsAnswered-progress : IsAnswered request known old new end → IsAnswered (record request { mode = record request.mode { progress = asked } }) known old new end
+  IsAnswered-progress = by request.mode.stream where
     by : (b : Bool) → MatchBool b (Streams request known old new end) (Answers request known old new end)
         → MatchBool b (Streams with_progress known old new end) (Answers with_progress known old new end)
     by true p = Streams-progress p
     by false p = Answers-progress p
 
-pub reported_without : (words : List (List ℕ)) → (AsksForProgress words → ⊥) → (end : Result (Unit {0}) Ending) (old new : Option (List ℕ)) → IsReportedAfterProgress words end old new
+pub reported_without : (words : List (List ℕ)) → (AsksForProgress words → ⊥) → (end : Result (Unit {0}) SessionError) (old new : Option (List ℕ)) → IsReportedAfterProgress words end old new
     → IsReported words end old new
 reported_without words none end old new (inl p) = p
 reported_without words none end old new (inr (asks, p)) = absurd (none asks)

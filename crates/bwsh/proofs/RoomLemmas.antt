@@ -14,13 +14,13 @@ use Rattle.keys.specs.Lists.{flat}
 use Rattle.keys.specs.declared.fault.Fault.{Fault}
 use Rattle.keys.specs.declared.fault.Fault.TheVariants.{Full, NoMemory, NothingToClean}
 use Rattle.mapping.specs.Levels.{contents}
-use Rattle.bwsh.specs.declared.session.Ending.{Ending}
-use Rattle.bwsh.specs.declared.session.Ending.TheVariants.{Device}
-use Rattle.bwsh.specs.declared.session.Ending.TheVariants as endings
-use Rattle.bwsh.specs.declared.options.asked.Ways.{Ways}
+use Rattle.bwsh.specs.declared.session.SessionError.{SessionError}
+use Rattle.bwsh.specs.declared.session.SessionError.TheVariants.{Device}
+use Rattle.bwsh.specs.declared.session.SessionError.TheVariants as errors
+use Rattle.bwsh.specs.declared.options.asked.Mode.{Mode}
 use Rattle.bwsh.specs.Session.{BeginsWith, Prints, Reads, Runs, RunsFirst, RunsOn, RunsOrder, Seen, after_order, flush_with_room, is_full, is_nothing_to_clean, later, map_after, own_lines, refusal_of, wants_clean, with_cleans}
 use Rattle.bwsh.proofs.BytesLemmas.{refusal-same}
-use Rattle.bwsh.proofs.FirstLemmas.{Leavable, RunsBy, RunsBy-asked, RunsBy-cut, RunsBy-goes_on, RunsBy-stops, RunsOrder-same, leave, leave_flush}
+use Rattle.bwsh.proofs.FirstLemmas.{Leavable, RunsBy, RunsBy-asked, RunsBy-cut, RunsBy-show_call, RunsBy-stops, RunsOrder-same, leave, leave_flush}
 use Rattle.bwsh.proofs.RunLemmas.{IsCut, first_shown}
 
 -- what is so of what is next is so after the cleans of a flush
@@ -74,36 +74,36 @@ abbrev pub orders_after_flush : Settings → List Order → Store → Reads → 
 orders_after_flush settings rest now after = with_cleans settings now after rest
 
 -- in the same ways, and flushes make themselves room
-abbrev pub roomy : Ways → Ways
-roomy ways = record ways { clean_when_full = true }
+abbrev pub roomy : Mode → Mode
+roomy mode = record mode { clean_when_full = true }
 
-roomy_is : (ways : Ways) → ways.clean_when_full ≡ true → roomy ways ≡ ways
-roomy_is ways full = ap (λ (b : Bool). record ways { clean_when_full = b }) (sym full)
+roomy_is : (mode : Mode) → mode.clean_when_full ≡ true → roomy mode ≡ mode
+roomy_is mode full = ap (λ (b : Bool). record mode { clean_when_full = b }) (sym full)
 
 -- what is so where flushes make themselves room is so in ways in which they do
-pub as_roomy : (ways : Ways) → ways.clean_when_full ≡ true → (honest : Bool) (settings : Settings) (st : Store) (left : List ℕ) (old new : Option (List ℕ))
-    (end : Result (Unit {0}) Ending) (now : Store) (bytes : List ℕ) → RunsFirst (roomy ways) honest settings st left (Flush ∷ []) old new end now bytes
-    → RunsFirst ways honest settings st left (Flush ∷ []) old new end now bytes
-as_roomy ways full honest settings st left old new end now bytes p =
-    subst (λ (w : Ways). RunsFirst w honest settings st left (Flush ∷ []) old new end now bytes) (roomy_is ways full) p
+pub as_roomy : (mode : Mode) → mode.clean_when_full ≡ true → (honest : Bool) (settings : Settings) (st : Store) (left : List ℕ) (old new : Option (List ℕ))
+    (end : Result (Unit {0}) SessionError) (now : Store) (bytes : List ℕ) → RunsFirst (roomy mode) honest settings st left (Flush ∷ []) old new end now bytes
+    → RunsFirst mode honest settings st left (Flush ∷ []) old new end now bytes
+as_roomy mode full honest settings st left old new end now bytes p =
+    subst (λ (w : Mode). RunsFirst w honest settings st left (Flush ∷ []) old new end now bytes) (roomy_is mode full) p
 
 -- a flush with this number of cleans before it at most, with nothing of it done yet, prints after what stands there is, after what stood there
 -- first, what a flush does that makes itself room
-abbrev pub LeadsRoom : Ways → Bool → Settings → Store → List ℕ → Option (List ℕ) → ℕ → Store → List ℕ → Option (List ℕ) → Type 0
-LeadsRoom ways honest settings first file old most st seen now =
-    (rest : List Order) (new : Option (List ℕ)) (end : Result (Unit {0}) Ending)
-    → RunsBy ways honest settings st seen (λ shown. flush_with_room most settings st shown (orders_after_flush settings rest)) now new end
-    → RunsOn (roomy ways) honest settings first file (Flush ∷ rest) old new end
+abbrev pub LeadsRoom : Mode → Bool → Settings → Store → List ℕ → Option (List ℕ) → ℕ → Store → List ℕ → Option (List ℕ) → Type 0
+LeadsRoom mode honest settings first file old most st seen now =
+    (rest : List Order) (new : Option (List ℕ)) (end : Result (Unit {0}) SessionError)
+    → RunsBy mode honest settings st seen (λ shown. flush_with_room most settings st shown (orders_after_flush settings rest)) now new end
+    → RunsOn (roomy mode) honest settings first file (Flush ∷ rest) old new end
 
-pub LeadsRoom-first : (ways : Ways) (honest : Bool) (settings : Settings) (st : Store) (seen : List ℕ) (old : Option (List ℕ)) → LeadsRoom ways honest settings st seen old settings.segments st seen old
-LeadsRoom-first ways honest settings st seen old rest new end p = p
+pub LeadsRoom-first : (mode : Mode) (honest : Bool) (settings : Settings) (st : Store) (seen : List ℕ) (old : Option (List ℕ)) → LeadsRoom mode honest settings st seen old settings.segments st seen old
+LeadsRoom-first mode honest settings st seen old rest new end p = p
 
 leavable_room : (settings : Settings) (rest : List Order) (most : ℕ) → Leavable settings (λ s shown. flush_with_room most settings s shown (orders_after_flush settings rest))
 leavable_room settings rest most = leave_flush settings (orders_after_flush settings rest) (leave true settings rest) most
 
 -- an order alone that ends early: by its right, with nothing printed, or for want of memory or since a device failed
-data Early (now new : Option (List ℕ)) (r : Option Fault) (early : Ending) : Type 0 where
-  by_right : (fault : Fault) → r ≡ Some fault → early ≡ endings.Fault fault → Appends now new [] → Early now new r early
+data Early (now new : Option (List ℕ)) (r : Option Fault) (early : SessionError) : Type 0 where
+  by_right : (fault : Fault) → r ≡ Some fault → early ≡ errors.Fault fault → Appends now new [] → Early now new r early
   refused_cut : (fault : Fault) → r ≡ Some fault → IsCut early → Appends now new [] → Early now new r early
   cut : r ≡ None → IsCut early → Early now new r early
 
@@ -115,34 +115,34 @@ no_lines : (xs : List (List ℕ)) → BeginsWith [] xs → xs ≡ []
 no_lines [] b = refl
 no_lines (x ∷ xs) (rest, e) = absurd (cc)
 
-same_ending : (early other : Ending) → (let end : Result (Unit {0}) Ending = Err early in end ≡ Err other) → early ≡ other
+same_ending : (early other : SessionError) → (let end : Result (Unit {0}) SessionError = Err early in end ≡ Err other) → early ≡ other
 same_ending early other e = cc
 
-never_ends : (early : Ending) → (let end : Result (Unit {0}) Ending = Err early in end ≡ Ok tt) → ⊥
+never_ends : (early : SessionError) → (let end : Result (Unit {0}) SessionError = Err early in end ≡ Ok tt) → ⊥
 never_ends early e = cc
 
 -- of lines that are printed where it isn't refused
-early_of_none : (now new : Option (List ℕ)) (lines : List (List ℕ)) (early : Ending) → Prints now new lines (Ok tt) (Err early) → Early now new None early
+early_of_none : (now new : Option (List ℕ)) (lines : List (List ℕ)) (early : SessionError) → Prints now new lines (Ok tt) (Err early) → Early now new None early
 early_of_none now new lines early (inl (e, a)) = absurd (never_ends early e)
-early_of_none now new lines early (inr (inl (e, q))) = cut refl (inl (same_ending early (endings.Fault NoMemory) e))
+early_of_none now new lines early (inr (inl (e, q))) = cut refl (inl (same_ending early (errors.Fault NoMemory) e))
 early_of_none now new lines early (inr (inr (e, q))) = cut refl (inr (same_ending early Device e))
 
 -- of nothing that is printed where it is
-early_of_some : (now new : Option (List ℕ)) (fault : Fault) (early : Ending) → Prints now new [] (Err (endings.Fault fault)) (Err early) → Early now new (Some fault) early
-early_of_some now new fault early (inl (e, a)) = by_right fault refl (same_ending early (endings.Fault fault) e) a
+early_of_some : (now new : Option (List ℕ)) (fault : Fault) (early : SessionError) → Prints now new [] (Err (errors.Fault fault)) (Err early) → Early now new (Some fault) early
+early_of_some now new fault early (inl (e, a)) = by_right fault refl (same_ending early (errors.Fault fault) e) a
 early_of_some now new fault early (inr (inl (e, (front, begins, a)))) =
-    refused_cut fault refl (inl (same_ending early (endings.Fault NoMemory) e)) (subst (λ (l : List (List ℕ)). Appends now new (flat l)) (no_lines front begins) a)
+    refused_cut fault refl (inl (same_ending early (errors.Fault NoMemory) e)) (subst (λ (l : List (List ℕ)). Appends now new (flat l)) (no_lines front begins) a)
 early_of_some now new fault early (inr (inr (e, (front, begins, a)))) =
     refused_cut fault refl (inr (same_ending early Device e)) (subst (Appends now new) (nothing_front front begins) a)
 
-early_by : (settings : Settings) (st : Store) (file : Seen) (order : Order) (now new : Option (List ℕ)) (early : Ending) (r : Option Fault) → refusal_of settings st file order ≡ r
+early_by : (settings : Settings) (st : Store) (file : Seen) (order : Order) (now new : Option (List ℕ)) (early : SessionError) (r : Option Fault) → refusal_of settings st file order ≡ r
     → Runs settings st (λ i. file) (order ∷ []) now new (Err early) → Early now new r early
 unfolding Runs
 early_by settings st file order now new early None none p =
     let own : Prints now new (own_lines settings st file (contents st.tree) order ++ []) (Ok tt) (Err early) = rw none at p in
     early_of_none now new (own_lines settings st file (contents st.tree) order ++ []) early own
 early_by settings st file order now new early (Some fault) some p =
-    let own : Prints now new [] (Err (endings.Fault fault)) (Err early) = rw some at p in
+    let own : Prints now new [] (Err (errors.Fault fault)) (Err early) = rw some at p in
     early_of_some now new fault early own
 
 -- whether the flush wants a clean is known by why it and a clean are refused
@@ -166,33 +166,33 @@ full_alike settings st f g full = sym (refusal-same settings st f.bytes g.bytes 
 
 -- a flush that is refused so alone
 full_alone : (settings : Settings) (st : Store) (file : Seen) (now new : Option (List ℕ)) → refusal_of settings st file Flush ≡ Some Full → Appends now new []
-    → Runs settings st (λ i. file) (Flush ∷ []) now new (Err (endings.Fault Full))
+    → Runs settings st (λ i. file) (Flush ∷ []) now new (Err (errors.Fault Full))
 unfolding Runs
 full_alone settings st file now new full a = rw full (inl (refl, a))
 
 -- a flush that ends since the log is full is refused for that, and prints nothing
-pub is_refused_full : (ways : Ways) (honest : Bool) (settings : Settings) (st : Store) (seen : List ℕ) (now new : Option (List ℕ)) (after : Store) (bytes : List ℕ)
-    → (one : RunsOrder ways honest settings st seen Flush now new (Err (endings.Fault Full)) after bytes) → (refusal_of settings st one.0 Flush ≡ Some Full) × Appends now new []
-is_refused_full ways honest settings st seen now new after bytes (file, is, runs, none) =
-    by (refusal_of settings st file Flush) refl (early_by settings st file Flush now new (endings.Fault Full) (refusal_of settings st file Flush) refl runs)
+pub is_refused_full : (mode : Mode) (honest : Bool) (settings : Settings) (st : Store) (seen : List ℕ) (now new : Option (List ℕ)) (after : Store) (bytes : List ℕ)
+    → (one : RunsOrder mode honest settings st seen Flush now new (Err (errors.Fault Full)) after bytes) → (refusal_of settings st one.0 Flush ≡ Some Full) × Appends now new []
+is_refused_full mode honest settings st seen now new after bytes (file, is, runs, none) =
+    by (refusal_of settings st file Flush) refl (early_by settings st file Flush now new (errors.Fault Full) (refusal_of settings st file Flush) refl runs)
   where
-    by : (r : Option Fault) → refusal_of settings st file Flush ≡ r → Early now new r (endings.Fault Full) → (refusal_of settings st file Flush ≡ Some Full) × Appends now new []
+    by : (r : Option Fault) → refusal_of settings st file Flush ≡ r → Early now new r (errors.Fault Full) → (refusal_of settings st file Flush ≡ Some Full) × Appends now new []
     by r is_r (by_right fault some e a) = let same : Full ≡ fault = cc in (is_r ∙ some ∙ ap (λ (f : Fault). Some f) (sym same), a)
     by r is_r (refused_cut fault some (inl e) a) = absurd (cc)
     by r is_r (refused_cut fault some (inr e) a) = absurd (cc)
     by r is_r (cut none (inl e)) = absurd (cc)
     by r is_r (cut none (inr e)) = absurd (cc)
 
-module _ (ways : Ways) (honest : Bool) (settings : Settings) (first : Store) (file : List ℕ) (old : Option (List ℕ)) (most : ℕ) (st : Store) (seen : List ℕ) (now : Option (List ℕ))
-    (leads : LeadsRoom ways honest settings first file old most st seen now) where
+module _ (mode : Mode) (honest : Bool) (settings : Settings) (first : Store) (file : List ℕ) (old : Option (List ℕ)) (most : ℕ) (st : Store) (seen : List ℕ) (now : Option (List ℕ))
+    (leads : LeadsRoom mode honest settings first file old most st seen now) where
   -- the flush is answered, or refused for another reason than that the log is full; or nothing may be cleaned any more
-  pub LeadsRoom-ends : (new : Option (List ℕ)) (end : Result (Unit {0}) Ending) (after : Store) (bytes : List ℕ) → (most ≡ 0) ⊎ (end ≢ Err (endings.Fault Full))
-      → RunsOrder ways honest settings st seen Flush now new end after bytes → RunsFirst (roomy ways) honest settings first file (Flush ∷ []) old new end after bytes
+  pub LeadsRoom-ends : (new : Option (List ℕ)) (end : Result (Unit {0}) SessionError) (after : Store) (bytes : List ℕ) → (most ≡ 0) ⊎ (end ≢ Err (errors.Fault Full))
+      → RunsOrder mode honest settings st seen Flush now new end after bytes → RunsFirst (roomy mode) honest settings first file (Flush ∷ []) old new end after bytes
   LeadsRoom-ends new (Ok done) after bytes why (of, is, runs, leaves) = λ rest last ended q.
-      leads rest last ended (RunsBy-goes_on ways honest settings st seen Flush now new after bytes (λ shown. flush_with_room most settings st shown (orders_after_flush settings rest)) (orders_after_flush settings rest)
+      leads rest last ended (RunsBy-show_call mode honest settings st seen Flush now new after bytes (λ shown. flush_with_room most settings st shown (orders_after_flush settings rest)) (orders_after_flush settings rest)
       done (of, is, runs, leaves) (room_made settings st of most (orders_after_flush settings rest) (wants_by settings st of None (refusal_of settings st of Clean) leaves.unrefused refl)) last ended q)
   LeadsRoom-ends new (Err early) after bytes (inl none_left) one = λ rest.
-      leads rest new (Err early) (RunsBy-stops ways honest settings st seen Flush now new after bytes (λ shown. flush_with_room most settings st shown (orders_after_flush settings rest)) (orders_after_flush settings rest)
+      leads rest new (Err early) (RunsBy-stops mode honest settings st seen Flush now new after bytes (λ shown. flush_with_room most settings st shown (orders_after_flush settings rest)) (orders_after_flush settings rest)
       (leave true settings rest) early one
       (subst (λ (n : ℕ). (shown : Reads) → flush_with_room n settings st (first_shown one.0 shown) (orders_after_flush settings rest) ≡ Flush ∷ orders_after_flush settings rest (after_order settings st one.0 Flush).0 shown)
       (sym none_left) (λ shown. refl)))
@@ -210,36 +210,36 @@ module _ (ways : Ways) (honest : Bool) (settings : Settings) (first : Store) (fi
     both_true false b e = cc
 
     cut_off : Early now new (Some Full) early → IsCut early × Appends now new []
-    cut_off (by_right fault some e a) = let same : Full ≡ fault = cc in absurd (other (ap (λ (x : Ending). Err x) e ∙ ap (λ (f : Fault). Err (endings.Fault f)) (sym same)))
+    cut_off (by_right fault some e a) = let same : Full ≡ fault = cc in absurd (other (ap (λ (x : SessionError). Err x) e ∙ ap (λ (f : Fault). Err (errors.Fault f)) (sym same)))
     cut_off (refused_cut fault some how a) = (how, a)
     cut_off (cut unrefused how) = absurd (cc)
 
-    by : (rest : List Order) (b : Bool) → wants_clean settings st of ≡ b → RunsBy ways honest settings st seen (λ shown. flush_with_room most settings st shown (orders_after_flush settings rest)) now new (Err early)
+    by : (rest : List Order) (b : Bool) → wants_clean settings st of ≡ b → RunsBy mode honest settings st seen (λ shown. flush_with_room most settings st shown (orders_after_flush settings rest)) now new (Err early)
     by rest false wants =
-        RunsBy-stops ways honest settings st seen Flush now new after bytes (λ shown. flush_with_room most settings st shown (orders_after_flush settings rest)) (orders_after_flush settings rest)
+        RunsBy-stops mode honest settings st seen Flush now new after bytes (λ shown. flush_with_room most settings st shown (orders_after_flush settings rest)) (orders_after_flush settings rest)
         (leave true settings rest) early (of, is, runs, none) (room_made settings st of most (orders_after_flush settings rest) wants)
     by rest true wants =
         let full = full_of (refusal_of settings st of Flush) (both_true _ _ wants) in
         let (how, a) = cut_off (early_by settings st of Flush now new early (Some Full) full runs) in
-        RunsBy-cut ways honest settings st seen (λ s shown. flush_with_room most settings s shown (orders_after_flush settings rest)) (leavable_room settings rest most) now new a early how
+        RunsBy-cut mode honest settings st seen (λ s shown. flush_with_room most settings s shown (orders_after_flush settings rest)) (leavable_room settings rest most) now new a early how
 
-module _ (ways : Ways) (honest : Bool) (settings : Settings) (first : Store) (file : List ℕ) (old : Option (List ℕ)) (most : ℕ) (st : Store) (seen : List ℕ) (now mid : Option (List ℕ))
-    (leads : LeadsRoom ways honest settings first file old (suc most) st seen now) (nothing : Appends now mid []) (of : Seen) (full : refusal_of settings st of Flush ≡ Some Full)
+module _ (mode : Mode) (honest : Bool) (settings : Settings) (first : Store) (file : List ℕ) (old : Option (List ℕ)) (most : ℕ) (st : Store) (seen : List ℕ) (now mid : Option (List ℕ))
+    (leads : LeadsRoom mode honest settings first file old (suc most) st seen now) (nothing : Appends now mid []) (of : Seen) (full : refusal_of settings st of Flush ≡ Some Full)
     (new : Option (List ℕ)) (after : Store) (bytes : List ℕ) where
   -- a clean is done
-  pub LeadsRoom-cleaned : (done : Unit {0}) → RunsOrder ways honest settings st seen Clean mid new (Ok done) after bytes → LeadsRoom ways honest settings first file old most after bytes new
+  pub LeadsRoom-cleaned : (done : Unit {0}) → RunsOrder mode honest settings st seen Clean mid new (Ok done) after bytes → LeadsRoom mode honest settings first file old most after bytes new
   LeadsRoom-cleaned done (at, is, runs, leaves) rest last end q =
-      leads rest last end (RunsBy-asked ways honest settings st seen (λ shown. flush_with_room (suc most) settings st shown (orders_after_flush settings rest)) now mid last nothing end
-      (RunsBy-goes_on ways honest settings st seen Clean mid new after bytes (λ shown. flush_with_room (suc most) settings st shown (orders_after_flush settings rest))
+      leads rest last end (RunsBy-asked mode honest settings st seen (λ shown. flush_with_room (suc most) settings st shown (orders_after_flush settings rest)) now mid last nothing end
+      (RunsBy-show_call mode honest settings st seen Clean mid new after bytes (λ shown. flush_with_room (suc most) settings st shown (orders_after_flush settings rest))
       (λ s shown. flush_with_room most settings s shown (orders_after_flush settings rest)) done (at, is, runs, leaves)
       (room_wanted settings st at most (orders_after_flush settings rest)
       (wants_by settings st at (Some Full) None (full_alike settings st of at full) leaves.unrefused)) last end q))
 
   -- it is refused
-  pub LeadsRoom-refused : (early result : Ending) → ((early ≡ endings.Fault NothingToClean) × (result ≡ endings.Fault Full)) ⊎ ((early ≢ endings.Fault NothingToClean) × (result ≡ early))
-      → RunsOrder ways honest settings st seen Clean mid new (Err early) after bytes → RunsFirst (roomy ways) honest settings first file (Flush ∷ []) old new (Err result) after bytes
+  pub LeadsRoom-refused : (early result : SessionError) → ((early ≡ errors.Fault NothingToClean) × (result ≡ errors.Fault Full)) ⊎ ((early ≢ errors.Fault NothingToClean) × (result ≡ early))
+      → RunsOrder mode honest settings st seen Clean mid new (Err early) after bytes → RunsFirst (roomy mode) honest settings first file (Flush ∷ []) old new (Err result) after bytes
   LeadsRoom-refused early result want (at, is, runs, none) = λ rest.
-      leads rest new (Err result) (RunsBy-asked ways honest settings st seen (λ shown. flush_with_room (suc most) settings st shown (orders_after_flush settings rest)) now mid new nothing (Err result)
+      leads rest new (Err result) (RunsBy-asked mode honest settings st seen (λ shown. flush_with_room (suc most) settings st shown (orders_after_flush settings rest)) now mid new nothing (Err result)
       (by rest (refusal_of settings st at Clean) refl (early_by settings st at Clean mid new early (refusal_of settings st at Clean) refl runs) want))
     where
       full_here : refusal_of settings st at Flush ≡ Some Full
@@ -247,53 +247,53 @@ module _ (ways : Ways) (honest : Bool) (settings : Settings) (first : Store) (fi
 
       -- the clean stands in front, and is refused so
       stops : (rest : List Order) → wants_clean settings st at ≡ true
-          → RunsBy ways honest settings st seen (λ shown. flush_with_room (suc most) settings st shown (orders_after_flush settings rest)) mid new (Err early)
+          → RunsBy mode honest settings st seen (λ shown. flush_with_room (suc most) settings st shown (orders_after_flush settings rest)) mid new (Err early)
       stops rest wants =
-          RunsBy-stops ways honest settings st seen Clean mid new after bytes (λ shown. flush_with_room (suc most) settings st shown (orders_after_flush settings rest))
+          RunsBy-stops mode honest settings st seen Clean mid new after bytes (λ shown. flush_with_room (suc most) settings st shown (orders_after_flush settings rest))
           (λ s shown. flush_with_room most settings s shown (orders_after_flush settings rest)) (leavable_room settings rest most) early (at, is, runs, none)
           (room_wanted settings st at most (orders_after_flush settings rest) wants)
 
-      as_is : (rest : List Order) → result ≡ early → RunsBy ways honest settings st seen (λ shown. flush_with_room (suc most) settings st shown (orders_after_flush settings rest)) mid new (Err early)
-          → RunsBy ways honest settings st seen (λ shown. flush_with_room (suc most) settings st shown (orders_after_flush settings rest)) mid new (Err result)
-      as_is rest same p = subst (λ (x : Ending). RunsBy ways honest settings st seen (λ shown. flush_with_room (suc most) settings st shown (orders_after_flush settings rest)) mid new (Err x)) (sym same) p
+      as_is : (rest : List Order) → result ≡ early → RunsBy mode honest settings st seen (λ shown. flush_with_room (suc most) settings st shown (orders_after_flush settings rest)) mid new (Err early)
+          → RunsBy mode honest settings st seen (λ shown. flush_with_room (suc most) settings st shown (orders_after_flush settings rest)) mid new (Err result)
+      as_is rest same p = subst (λ (x : SessionError). RunsBy mode honest settings st seen (λ shown. flush_with_room (suc most) settings st shown (orders_after_flush settings rest)) mid new (Err x)) (sym same) p
 
       -- the flush stands in front, and the log is full for it
       flush_stops : (rest : List Order) → wants_clean settings st at ≡ false → Appends mid new []
-          → RunsBy ways honest settings st seen (λ shown. flush_with_room (suc most) settings st shown (orders_after_flush settings rest)) mid new (Err (endings.Fault Full))
+          → RunsBy mode honest settings st seen (λ shown. flush_with_room (suc most) settings st shown (orders_after_flush settings rest)) mid new (Err (errors.Fault Full))
       flush_stops rest wants a =
-          RunsBy-stops ways honest settings st seen Flush mid new after bytes (λ shown. flush_with_room (suc most) settings st shown (orders_after_flush settings rest)) (orders_after_flush settings rest)
-          (leave true settings rest) (endings.Fault Full) (at, is, full_alone settings st at mid new full_here a, tt) (room_made settings st at (suc most) (orders_after_flush settings rest) wants)
+          RunsBy-stops mode honest settings st seen Flush mid new after bytes (λ shown. flush_with_room (suc most) settings st shown (orders_after_flush settings rest)) (orders_after_flush settings rest)
+          (leave true settings rest) (errors.Fault Full) (at, is, full_alone settings st at mid new full_here a, tt) (room_made settings st at (suc most) (orders_after_flush settings rest) wants)
 
       wanted : (fault : Fault) → fault ≢ NothingToClean → (is_full (Some Full) && not (is_nothing_to_clean (Some fault))) ≡ true
       wanted NothingToClean other = absurd (other refl)
       wanted _ other = refl
 
-      not_clean : IsCut early → (early ≡ endings.Fault NothingToClean) → ⊥
+      not_clean : IsCut early → (early ≡ errors.Fault NothingToClean) → ⊥
       not_clean (inl memory) e = cc
       not_clean (inr device) e = cc
 
-      kept : IsCut early → ((early ≡ endings.Fault NothingToClean) × (result ≡ endings.Fault Full)) ⊎ ((early ≢ endings.Fault NothingToClean) × (result ≡ early)) → result ≡ early
+      kept : IsCut early → ((early ≡ errors.Fault NothingToClean) × (result ≡ errors.Fault Full)) ⊎ ((early ≢ errors.Fault NothingToClean) × (result ≡ early)) → result ≡ early
       kept how (inl (e, full_is)) = absurd (not_clean how e)
       kept how (inr (other, same)) = same
 
       by : (rest : List Order) (r : Option Fault) → refusal_of settings st at Clean ≡ r → Early mid new r early
-          → ((early ≡ endings.Fault NothingToClean) × (result ≡ endings.Fault Full)) ⊎ ((early ≢ endings.Fault NothingToClean) × (result ≡ early))
-          → RunsBy ways honest settings st seen (λ shown. flush_with_room (suc most) settings st shown (orders_after_flush settings rest)) mid new (Err result)
+          → ((early ≡ errors.Fault NothingToClean) × (result ≡ errors.Fault Full)) ⊎ ((early ≢ errors.Fault NothingToClean) × (result ≡ early))
+          → RunsBy mode honest settings st seen (λ shown. flush_with_room (suc most) settings st shown (orders_after_flush settings rest)) mid new (Err result)
       by rest r is_r (cut unrefused how) w = as_is rest (kept how w) (stops rest (wants_by settings st at (Some Full) None full_here (is_r ∙ unrefused)))
       by rest r is_r (refused_cut fault some how a) w =
-          as_is rest (kept how w) (RunsBy-cut ways honest settings st seen (λ s shown. flush_with_room (suc most) settings s shown (orders_after_flush settings rest)) (leavable_room settings rest (suc most)) mid new a early how)
+          as_is rest (kept how w) (RunsBy-cut mode honest settings st seen (λ s shown. flush_with_room (suc most) settings s shown (orders_after_flush settings rest)) (leavable_room settings rest (suc most)) mid new a early how)
       by rest r is_r (by_right fault some e a) (inl (nothing_left, full_is)) =
           let same : fault ≡ NothingToClean = cc in
-          subst (λ (x : Ending). RunsBy ways honest settings st seen (λ shown. flush_with_room (suc most) settings st shown (orders_after_flush settings rest)) mid new (Err x)) (sym full_is)
+          subst (λ (x : SessionError). RunsBy mode honest settings st seen (λ shown. flush_with_room (suc most) settings st shown (orders_after_flush settings rest)) mid new (Err x)) (sym full_is)
           (flush_stops rest (wants_by settings st at (Some Full) (Some NothingToClean) full_here (is_r ∙ some ∙ ap (λ (f : Fault). Some f) same)) a)
       by rest r is_r (by_right fault some e a) (inr (other, same)) =
-          as_is rest same (stops rest (wants_by settings st at (Some Full) (Some fault) full_here (is_r ∙ some) ∙ wanted fault (λ (is_none : fault ≡ NothingToClean). other (e ∙ ap (λ (f : Fault). endings.Fault f) is_none))))
+          as_is rest same (stops rest (wants_by settings st at (Some Full) (Some fault) full_here (is_r ∙ some) ∙ wanted fault (λ (is_none : fault ≡ NothingToClean). other (e ∙ ap (λ (f : Fault). errors.Fault f) is_none))))
 
 -- an order's run is one of a disk that shows the same if it is honest, and of the same store
-RunsOrder-from : (ways : Ways) (honest : Bool) (settings : Settings) (st was : Store) (seen left : List ℕ) → was ≡ st → (IsTrue honest → left ≡ seen) → (order : Order) (old new : Option (List ℕ))
-    (end : Result (Unit {0}) Ending) (now : Store) (bytes : List ℕ) → RunsOrder ways honest settings was left order old new end now bytes → RunsOrder ways honest settings st seen order old new end now bytes
-RunsOrder-from ways honest settings st was seen left same shows order old new end now bytes (file, is, runs, leaves) =
-    subst (λ (s : Store). RunsOrder ways honest settings s seen order old new end now bytes) same (file, (is.0, λ h. is.1 h ∙ shows h), runs, leaves)
+RunsOrder-from : (mode : Mode) (honest : Bool) (settings : Settings) (st was : Store) (seen left : List ℕ) → was ≡ st → (IsTrue honest → left ≡ seen) → (order : Order) (old new : Option (List ℕ))
+    (end : Result (Unit {0}) SessionError) (now : Store) (bytes : List ℕ) → RunsOrder mode honest settings was left order old new end now bytes → RunsOrder mode honest settings st seen order old new end now bytes
+RunsOrder-from mode honest settings st was seen left same shows order old new end now bytes (file, is, runs, leaves) =
+    subst (λ (s : Store). RunsOrder mode honest settings s seen order old new end now bytes) same (file, (is.0, λ h. is.1 h ∙ shows h), runs, leaves)
 
 -- a number that is not 0 is one more than another
 one_more : (n : ℕ) → n ≢ 0 → n ≡ suc (n - 1)
@@ -301,39 +301,39 @@ one_more zero some = absurd (some refl)
 one_more (suc n) some = omega arith
 
 -- a turn of the cleans: the flush, and a clean where the log is full for it
-module _ (ways : Ways) (honest : Bool) (settings : Settings) (first : Store) (file : List ℕ) (old : Option (List ℕ)) (left : ℕ) (st : Store) (seen : List ℕ) (now : Option (List ℕ))
-    (leads : LeadsRoom ways honest settings first file old left st seen now) (b : Bool) (b_is : b ≡ honest) (s : Settings) (s_is : s ≡ settings)
-    (mid : Option (List ℕ)) (end : Result (Unit {0}) Ending) (tried : Store) (shows : List ℕ) (flushed : RunsOrder ways b s st seen Flush now mid end tried shows) where
-  pub Room-ends : (left ≡ 0) ⊎ (end ≢ Err (endings.Fault Full)) → RunsFirst (roomy ways) honest settings first file (Flush ∷ []) old mid end tried shows
+module _ (mode : Mode) (honest : Bool) (settings : Settings) (first : Store) (file : List ℕ) (old : Option (List ℕ)) (left : ℕ) (st : Store) (seen : List ℕ) (now : Option (List ℕ))
+    (leads : LeadsRoom mode honest settings first file old left st seen now) (b : Bool) (b_is : b ≡ honest) (s : Settings) (s_is : s ≡ settings)
+    (mid : Option (List ℕ)) (end : Result (Unit {0}) SessionError) (tried : Store) (shows : List ℕ) (flushed : RunsOrder mode b s st seen Flush now mid end tried shows) where
+  pub Room-ends : (left ≡ 0) ⊎ (end ≢ Err (errors.Fault Full)) → RunsFirst (roomy mode) honest settings first file (Flush ∷ []) old mid end tried shows
   Room-ends why =
-      LeadsRoom-ends ways honest settings first file old left st seen now leads mid end tried shows why (RunsOrder-same ways b honest s settings b_is s_is st seen Flush now mid end tried shows flushed)
+      LeadsRoom-ends mode honest settings first file old left st seen now leads mid end tried shows why (RunsOrder-same mode b honest s settings b_is s_is st seen Flush now mid end tried shows flushed)
 
-  module _ (some : left ≢ 0) (full : end ≡ Err (endings.Fault Full)) (same : tried ≡ st) (unwritten : IsTrue b → shows ≡ seen) (c : Bool) (c_is : c ≡ b) (t : Settings) (t_is : t ≡ s)
-      (new : Option (List ℕ)) (ended : Result (Unit {0}) Ending) (after : Store) (bytes : List ℕ) (cleaned : RunsOrder ways c t tried shows Clean mid new ended after bytes) where
-    lower : LeadsRoom ways honest settings first file old (suc (left - 1)) st seen now
-    lower = subst (λ (n : ℕ). LeadsRoom ways honest settings first file old n st seen now) (one_more left some) leads
+  module _ (some : left ≢ 0) (full : end ≡ Err (errors.Fault Full)) (same : tried ≡ st) (unwritten : IsTrue b → shows ≡ seen) (c : Bool) (c_is : c ≡ b) (t : Settings) (t_is : t ≡ s)
+      (new : Option (List ℕ)) (ended : Result (Unit {0}) SessionError) (after : Store) (bytes : List ℕ) (cleaned : RunsOrder mode c t tried shows Clean mid new ended after bytes) where
+    lower : LeadsRoom mode honest settings first file old (suc (left - 1)) st seen now
+    lower = subst (λ (n : ℕ). LeadsRoom mode honest settings first file old n st seen now) (one_more left some) leads
 
-    own_flush : RunsOrder ways honest settings st seen Flush now mid (Err (endings.Fault Full)) tried shows
-    own_flush = subst (λ (e : Result (Unit {0}) Ending). RunsOrder ways honest settings st seen Flush now mid e tried shows) full
-        (RunsOrder-same ways b honest s settings b_is s_is st seen Flush now mid end tried shows flushed)
+    own_flush : RunsOrder mode honest settings st seen Flush now mid (Err (errors.Fault Full)) tried shows
+    own_flush = subst (λ (e : Result (Unit {0}) SessionError). RunsOrder mode honest settings st seen Flush now mid e tried shows) full
+        (RunsOrder-same mode b honest s settings b_is s_is st seen Flush now mid end tried shows flushed)
 
-    own_clean : RunsOrder ways honest settings st seen Clean mid new ended after bytes
-    own_clean = RunsOrder-same ways b honest s settings b_is s_is st seen Clean mid new ended after bytes
-        (RunsOrder-from ways b s st tried seen shows same unwritten Clean mid new ended after bytes (RunsOrder-same ways c b t s c_is t_is tried shows Clean mid new ended after bytes cleaned))
+    own_clean : RunsOrder mode honest settings st seen Clean mid new ended after bytes
+    own_clean = RunsOrder-same mode b honest s settings b_is s_is st seen Clean mid new ended after bytes
+        (RunsOrder-from mode b s st tried seen shows same unwritten Clean mid new ended after bytes (RunsOrder-same mode c b t s c_is t_is tried shows Clean mid new ended after bytes cleaned))
 
-    pub Room-cleaned : (done : Unit {0}) → ended ≡ Ok done → LeadsRoom ways honest settings first file old (left - 1) after bytes new
+    pub Room-cleaned : (done : Unit {0}) → ended ≡ Ok done → LeadsRoom mode honest settings first file old (left - 1) after bytes new
     Room-cleaned done e =
-        let (refused, nothing) = is_refused_full ways honest settings st seen now mid tried shows own_flush in
-        LeadsRoom-cleaned ways honest settings first file old (left - 1) st seen now mid lower nothing own_flush.0 refused new after bytes done
-        (subst (λ (r : Result (Unit {0}) Ending). RunsOrder ways honest settings st seen Clean mid new r after bytes) e own_clean)
+        let (refused, nothing) = is_refused_full mode honest settings st seen now mid tried shows own_flush in
+        LeadsRoom-cleaned mode honest settings first file old (left - 1) st seen now mid lower nothing own_flush.0 refused new after bytes done
+        (subst (λ (r : Result (Unit {0}) SessionError). RunsOrder mode honest settings st seen Clean mid new r after bytes) e own_clean)
 
-    pub Room-refused : (early result : Ending) → ended ≡ Err early
-        → ((early ≡ endings.Fault NothingToClean) × (result ≡ endings.Fault Full)) ⊎ ((early ≢ endings.Fault NothingToClean) × (result ≡ early))
-        → RunsFirst (roomy ways) honest settings first file (Flush ∷ []) old new (Err result) after bytes
+    pub Room-refused : (early result : SessionError) → ended ≡ Err early
+        → ((early ≡ errors.Fault NothingToClean) × (result ≡ errors.Fault Full)) ⊎ ((early ≢ errors.Fault NothingToClean) × (result ≡ early))
+        → RunsFirst (roomy mode) honest settings first file (Flush ∷ []) old new (Err result) after bytes
     Room-refused early result e want =
-        let (refused, nothing) = is_refused_full ways honest settings st seen now mid tried shows own_flush in
-        LeadsRoom-refused ways honest settings first file old (left - 1) st seen now mid lower nothing own_flush.0 refused new after bytes early result want
-        (subst (λ (r : Result (Unit {0}) Ending). RunsOrder ways honest settings st seen Clean mid new r after bytes) e own_clean)
+        let (refused, nothing) = is_refused_full mode honest settings st seen now mid tried shows own_flush in
+        LeadsRoom-refused mode honest settings first file old (left - 1) st seen now mid lower nothing own_flush.0 refused new after bytes early result want
+        (subst (λ (r : Result (Unit {0}) SessionError). RunsOrder mode honest settings st seen Clean mid new r after bytes) e own_clean)
 
 -- a flush leaves the map as it is
 pub map_after-flush : (order : Order) → is_flush order ≡ true → (m : List (List ℕ × List ℕ)) → map_after m order ≡ m
@@ -364,10 +364,10 @@ both_are true Verify both = absurd (cc)
 both_are true Numbers both = absurd (cc)
 both_are false order both = absurd (cc)
 
-pub RunsFirst-roomy : (ways : Ways) (honest : Bool) (settings : Settings) (st : Store) (left : List ℕ) (order : Order) (old new : Option (List ℕ)) (end : Result (Unit {0}) Ending)
-    (now : Store) (bytes : List ℕ) → (ways.clean_when_full && is_flush order) ≡ true
-    → (ways.clean_when_full ≡ true → RunsFirst ways honest settings st left (Flush ∷ []) old new end now bytes)
-    → RunsFirst ways honest settings st left (order ∷ []) old new end now bytes
-RunsFirst-roomy ways honest settings st left order old new end now bytes both p =
-    let (is, full) = both_are ways.clean_when_full order both in
-    subst (λ (o : Order). RunsFirst ways honest settings st left (o ∷ []) old new end now bytes) (sym is) (p full)
+pub RunsFirst-roomy : (mode : Mode) (honest : Bool) (settings : Settings) (st : Store) (left : List ℕ) (order : Order) (old new : Option (List ℕ)) (end : Result (Unit {0}) SessionError)
+    (now : Store) (bytes : List ℕ) → (mode.clean_when_full && is_flush order) ≡ true
+    → (mode.clean_when_full ≡ true → RunsFirst mode honest settings st left (Flush ∷ []) old new end now bytes)
+    → RunsFirst mode honest settings st left (order ∷ []) old new end now bytes
+RunsFirst-roomy mode honest settings st left order old new end now bytes both p =
+    let (is, full) = both_are mode.clean_when_full order both in
+    subst (λ (o : Order). RunsFirst mode honest settings st left (o ∷ []) old new end now bytes) (sym is) (p full)

@@ -32,9 +32,9 @@ use Rattle.verify.specs.declared.report.Report.{Report}
 use Rattle.bwsh.specs.declared.batch_file.Order.{Order}
 use Rattle.bwsh.specs.declared.batch_file.Order.TheVariants.{Batch, Flush, Clean, Upgrade, Verify, Numbers}
 use Rattle.bwsh.specs.declared.show.StoreNumbers.{StoreNumbers}
-use Rattle.bwsh.specs.declared.session.Ending.{Ending}
-use Rattle.bwsh.specs.declared.session.Ending.TheVariants as endings
-use Rattle.bwsh.specs.declared.options.asked.Ways.{Ways}
+use Rattle.bwsh.specs.declared.session.SessionError.{SessionError}
+use Rattle.bwsh.specs.declared.session.SessionError.TheVariants as errors
+use Rattle.bwsh.specs.declared.options.asked.Mode.{Mode}
 use Rattle.bwsh.specs.Session.{Stored, Seen, Reads, AreLeft, AreUntidied, untidied, step_in, left_by, refused_by, left_by_step, refusal_of_step, refusal_of, tidied_after, after_order, map_after, map_left, own_lines, answer_lines, accepted, orders_end, numbers_of, Prints, Runs, RunsOrder, LeavesStored}
 use Rattle.bwsh.specs.Shown.{shown_flushed, shown_cleaned, shown_upgraded, shown_report, shown_numbers, shown_answer}
 use Rattle.bwsh.proofs.Prints.{Prints-all, Prints-after_order, Prints-early}
@@ -69,7 +69,7 @@ module _ (settings : Settings) (st : Store) (file : Seen) (order : Order) (old n
   left = after_order settings st file order
 
   -- what the order does where it is the only one
-  abbrev AloneIs : Result (Unit {0}) Ending → Type 0
+  abbrev AloneIs : Result (Unit {0}) SessionError → Type 0
   AloneIs end = Runs settings st (λ i. file) (order ∷ []) old new end
 
   -- the lines of the order alone, if it is accepted
@@ -77,19 +77,19 @@ module _ (settings : Settings) (st : Store) (file : Seen) (order : Order) (old n
   lines_alone = answer_lines settings st (λ i. file) (contents st.tree) (accepted settings st (λ i. file) (order ∷ []))
 
   -- the order stops here for lack of memory, or by its right
-  pub stopped : (fault : Fault) → new ≡ old → (fault ≡ NoMemory) ⊎ (refusal_of settings st file order ≡ Some fault) → AloneIs (Err (endings.Fault fault))
+  pub stopped : (fault : Fault) → new ≡ old → (fault ≡ NoMemory) ⊎ (refusal_of settings st file order ≡ Some fault) → AloneIs (Err (errors.Fault fault))
   unfolding Runs
   stopped fault same (inl memory) =
-      rw same (inr (inl (ap (λ (f : Fault). Err (endings.Fault f)) memory, ([], (lines_alone, refl), Appends-nil old))))
+      rw same (inr (inl (ap (λ (f : Fault). Err (errors.Fault f)) memory, ([], (lines_alone, refl), Appends-nil old))))
   stopped fault same (inr some) = rw (same, some) (inl (refl, Appends-nil old))
 
   -- a device fails before anything of it is written
-  pub cut_off : new ≡ old → AloneIs (Err endings.Device)
+  pub cut_off : new ≡ old → AloneIs (Err errors.Device)
   unfolding Runs
   cut_off same = rw same (inr (inr (refl, ([], (flat lines_alone, refl), Appends-nil old))))
 
   -- the order is answered
-  pub answered : (end : Result (Unit {0}) Ending) → refusal_of settings st file order ≡ None → Prints old new lines (Ok tt) end → AloneIs end
+  pub answered : (end : Result (Unit {0}) SessionError) → refusal_of settings st file order ≡ None → Prints old new lines (Ok tt) end → AloneIs end
   unfolding Runs
   answered end none p = rw none (subst (λ (l : List (List ℕ)). Prints old new l (Ok tt) end) (sym (append-nil lines)) p)
 
@@ -99,25 +99,25 @@ module _ (settings : Settings) (st : Store) (file : Seen) (order : Order) (old n
     further now = answer_lines settings now shown (map_after (contents st.tree) order) (accepted settings now shown rest)
 
     -- it stops early: so do the orders that it stands before
-    stops_by : (early : Ending) (r : Option Fault) → refusal_of settings st file order ≡ r → AloneIs (Err early) → Runs settings st (first_shown file shown) (order ∷ rest) old new (Err early)
+    stops_by : (early : SessionError) (r : Option Fault) → refusal_of settings st file order ≡ r → AloneIs (Err early) → Runs settings st (first_shown file shown) (order ∷ rest) old new (Err early)
     unfolding Runs
     stops_by early None none p =
         let own : Prints old new (lines ++ []) (Ok tt) (Err early) = rw none at p in
         rw none (Prints-early old new lines (further left.0) (orders_end settings left.0 shown rest) early
         (subst (λ (l : List (List ℕ)). Prints old new l (Ok tt) (Err early)) (append-nil lines) own))
     stops_by early (Some fault) some p =
-        let own : Prints old new [] (Err (endings.Fault fault)) (Err early) = rw some at p in
+        let own : Prints old new [] (Err (errors.Fault fault)) (Err early) = rw some at p in
         rw some own
 
-    pub Runs-stops : (early : Ending) → AloneIs (Err early) → Runs settings st (first_shown file shown) (order ∷ rest) old new (Err early)
+    pub Runs-stops : (early : SessionError) → AloneIs (Err early) → Runs settings st (first_shown file shown) (order ∷ rest) old new (Err early)
     Runs-stops early p = stops_by early (refusal_of settings st file order) refl p
 
     -- all of it is done: what the rest prints comes after it
-    pub Runs-goes_on : (now : Store) (last : Option (List ℕ)) (done : Unit {0}) (end : Result (Unit {0}) Ending) → refusal_of settings st file order ≡ None → now ≡ left.0
+    pub Runs-show_call : (now : Store) (last : Option (List ℕ)) (done : Unit {0}) (end : Result (Unit {0}) SessionError) → refusal_of settings st file order ≡ None → now ≡ left.0
         → contents now.tree ≡ map_after (contents st.tree) order → AloneIs (Ok done) → Runs settings now shown rest new last end
         → Runs settings st (first_shown file shown) (order ∷ rest) old last end
     unfolding Runs
-    Runs-goes_on now last done end none is holds p q =
+    Runs-show_call now last done end none is holds p q =
         let own : Prints old new (lines ++ []) (Ok tt) (Ok done) = rw none at p in
         let printed = Prints-all old new lines (Ok tt) done (subst (λ (l : List (List ℕ)). Prints old new l (Ok tt) (Ok done)) (append-nil lines) own) in
         let next = subst (λ (m : List (List ℕ × List ℕ)). Prints new last (answer_lines settings now shown m (accepted settings now shown rest)) (orders_end settings now shown rest) end) holds q in
@@ -296,7 +296,7 @@ module _ (settings : Settings) (st : Store) where
   map_of hold keep file Numbers y p is done = absurd (cc)
 
 -- a step is played on a store whose disk had the bytes `seen`, for an order
-module _ (ways : Ways) (honest : Bool) (settings : Settings) (st : Store) (seen : List ℕ) (order : Order) (x : code_step.Step) (is : step_in order ≡ Some (step_of x)) where
+module _ (mode : Mode) (honest : Bool) (settings : Settings) (st : Store) (seen : List ℕ) (order : Order) (x : code_step.Step) (is : step_in order ≡ Some (step_of x)) where
   right_by : (file : List ℕ) (fault : Fault) → after_step (batching settings) settings st file (step_of x) ≡ Err fault → refusal_of settings st (untidied file) order ≡ Some fault
   unfolding refusal_of
   right_by file fault e = ap (refusal_of_step settings (st, file)) is ∙ ap refused_by e
@@ -321,10 +321,10 @@ module _ (ways : Ways) (honest : Bool) (settings : Settings) (st : Store) (seen 
       late_by file old new z fault other one (subst (λ (s : Store). IsStepFault settings s file old new (step_of z) fault) same refused)
 
   -- it is refused: by its right, or for lack of memory, or since a device failed, before anything of it is written
-  pub RunsOrder-refused : (text : Option (List ℕ)) (said : List code_answer.Answer) (now : Store) (file bytes : List ℕ) (old new place : ℕ) (fault : Fault) (early : Ending) → place < 1
+  pub RunsOrder-refused : (text : Option (List ℕ)) (said : List code_answer.Answer) (now : Store) (file bytes : List ℕ) (old new place : ℕ) (fault : Fault) (early : SessionError) → place < 1
       → IsEndingOf fault early → IsPlayed honest settings st seen (map step_of (take place (x ∷ []))) said now
       → (IsTrue honest → file ≡ (let p : Played Global = plays (batching settings) settings st seen (map step_of (take place (x ∷ []))) in p.bytes))
-      → IsPlayFault settings now file old new (x ∷ []) place fault → RunsOrder ways honest settings st seen order text text (Err early) now bytes
+      → IsPlayFault settings now file old new (x ∷ []) place fault → RunsOrder mode honest settings st seen order text text (Err early) now bytes
   RunsOrder-refused text said now file bytes old new place fault early below (inl device) played shown refused =
       rw device.1 (untidied seen, (λ off. refl, λ h. refl), cut_off settings st (untidied seen) order text text refl, tt)
   RunsOrder-refused text said now file bytes old new place fault early below (inr other) played shown refused =
@@ -365,8 +365,8 @@ module _ (ways : Ways) (honest : Bool) (settings : Settings) (st : Store) (seen 
           ap (λ (s : List code_answer.Answer). flat_map shown_answer (map answer_of s)) said_is ∙ append-nil (shown_answer (answer_of a))
           ∙ sym (lines_of settings st done.file order (step_of x) outcome is done.done left_is)
 
-      one_answered : (old new : Option (List ℕ)) (end : Result (Unit {0}) Ending) (said : List code_answer.Answer) → said ≡ a ∷ []
-          → Prints old new (flat_map shown_answer (map answer_of said)) (Ok tt) end → RunsOrder ways honest settings st seen order old new end now after
+      one_answered : (old new : Option (List ℕ)) (end : Result (Unit {0}) SessionError) (said : List code_answer.Answer) → said ≡ a ∷ []
+          → Prints old new (flat_map shown_answer (map answer_of said)) (Ok tt) end → RunsOrder mode honest settings st seen order old new end now after
       one_answered old new end said said_is p =
           let printed = subst (λ (l : List (List ℕ)). Prints old new l (Ok tt) end) (answers_of said said_is) p in
           (untidied done.file, (λ off. refl, done.shown), answered settings st (untidied done.file) order old new end none printed, OnOk-always end leaves)
@@ -374,19 +374,19 @@ module _ (ways : Ways) (honest : Bool) (settings : Settings) (st : Store) (seen 
   -- it is played, and its answers are written
   pub RunsOrder-answered : PlansHold settings st → CleansKeep settings st → (said : List code_answer.Answer) (now : Store) (after : List ℕ)
       → IsPlayed honest settings st seen (step_of x ∷ []) said now → (IsTrue honest → after ≡ (alone settings st seen (step_of x)).bytes)
-      → (old new : Option (List ℕ)) (end : Result (Unit {0}) Ending) → Prints old new (flat_map shown_answer (map answer_of said)) (Ok tt) end
-      → RunsOrder ways honest settings st seen order old new end now after
+      → (old new : Option (List ℕ)) (end : Result (Unit {0}) SessionError) → Prints old new (flat_map shown_answer (map answer_of said)) (Ok tt) end
+      → RunsOrder mode honest settings st seen order old new end now after
   RunsOrder-answered hold keep said now after (a, rest, said_is, mid, bytes, done, ended) after_is old new end p =
       one_answered a mid bytes done hold keep now ended.1 after after_is old new end said (said_is ∙ ap (λ (r : List code_answer.Answer). a ∷ r) ended.0) p
 
 -- a step that is refused leaves all as it was, but where a call of the disk failed; here the log was full for it
 pub refused_leaves : (honest : Bool) (settings : Settings) (st : Store) (seen : List ℕ) (x : code_step.Step) (said : List code_answer.Answer) (now : Store) (bytes : List ℕ) (place : ℕ)
-    (fault : Fault) (early : Ending) (had_failed has_failed : Bool) → place < 1 → IsEndingOf fault early → IsPlayed honest settings st seen (map step_of (take place (x ∷ []))) said now
+    (fault : Fault) (early : SessionError) (had_failed has_failed : Bool) → place < 1 → IsEndingOf fault early → IsPlayed honest settings st seen (map step_of (take place (x ∷ []))) said now
     → (IsTrue honest → fault ≢ Device → bytes ≡ (let p : Played Global = plays (batching settings) settings st seen (map step_of (take place (x ∷ []))) in p.bytes))
-    → (fault ≢ Device → has_failed ≡ had_failed) → (let end : Result (Unit {0}) Ending = Err early in end ≡ Err (endings.Fault Full))
+    → (fault ≢ Device → has_failed ≡ had_failed) → (let end : Result (Unit {0}) SessionError = Err early in end ≡ Err (errors.Fault Full))
     → (now ≡ st) × (has_failed ≡ had_failed) × (IsTrue honest → bytes ≡ seen)
 refused_leaves honest settings st seen x said now bytes place fault early had_failed has_failed below (inl device) played shown counted full =
-    let bad : (let end : Result (Unit {0}) Ending = Err endings.Device in end ≡ Err (endings.Fault Full)) = ap (λ (e : Ending). Err e) (sym device.1) ∙ full in
+    let bad : (let end : Result (Unit {0}) SessionError = Err errors.Device in end ≡ Err (errors.Fault Full)) = ap (λ (e : SessionError). Err e) (sym device.1) ∙ full in
     absurd (cc)
 refused_leaves honest settings st seen x said now bytes place fault early had_failed has_failed below (inr other) played shown counted full =
     let first : place ≡ 0 = omega (arith, below) in
@@ -395,51 +395,51 @@ refused_leaves honest settings st seen x said now bytes place fault early had_fa
     (none_played.1, counted other.0, left)
 
 -- what is printed for a step that was done ends so for no full log
-pub Prints-never_full : (old new : Option (List ℕ)) (lines : List (List ℕ)) (end : Result (Unit {0}) Ending) → Prints old new lines (Ok tt) end → end ≡ Err (endings.Fault Full) → ⊥
+pub Prints-never_full : (old new : Option (List ℕ)) (lines : List (List ℕ)) (end : Result (Unit {0}) SessionError) → Prints old new lines (Ok tt) end → end ≡ Err (errors.Fault Full) → ⊥
 Prints-never_full old new lines end (inl (e, a)) full = cc
 Prints-never_full old new lines end (inr (inl (e, a))) full = cc
 Prints-never_full old new lines end (inr (inr (e, a))) full = cc
 
 -- what orders can end by before anything of them is done
-abbrev pub IsCut : Ending → Type 0
-IsCut early = (early ≡ endings.Fault NoMemory) ⊎ (early ≡ endings.Device)
+abbrev pub IsCut : SessionError → Type 0
+IsCut early = (early ≡ errors.Fault NoMemory) ⊎ (early ≡ errors.Device)
 
-pub Runs-cut : (settings : Settings) (st : Store) (shown : Reads) (orders : List Order) (old new : Option (List ℕ)) → Appends old new [] → (early : Ending) → IsCut early
+pub Runs-cut : (settings : Settings) (st : Store) (shown : Reads) (orders : List Order) (old new : Option (List ℕ)) → Appends old new [] → (early : SessionError) → IsCut early
     → Runs settings st shown orders old new (Err early)
 unfolding Runs
 Runs-cut settings st shown orders old new none early (inl e) =
-    inr (inl (ap (λ (x : Ending). Err x) e, ([], (answer_lines settings st shown (contents st.tree) (accepted settings st shown orders), refl), none)))
+    inr (inl (ap (λ (x : SessionError). Err x) e, ([], (answer_lines settings st shown (contents st.tree) (accepted settings st shown orders), refl), none)))
 Runs-cut settings st shown orders old new none early (inr e) =
-    inr (inr (ap (λ (x : Ending). Err x) e, ([], (flat (answer_lines settings st shown (contents st.tree) (accepted settings st shown orders)), refl), none)))
+    inr (inr (ap (λ (x : SessionError). Err x) e, ([], (flat (answer_lines settings st shown (contents st.tree) (accepted settings st shown orders)), refl), none)))
 
 -- memory is refused before anything of an order is done
-pub RunsOrder-forgone : (ways : Ways) (honest : Bool) (settings : Settings) (st : Store) (seen : List ℕ) (order : Order) (old : Option (List ℕ)) → RunsOrder ways honest settings st seen order old old (Err (endings.Fault NoMemory)) st seen
-RunsOrder-forgone ways honest settings st seen order old = (untidied seen, (λ off. refl, λ h. refl), stopped settings st (untidied seen) order old old NoMemory refl (inl refl), tt)
+pub RunsOrder-forgone : (mode : Mode) (honest : Bool) (settings : Settings) (st : Store) (seen : List ℕ) (order : Order) (old : Option (List ℕ)) → RunsOrder mode honest settings st seen order old old (Err (errors.Fault NoMemory)) st seen
+RunsOrder-forgone mode honest settings st seen order old = (untidied seen, (λ off. refl, λ h. refl), stopped settings st (untidied seen) order old old NoMemory refl (inl refl), tt)
 
 -- ---- what a verify answers
 
-module _ (ways : Ways) (honest : Bool) (settings : Settings) (st : Store) (seen : List ℕ) (order : Order) (order_is : order ≡ Verify) where
+module _ (mode : Mode) (honest : Bool) (settings : Settings) (st : Store) (seen : List ℕ) (order : Order) (order_is : order ≡ Verify) where
   never_refused : (file : Seen) → refusal_of settings st file Verify ≡ None
   unfolding refusal_of
   never_refused file = refl
 
-  pub RunsOrder-unverified : (old : Option (List ℕ)) (fault : Fault) → fault ≡ NoMemory → RunsOrder ways honest settings st seen order old old (Err (endings.Fault fault)) st seen
+  pub RunsOrder-unverified : (old : Option (List ℕ)) (fault : Fault) → fault ≡ NoMemory → RunsOrder mode honest settings st seen order old old (Err (errors.Fault fault)) st seen
   RunsOrder-unverified old fault e = (untidied seen, (λ off. refl, λ h. refl), stopped settings st (untidied seen) order old old fault refl (inl e), tt)
 
   unmoved : LeavesStored honest settings st (untidied seen) Verify st seen
   unfolding after_order refusal_of
   unmoved = record { unrefused = refl; store = refl; bytes = λ h. refl; holds = refl }
 
-  pub RunsOrder-verified : (old new : Option (List ℕ)) (end : Result (Unit {0}) Ending) (request : Report) → request ≡ report st.tree → Prints old new (shown_report request ∷ []) (Ok tt) end
-      → RunsOrder ways honest settings st seen order old new end st seen
+  pub RunsOrder-verified : (old new : Option (List ℕ)) (end : Result (Unit {0}) SessionError) (request : Report) → request ≡ report st.tree → Prints old new (shown_report request ∷ []) (Ok tt) end
+      → RunsOrder mode honest settings st seen order old new end st seen
   RunsOrder-verified old new end request is p =
       let printed = subst (λ (r : Report). Prints old new (shown_report r ∷ []) (Ok tt) end) is p in
-      subst (λ (o : Order). RunsOrder ways honest settings st seen o old new end st seen) (sym order_is)
+      subst (λ (o : Order). RunsOrder mode honest settings st seen o old new end st seen) (sym order_is)
       (untidied seen, (λ off. refl, λ h. refl), answered settings st (untidied seen) Verify old new end (never_refused (untidied seen)) printed, OnOk-always end unmoved)
 
 -- ---- the numbers of the store
 
-module _ (ways : Ways) (honest : Bool) (settings : Settings) (st : Store) (seen : List ℕ) (order : Order) (order_is : order ≡ Numbers) where
+module _ (mode : Mode) (honest : Bool) (settings : Settings) (st : Store) (seen : List ℕ) (order : Order) (order_is : order ≡ Numbers) where
   numbers_given : (file : Seen) → refusal_of settings st file Numbers ≡ None
   unfolding refusal_of
   numbers_given file = refl
@@ -448,14 +448,14 @@ module _ (ways : Ways) (honest : Bool) (settings : Settings) (st : Store) (seen 
   unfolding after_order refusal_of
   still = record { unrefused = refl; store = refl; bytes = λ h. refl; holds = refl }
 
-  pub RunsOrder-uncounted : (old : Option (List ℕ)) (fault : Fault) → fault ≡ NoMemory → RunsOrder ways honest settings st seen order old old (Err (endings.Fault fault)) st seen
+  pub RunsOrder-uncounted : (old : Option (List ℕ)) (fault : Fault) → fault ≡ NoMemory → RunsOrder mode honest settings st seen order old old (Err (errors.Fault fault)) st seen
   RunsOrder-uncounted old fault e = (untidied seen, (λ off. refl, λ h. refl), stopped settings st (untidied seen) order old old fault refl (inl e), tt)
 
-  pub RunsOrder-counted : (old new : Option (List ℕ)) (end : Result (Unit {0}) Ending) (numbers : StoreNumbers) → numbers ≡ numbers_of settings st
-      → Prints old new (shown_numbers numbers ∷ []) (Ok tt) end → RunsOrder ways honest settings st seen order old new end st seen
+  pub RunsOrder-counted : (old new : Option (List ℕ)) (end : Result (Unit {0}) SessionError) (numbers : StoreNumbers) → numbers ≡ numbers_of settings st
+      → Prints old new (shown_numbers numbers ∷ []) (Ok tt) end → RunsOrder mode honest settings st seen order old new end st seen
   RunsOrder-counted old new end numbers is p =
       let printed = subst (λ (n : StoreNumbers). Prints old new (shown_numbers n ∷ []) (Ok tt) end) is p in
-      subst (λ (o : Order). RunsOrder ways honest settings st seen o old new end st seen) (sym order_is)
+      subst (λ (o : Order). RunsOrder mode honest settings st seen o old new end st seen) (sym order_is)
       (untidied seen, (λ off. refl, λ h. refl), answered settings st (untidied seen) Numbers old new end (numbers_given (untidied seen)) printed, OnOk-always end still)
 
 -- the orders from this place on

@@ -17,23 +17,23 @@ use Rattle.recovery.specs.StoreOfDisk.{first_store, store_of_disk}
 use Rattle.engine.specs.Late.{create_refusal, made_unless, after_create}
 use Rattle.engine.specs.Copies.{IsCopyFault}
 use Rattle.engine.specs.State.{State}
-use Rattle.bwsh.specs.declared.session.Ending.{Ending}
-use Rattle.bwsh.specs.declared.session.Ending.TheVariants.{Device}
-use Rattle.bwsh.specs.declared.session.Ending.TheVariants as endings
+use Rattle.bwsh.specs.declared.session.SessionError.{SessionError}
+use Rattle.bwsh.specs.declared.session.SessionError.TheVariants.{Device}
+use Rattle.bwsh.specs.declared.session.SessionError.TheVariants as errors
 use Rattle.bwsh.specs.Session.{Start, IsCopyEnd, Opens, IsUnopened, start_unless, start_by, first_stored, new_start, found_start}
 
 -- an ending for a fault: a device's is reported as such
-abbrev pub IsEndingOf : Fault → Ending → Type 0
-IsEndingOf f early = ((f ≡ fault.Device) × (early ≡ Device)) ⊎ ((f ≢ fault.Device) × (early ≡ endings.Fault f))
+abbrev pub IsEndingOf : Fault → SessionError → Type 0
+IsEndingOf f early = ((f ≡ fault.Device) × (early ≡ Device)) ⊎ ((f ≢ fault.Device) × (early ≡ errors.Fault f))
 
 -- memory was refused, or a device failed
-late : (start : Start) (old new : ℕ) (f : Fault) (early : Ending) → IsLate old new f → IsEndingOf f early → IsUnopened start early
+late : (start : Start) (old new : ℕ) (f : Fault) (early : SessionError) → IsLate old new f → IsEndingOf f early → IsUnopened start early
 late start old new f early memory_or_device (inl device) = inr (inr device.1)
-late start old new f early (inl memory) (inr other) = inr (inl (other.1 ∙ ap (λ (x : Fault). endings.Fault x) memory))
+late start old new f early (inl memory) (inr other) = inr (inl (other.1 ∙ ap (λ (x : Fault). errors.Fault x) memory))
 late start old new f early (inr device) (inr other) = absurd (other.0 device.0)
 
 -- no store is there by this fault
-right : (start : Start) (f : Fault) (early : Ending) → start ≡ Err f → IsEndingOf f early → IsUnopened start early
+right : (start : Start) (f : Fault) (early : SessionError) → start ≡ Err f → IsEndingOf f early → IsUnopened start early
 right start f early is (inl device) = inr (inr device.1)
 right start f early is (inr other) = inl (f, is, other.1)
 
@@ -44,7 +44,7 @@ module _ (settings : Settings) (file : List ℕ) where
   start_by_field o e = ap (λ (x : Option Field). start_unless x settings (first_stored settings file)) e
 
   -- the settings are refused
-  pub IsUnopened-refused : (f : Field) → first_bad_field settings ≡ Some f → IsUnopened (new_start settings file) (endings.Fault (BadSettings f))
+  pub IsUnopened-refused : (f : Field) → first_bad_field settings ≡ Some f → IsUnopened (new_start settings file) (errors.Fault (BadSettings f))
   IsUnopened-refused f e = inl (BadSettings f, start_by_field (Some f) e, refl)
 
   module _ (good : first_bad_field settings ≡ None) where
@@ -75,7 +75,7 @@ module _ (settings : Settings) (file : List ℕ) where
           let pair : (let p : Store × List ℕ = (first_store, disk_of_new settings seen) in p ≡ (st, now)) = cc in
           sym (ap (λ (p : Store × List ℕ). p.1) pair) ∙ ap (disk_of_new settings) same
 
-    pub IsUnopened-unmade : (size old new : ℕ) (f : Fault) (early : Ending) (Other : Fault → Type 0) → disk_size settings ≤ size
+    pub IsUnopened-unmade : (size old new : ℕ) (f : Fault) (early : SessionError) (Other : Fault → Type 0) → disk_size settings ≤ size
         → MatchOption (create_refusal settings size) (IsLate old new f) Other → IsEndingOf f early → IsUnopened (new_start settings file) early
     IsUnopened-unmade size old new f early Other room refused ending =
         late (new_start settings file) old new f early (subst (λ (o : Option Fault). MatchOption o (IsLate old new f) Other) (unrefused size room) refused) ending
@@ -83,14 +83,14 @@ module _ (settings : Settings) (file : List ℕ) where
 -- ---- a copy
 
 -- why there is none
-pub IsCopyEnd-refused : (settings : Settings) (m : List (List ℕ × List ℕ)) (size old new : ℕ) (f : Fault) (early : Ending) (Other : Fault → Type 0) → first_bad_field settings ≡ None
+pub IsCopyEnd-refused : (settings : Settings) (m : List (List ℕ × List ℕ)) (size old new : ℕ) (f : Fault) (early : SessionError) (Other : Fault → Type 0) → first_bad_field settings ≡ None
     → disk_size settings ≤ size → MatchOption (create_refusal settings size) (IsCopyFault settings m old new f) Other → IsEndingOf f early → IsCopyEnd settings m early
 IsCopyEnd-refused settings m size old new f early Other good room refused ending =
     by (subst (λ (o : Option Fault). MatchOption o (IsCopyFault settings m old new f) Other) (unrefused settings [] good size room) refused) ending
   where
     by : IsCopyFault settings m old new f → IsEndingOf f early → IsCopyEnd settings m early
     by why (inl device) = inr (inr device.1)
-    by (inl (inl memory)) (inr other) = inr (inl (other.1 ∙ ap (λ (x : Fault). endings.Fault x) memory))
+    by (inl (inl memory)) (inr other) = inr (inl (other.1 ∙ ap (λ (x : Fault). errors.Fault x) memory))
     by (inl (inr device)) (inr other) = absurd (other.0 device.0)
     by (inr why) (inr other) = inl (f, other.1, why)
 
@@ -102,6 +102,6 @@ pub Opens-found : {D : Type 0} (view : D → View) (file : List ℕ) (old : View
 Opens-found view file old x e kept read seen =
     (file, ap (start_by file) e, λ honest. let h : IsTrue old.is_honest = subst IsTrue kept.honest honest in seen h ∙ sym (read h))
 
-pub IsUnopened-found : (file : List ℕ) (old new : ℕ) (f : Fault) (early : Ending) → (store_of_disk file ≡ Err f) ⊎ IsLate old new f → IsEndingOf f early → IsUnopened (found_start file) early
+pub IsUnopened-found : (file : List ℕ) (old new : ℕ) (f : Fault) (early : SessionError) → (store_of_disk file ≡ Err f) ⊎ IsLate old new f → IsEndingOf f early → IsUnopened (found_start file) early
 IsUnopened-found file old new f early (inl own) ending = right (found_start file) f early (ap (start_by file) own) ending
 IsUnopened-found file old new f early (inr later) ending = late (found_start file) old new f early later ending

@@ -16,10 +16,10 @@ use Rattle.engine.specs.Batches.{tree_in_turn}
 use Rattle.engine.specs.Tidied.{IsTidied}
 use Rattle.bwsh.specs.declared.batch_file.Order.{Order}
 use Rattle.bwsh.specs.declared.batch_file.Order.TheVariants.{Batch, Flush, Clean, Upgrade, Verify, Numbers}
-use Rattle.bwsh.specs.declared.options.asked.Ways.{Ways}
-use Rattle.bwsh.specs.declared.session.Ending.{Ending}
-use Rattle.bwsh.specs.declared.session.Ending.TheVariants.{Device}
-use Rattle.bwsh.specs.declared.session.Ending.TheVariants as endings
+use Rattle.bwsh.specs.declared.options.asked.Mode.{Mode}
+use Rattle.bwsh.specs.declared.session.SessionError.{SessionError}
+use Rattle.bwsh.specs.declared.session.SessionError.TheVariants.{Device}
+use Rattle.bwsh.specs.declared.session.SessionError.TheVariants as errors
 use Rattle.bwsh.specs.BatchFile.{commands_of}
 use Rattle.bwsh.specs.Session.{Batches, LeavesStored, Prints, Reads, Runs, RunsOrder, Seen, Stored, answer_lines, after_order, left_by_step, if_it_holds, is_same_map, later, map_after, own_lines, refusal_of, step_in, tidied}
 use Rattle.bwsh.specs.Shown.{shown_flushed, shown_reply}
@@ -128,8 +128,8 @@ replies-anywhere settings st shown m (order ∷ front) commands rest =
 -- ---- a flush after which the store is tidied
 
 -- in the same ways, but that nothing is tidied
-abbrev pub untidy : Ways → Ways
-untidy ways = record ways { tidy = 0 }
+abbrev pub untidy : Mode → Mode
+untidy mode = record mode { tidy = 0 }
 
 -- its flush is done, and the store tidied by these batches
 module _ (settings : Settings) (st : Store) (seen : Seen) (plain : seen.tidying ≡ []) (batches : Batches) where
@@ -179,17 +179,17 @@ module _ (settings : Settings) (st : Store) (left : List ℕ) (old mid new : Opt
 
   module _ (kept : Keeps mid new) where
     -- it was answered, and what was written was handed on to the device; then memory was refused, or not
-    ends_tidied : (lines : List (List ℕ)) (done : Unit {0}) (end : Result (Unit {0}) Ending) → Prints old mid lines (Ok tt) (Ok done)
-        → (end ≡ Ok tt) ⊎ (end ≡ Err (endings.Fault NoMemory)) → Prints old new lines (Ok tt) end
+    ends_tidied : (lines : List (List ℕ)) (done : Unit {0}) (end : Result (Unit {0}) SessionError) → Prints old mid lines (Ok tt) (Ok done)
+        → (end ≡ Ok tt) ⊎ (end ≡ Err (errors.Fault NoMemory)) → Prints old new lines (Ok tt) end
     ends_tidied lines done end p (inl e) = rw e (Prints-flushed old mid new lines (Ok tt) (Ok done) (Ok tt) p kept (inl refl))
     ends_tidied lines done end p (inr e) =
         let all = Prints-all old new lines (Ok tt) done (Prints-flushed old mid new lines (Ok tt) (Ok done) (Ok done) p kept (inl refl)) in
         inr (inl (e, (lines, front-whole lines, all)))
 
-    pub RunsOrder-tidied : (ways : Ways) (honest : Bool) (done : Unit {0}) (now after : Store) (bytes : List ℕ) (end : Result (Unit {0}) Ending) → ways.tidy ≢ 0
-        → RunsOrder (untidy ways) honest settings st left Flush old mid (Ok done) now bytes → IsTidied settings now after
-        → (end ≡ Ok tt) ⊎ (end ≡ Err (endings.Fault NoMemory)) → RunsOrder ways honest settings st left Flush old new end after bytes
-    RunsOrder-tidied ways honest done now after bytes end some (seen, is, runs, leaves) tidied_so ended =
+    pub RunsOrder-tidied : (mode : Mode) (honest : Bool) (done : Unit {0}) (now after : Store) (bytes : List ℕ) (end : Result (Unit {0}) SessionError) → mode.tidy ≢ 0
+        → RunsOrder (untidy mode) honest settings st left Flush old mid (Ok done) now bytes → IsTidied settings now after
+        → (end ≡ Ok tt) ⊎ (end ≡ Err (errors.Fault NoMemory)) → RunsOrder mode honest settings st left Flush old new end after bytes
+    RunsOrder-tidied mode honest done now after bytes end some (seen, is, runs, leaves) tidied_so ended =
         let plain : seen.tidying ≡ [] = is.0 refl in
         let (batches, are) = tidies settings now after tidied_so in
         let seen_too : Seen = record { bytes = seen.bytes; tidying = batches } in
@@ -203,21 +203,21 @@ module _ (settings : Settings) (st : Store) (left : List ℕ) (old mid new : Opt
         )
 
 -- the answer could not be handed on
-pub of_device : (early : Ending) → (let end : Result (Unit {0}) Ending = Err early in (end ≡ Ok tt) ⊎ (end ≡ Err Device)) → (let end : Result (Unit {0}) Ending = Err early in end ≡ Err Device)
+pub of_device : (early : SessionError) → (let end : Result (Unit {0}) SessionError = Err early in (end ≡ Ok tt) ⊎ (end ≡ Err Device)) → (let end : Result (Unit {0}) SessionError = Err early in end ≡ Err Device)
 of_device early (inl e) = absurd (cc)
 of_device early (inr e) = e
 
-pub RunsOrder-unhanded : (ways : Ways) (honest : Bool) (settings : Settings) (st : Store) (left : List ℕ) (old mid new : Option (List ℕ)) (done : Unit {0}) (now : Store) (bytes : List ℕ)
-    (end : Result (Unit {0}) Ending) → Keeps mid new → RunsOrder ways honest settings st left Flush old mid (Ok done) now bytes → end ≡ Err Device
-    → RunsOrder ways honest settings st left Flush old new end now bytes
+pub RunsOrder-unhanded : (mode : Mode) (honest : Bool) (settings : Settings) (st : Store) (left : List ℕ) (old mid new : Option (List ℕ)) (done : Unit {0}) (now : Store) (bytes : List ℕ)
+    (end : Result (Unit {0}) SessionError) → Keeps mid new → RunsOrder mode honest settings st left Flush old mid (Ok done) now bytes → end ≡ Err Device
+    → RunsOrder mode honest settings st left Flush old new end now bytes
 unfolding Runs
-RunsOrder-unhanded ways honest settings st left old mid new done now bytes end kept (seen, is, runs, leaves) e =
+RunsOrder-unhanded mode honest settings st left old mid new done now bytes end kept (seen, is, runs, leaves) e =
     rw e (seen, is, Prints-flushed old mid new _ _ (Ok done) (Err Device) runs kept (inr refl), tt)
 
 -- no such end is one for a full log
-pub never_full : (end : Result (Unit {0}) Ending) → (end ≡ Ok tt) ⊎ (end ≡ Err (endings.Fault NoMemory)) → end ≡ Err (endings.Fault Full) → ⊥
+pub never_full : (end : Result (Unit {0}) SessionError) → (end ≡ Ok tt) ⊎ (end ≡ Err (errors.Fault NoMemory)) → end ≡ Err (errors.Fault Full) → ⊥
 never_full end (inl e) full = cc
 never_full end (inr e) full = cc
 
-pub device_never_full : (end : Result (Unit {0}) Ending) → end ≡ Err Device → end ≡ Err (endings.Fault Full) → ⊥
+pub device_never_full : (end : Result (Unit {0}) SessionError) → end ≡ Err Device → end ≡ Err (errors.Fault Full) → ⊥
 device_never_full end e full = cc

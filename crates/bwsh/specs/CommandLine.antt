@@ -32,6 +32,26 @@ flag_rule name = record (new_rule name) { long = Some name; action = Some SetTru
 abbrev pub plain_bwsh : App
 plain_bwsh = on_top (λ s. record s { no_binary_name = true }) (new_app (codes "bwsh"))
 
+-- a command line with the options for the settings of a new store
+abbrev pub with_settings : App → App
+with_settings app = with_rule (with_rule (with_rule (with_rule (with_rule (with_rule app
+    (number_rule (codes "fan") (codes "16"))) (number_rule (codes "chain") (codes "4")))
+    (number_rule (codes "max-key") (codes "64"))) (number_rule (codes "max-value") (codes "256")))
+    (number_rule (codes "seg-size") (codes "65536"))) (number_rule (codes "segments") (codes "64"))
+
+-- with those for the work of a session and for its files
+abbrev pub with_work : App → App
+with_work app = with_rule (with_rule (with_rule (with_rule (with_rule app
+    (number_rule (codes "workers") (codes "1"))) (number_rule (codes "grain") (codes "64")))
+    (number_rule (codes "tidy") (codes "0"))) (text_rule (codes "disk"))) (text_rule (codes "copy-to"))
+
+-- with those that take no value
+abbrev pub with_flags : App → App
+with_flags app = with_rule (with_rule (with_rule (with_rule (with_rule (with_rule (with_rule app
+    (flag_rule (codes "create"))) (flag_rule (codes "version")))
+    (flag_rule (codes "explain"))) (flag_rule (codes "stat"))) (flag_rule (codes "clean-when-full"))) (flag_rule (codes "stream")))
+    (flag_rule (codes "progress"))
+
 -- the program with its options
 abbrev pub bwsh : App
 bwsh = with_rule (with_rule (with_rule (with_rule (with_rule (with_rule (with_rule (with_rule (with_rule (with_rule (with_rule (with_rule (with_rule (with_rule (with_rule (with_rule (with_rule (with_rule plain_bwsh

@@ -1,5 +1,5 @@
 -- What a line of a batch file says.
-use Rattle.std.specs.Prelude.{ℕ, List, [], ◌∷◌, Option, Some, None, Result, Ok, Err, codes, nat_eq, if◌then◌else◌}
+use Rattle.std.specs.Prelude.{ℕ, Bool, true, false, List, [], ◌∷◌, Option, Some, None, Result, Ok, Err, codes, nat_eq, if◌then◌else◌}
 use Rattle.std.specs.List.{starts_with}
 use Rattle.std.specs.Option.{ok_or, option_map, option_zip}
 use Rattle.std.specs.Str.{bytes_eq}
@@ -7,8 +7,8 @@ use Rattle.std.specs.declared.alloc.Global.{Global}
 use Rattle.keys.specs.Bytes.{Bytes}
 use Rattle.keys.specs.declared.command.Command.{Command}
 use Rattle.keys.specs.declared.command.Command.TheVariants.{Get, Put, Add, Del, Scan, Wipe}
-use Rattle.bwsh.specs.declared.line.Says.{Says}
-use Rattle.bwsh.specs.declared.line.Says.TheVariants.{Nothing, Go, Flush, Clean, Upgrade, Verify, Bad}
+use Rattle.bwsh.specs.declared.line.Line.{Line}
+use Rattle.bwsh.specs.declared.line.Line.TheVariants.{Blank, Go, Flush, Clean, Upgrade, Verify, Bad}
 use Rattle.bwsh.specs.declared.line.Why.{Why}
 use Rattle.bwsh.specs.declared.line.Why.TheVariants.{UnknownCommand, WordCount, BadToken, BadNumber}
 use Rattle.bwsh.specs.Number.{number_in}
@@ -22,8 +22,13 @@ why_text WordCount = codes "wrong number of words"
 why_text BadToken = codes "bad token"
 why_text BadNumber = codes "bad number"
 
+-- the line is a command
+abbrev pub is_command : Line → Bool
+is_command (Line.Command command) = true
+is_command _ = false
+
 -- what is wrong with a line that says this, if it is bad
-abbrev pub bad_of : Says → Option Why
+abbrev pub bad_of : Line → Option Why
 bad_of (Bad why) = Some why
 bad_of _ = None
 
@@ -38,8 +43,8 @@ key_and_value (key ∷ value ∷ []) = ok_or (option_zip (token_bytes key) (toke
 key_and_value _ = Err WordCount
 
 -- what is said where a command is made of this, or where this is what is wrong
-abbrev pub command_or_bad : {X : Type 0} → (X → Command Global) → Result X Why → Says
-command_or_bad command (Ok x) = Says.Command (command x)
+abbrev pub command_or_bad : {X : Type 0} → (X → Command Global) → Result X Why → Line
+command_or_bad command (Ok x) = Line.Command (command x)
 command_or_bad command (Err why) = Bad why
 
 -- the upper bound that a token stands for, if it is one: the star alone is no bound
@@ -47,59 +52,59 @@ abbrev pub bound_of : Bytes → Option (Option Bytes)
 bound_of token = if bytes_eq token (codes "*") then Some None else option_map (λ key. Some key) (token_bytes token)
 
 -- what is said by a lower bound, an upper bound and a limit after `scan`, each if it is there
-abbrev pub scan_by : Option Bytes → Option (Option Bytes) → Option ℕ → Says
+abbrev pub scan_by : Option Bytes → Option (Option Bytes) → Option ℕ → Line
 scan_by None hi limit = Bad BadToken
 scan_by (Some lo) None limit = Bad BadToken
 scan_by (Some lo) (Some hi) None = Bad BadNumber
-scan_by (Some lo) (Some hi) (Some limit) = Says.Command (Scan lo hi limit)
+scan_by (Some lo) (Some hi) (Some limit) = Line.Command (Scan lo hi limit)
 
 -- what is said by these words after `scan`
-abbrev pub scan_says : List Bytes → Says
-scan_says (lo ∷ hi ∷ limit ∷ []) = scan_by (token_bytes lo) (bound_of hi) (number_in limit)
-scan_says _ = Bad WordCount
+abbrev pub parse_scan : List Bytes → Line
+parse_scan (lo ∷ hi ∷ limit ∷ []) = scan_by (token_bytes lo) (bound_of hi) (number_in limit)
+parse_scan _ = Bad WordCount
 
 -- what is said by a lower bound and an upper bound after `wipe`, each if it is there
-abbrev pub wipe_by : Option Bytes → Option (Option Bytes) → Says
+abbrev pub wipe_by : Option Bytes → Option (Option Bytes) → Line
 wipe_by None hi = Bad BadToken
 wipe_by (Some lo) None = Bad BadToken
-wipe_by (Some lo) (Some hi) = Says.Command (Wipe lo hi)
+wipe_by (Some lo) (Some hi) = Line.Command (Wipe lo hi)
 
 -- what is said by these words after `wipe`
-abbrev pub wipe_says : List Bytes → Says
-wipe_says (lo ∷ hi ∷ []) = wipe_by (token_bytes lo) (bound_of hi)
-wipe_says _ = Bad WordCount
+abbrev pub parse_wipe : List Bytes → Line
+parse_wipe (lo ∷ hi ∷ []) = wipe_by (token_bytes lo) (bound_of hi)
+parse_wipe _ = Bad WordCount
 
 -- this is said, where no words follow
-abbrev pub alone : Says → List Bytes → Says
-alone says [] = says
-alone says _ = Bad WordCount
+abbrev pub if_alone : Line → List Bytes → Line
+if_alone parsed [] = parsed
+if_alone parsed _ = Bad WordCount
 
 -- what is said by this word and those after it, where it is none of a command
-abbrev pub order_says : Bytes → List Bytes → Says
-order_says word following =
-    if bytes_eq word (codes "go") then alone Go following else (
-    if bytes_eq word (codes "flush") then alone Flush following else (
-    if bytes_eq word (codes "clean") then alone Clean following else (
-    if bytes_eq word (codes "upgrade") then alone Upgrade following else (
-    if bytes_eq word (codes "verify") then alone Verify following else
+abbrev pub parse_order : Bytes → List Bytes → Line
+parse_order word following =
+    if bytes_eq word (codes "go") then if_alone Go following else (
+    if bytes_eq word (codes "flush") then if_alone Flush following else (
+    if bytes_eq word (codes "clean") then if_alone Clean following else (
+    if bytes_eq word (codes "upgrade") then if_alone Upgrade following else (
+    if bytes_eq word (codes "verify") then if_alone Verify following else
     Bad UnknownCommand))))
 
 -- what is said by this word and those after it
-abbrev pub command_says : Bytes → List Bytes → Says
-command_says word following =
+abbrev pub parse_command : Bytes → List Bytes → Line
+parse_command word following =
     if bytes_eq word (codes "put") then command_or_bad (λ (k, v). Put k v) (key_and_value following) else (
     if bytes_eq word (codes "add") then command_or_bad (λ (k, v). Add k v) (key_and_value following) else (
     if bytes_eq word (codes "get") then command_or_bad Get (only_key following) else (
     if bytes_eq word (codes "del") then command_or_bad Del (only_key following) else (
-    if bytes_eq word (codes "scan") then scan_says following else (
-    if bytes_eq word (codes "wipe") then wipe_says following else
-    order_says word following)))))
+    if bytes_eq word (codes "scan") then parse_scan following else (
+    if bytes_eq word (codes "wipe") then parse_wipe following else
+    parse_order word following)))))
 
 -- what a line of these words says: nothing where there are none, or where the first begins with `#`
-abbrev pub words_say : List Bytes → Says
-words_say [] = Nothing
-words_say (word ∷ following) = if starts_with nat_eq word (codes "#") then Nothing else command_says word following
+abbrev pub parse_words : List Bytes → Line
+parse_words [] = Blank
+parse_words (word ∷ following) = if starts_with nat_eq word (codes "#") then Blank else parse_command word following
 
 -- what the line says
-abbrev pub line_says : Bytes → Says
-line_says line = words_say (words_of line)
+abbrev pub parse_line : Bytes → Line
+parse_line line = parse_words (words_of line)

@@ -12,7 +12,7 @@ use Rattle.clap.specs.declared.error.kind.ErrorKind.{ErrorKind}
 use Rattle.clap.specs.declared.error.kind.ErrorKind.TheVariants.{InvalidValue, UnknownArgument, ValueValidation, TooManyValues, ArgumentConflict, DisplayHelp, OutOfMemory}
 use Rattle.keys.specs.Bytes.{Bytes}
 use Rattle.bwsh.specs.declared.options.asked.Options.{Options}
-use Rattle.bwsh.specs.declared.options.asked.Ways.{Ways}
+use Rattle.bwsh.specs.declared.options.asked.Mode.{Mode}
 
 -- a text, as its bytes
 abbrev pub Text : Type 0
@@ -167,8 +167,8 @@ abbrev pub path_of : Text → Given → Option Text
 path_of name given = option_map (λ g. g.1) (find (λ g. bytes_eq g.0 name) given)
 
 -- the ways of what was given
-abbrev pub ways_of : Given → Ways
-ways_of given = record {
+abbrev pub mode_of : Given → Mode
+mode_of given = record {
   version = is_given (codes "version") given;
   explain = is_given (codes "explain") given;
   stat = is_given (codes "stat") given;
@@ -186,7 +186,7 @@ pub record Request : Type 0 where
   pub disk : Option Text
   pub create : Bool
   pub copy_to : Option Text
-  pub ways : Ways
+  pub mode : Mode
 
 -- what was given asks for this
 abbrev pub request_by : Given → Request
@@ -196,7 +196,7 @@ request_by given = record {
   disk = path_of (codes "disk") given;
   create = is_given (codes "create") given;
   copy_to = path_of (codes "copy-to") given;
-  ways = ways_of given;
+  mode = mode_of given;
 }
 
 -- the words ask for these
@@ -211,7 +211,7 @@ request_of o = record {
   disk = option_map string_bytes o.disk;
   create = o.create;
   copy_to = option_map string_bytes o.copy_to;
-  ways = o.ways;
+  mode = o.mode;
 }
 
 -- the settings of the copy that words ask for, if they ask for one: those of the command line
@@ -224,19 +224,19 @@ AsksForHelp words = asked words ≡ help
 
 -- the words ask for the version
 abbrev pub AsksForVersion : List Text → Type 0
-AsksForVersion words = (request : Request) × AsksFor words request × (request.ways.version ≡ true)
+AsksForVersion words = (request : Request) × AsksFor words request × (request.mode.version ≡ true)
 
 -- the words ask for an explanation of the end
 abbrev pub AsksToExplain : List Text → Type 0
-AsksToExplain words = (request : Request) × AsksFor words request × (request.ways.explain ≡ true)
+AsksToExplain words = (request : Request) × AsksFor words request × (request.mode.explain ≡ true)
 
 -- the words ask for a stream
 abbrev pub AsksToStream : List Text → Type 0
-AsksToStream words = (request : Request) × AsksFor words request × (request.ways.stream ≡ true)
+AsksToStream words = (request : Request) × AsksFor words request × (request.mode.stream ≡ true)
 
 -- the words ask for progress
 abbrev pub AsksForProgress : List Text → Type 0
-AsksForProgress words = (request : Request) × AsksFor words request × (request.ways.progress ≡ true)
+AsksForProgress words = (request : Request) × AsksFor words request × (request.mode.progress ≡ true)
 
 -- the words ask for a text, and for nothing to be read: for help, or for the version
 abbrev pub AsksForText : List Text → Type 0

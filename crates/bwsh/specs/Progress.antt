@@ -7,13 +7,13 @@ use Rattle.bwsh.specs.declared.progress.Counts.TheVariants.{Orders, Lines}
 
 -- how far a session is: in numbers; or in a long call on the file at a path, at its start, and after some segments were read or written; or
 -- nothing, where the line is erased
-pub data Sight : Type 0 where
-  counts : Counts → Sight
-  opening : Bytes → Sight
-  copying : Bytes → Sight
-  opening_after : Bytes → ℕ → Sight
-  copying_after : Bytes → ℕ → Sight
-  erased : Sight
+pub data ProgressText : Type 0 where
+  counts : Counts → ProgressText
+  opening : Bytes → ProgressText
+  copying : Bytes → ProgressText
+  opening_after : Bytes → ℕ → ProgressText
+  copying_after : Bytes → ℕ → ProgressText
+  erased : ProgressText
 
 -- the text of such numbers
 abbrev pub counts_text : Counts → Bytes
@@ -25,18 +25,18 @@ abbrev pub segments_text : ℕ → Bytes → Bytes
 segments_text segments done = codes ", " ++ (decimal segments ++ (codes " segments " ++ done))
 
 -- what is shown of it
-abbrev pub sight_text : Sight → Bytes
-sight_text (counts numbers) = counts_text numbers
-sight_text (opening path) = codes "opening " ++ path
-sight_text (copying path) = codes "copying to " ++ path
-sight_text (opening_after path segments) = codes "opening " ++ (path ++ segments_text segments (codes "read"))
-sight_text (copying_after path segments) = codes "copying to " ++ (path ++ segments_text segments (codes "written"))
-sight_text erased = []
+abbrev pub progress_text : ProgressText → Bytes
+progress_text (counts numbers) = counts_text numbers
+progress_text (opening path) = codes "opening " ++ path
+progress_text (copying path) = codes "copying to " ++ path
+progress_text (opening_after path segments) = codes "opening " ++ (path ++ segments_text segments (codes "read"))
+progress_text (copying_after path segments) = codes "copying to " ++ (path ++ segments_text segments (codes "written"))
+progress_text erased = []
 
 -- a text that takes the place of the line: a carriage return, the text, and the sequence that erases what follows to the end
 abbrev pub in_place : Bytes → Bytes
 in_place text = 13 ∷ text ++ 27 ∷ codes "[K"
 
 -- what is written to show it
-abbrev pub shown_sight : Sight → Bytes
-shown_sight sight = in_place (sight_text sight)
+abbrev pub shown_message : ProgressText → Bytes
+shown_message message = in_place (progress_text message)

@@ -27,46 +27,46 @@ use Rattle.engine.specs.Batches.{tree_in_turn}
 use Rattle.engine.specs.Copies.{IsFilledFault, IsPutFault}
 use Rattle.engine.specs.State.{State}
 use Rattle.engine.specs.Steps.{Step, Stepped, batching, after_step}
-use Rattle.bwsh.specs.declared.line.Says.{Says}
+use Rattle.bwsh.specs.declared.line.Line.{Line}
 use Rattle.bwsh.specs.declared.line.Why.{Why}
-use Rattle.bwsh.specs.declared.options.asked.Ways.{Ways}
+use Rattle.bwsh.specs.declared.options.asked.Mode.{Mode}
 use Rattle.bwsh.specs.declared.batch_file.Order.{Order}
 use Rattle.bwsh.specs.declared.batch_file.Order.TheVariants.{Batch, Flush, Clean, Upgrade, Verify, Numbers}
-use Rattle.bwsh.specs.declared.batch_file.TextFault.{TextFault}
-use Rattle.bwsh.specs.declared.batch_file.TextFault.TheVariants as faults
-use Rattle.bwsh.specs.declared.session.Ending.{Ending}
-use Rattle.bwsh.specs.declared.session.Ending.TheVariants.{Words, Bad, Device}
-use Rattle.bwsh.specs.declared.session.Ending.TheVariants as endings
+use Rattle.bwsh.specs.declared.batch_file.ParseError.{ParseError}
+use Rattle.bwsh.specs.declared.batch_file.ParseError.TheVariants as faults
+use Rattle.bwsh.specs.declared.session.SessionError.{SessionError}
+use Rattle.bwsh.specs.declared.session.SessionError.TheVariants.{Words, Bad, Device}
+use Rattle.bwsh.specs.declared.session.SessionError.TheVariants as errors
 use Rattle.bwsh.specs.declared.show.StoreNumbers.{StoreNumbers}
-use Rattle.bwsh.specs.BatchFile.{text_says, first_bad, orders_of, streamed, with_numbers}
+use Rattle.bwsh.specs.BatchFile.{parse_text, first_bad, orders_of, streamed, with_numbers}
 use Rattle.bwsh.specs.Line.{why_text}
 use Rattle.bwsh.specs.Options.{Text, Request, AsksFor, AsksForProgress, AsksForText, AsksToExplain, AreRefused, copy_of}
-use Rattle.bwsh.specs.Progress.{Sight, shown_sight}
+use Rattle.bwsh.specs.Progress.{ProgressText, shown_message}
 use Rattle.bwsh.specs.Shown.{shown_reply, shown_flushed, shown_cleaned, shown_upgraded, shown_report, shown_numbers}
 
 -- the exit status of a session that ends before all is done
-abbrev pub status_of : Ending → ℕ
+abbrev pub status_of : SessionError → ℕ
 status_of (Words error) = 2
 status_of (Bad line why) = 3
-status_of (endings.Fault fault) = 4
+status_of (errors.Fault fault) = 4
 status_of Device = 4
 
 -- the exit status of a session
-abbrev pub status_of_end : Result (Unit {0}) Ending → ℕ
+abbrev pub status_of_end : Result (Unit {0}) SessionError → ℕ
 status_of_end (Ok done) = 0
 status_of_end (Err early) = status_of early
 
 -- what an ending prints, with its line feed, where a clause can say it
-abbrev pub ending_text : Ending → Option Bytes
-ending_text (Words error) = None
-ending_text (Bad line why) = Some (codes "line " ++ decimal line ++ codes ": " ++ why_text why ++ 10 ∷ [])
-ending_text (endings.Fault fault) = None
-ending_text Device = Some (codes "fault 9 Device" ++ 10 ∷ [])
+abbrev pub error_text : SessionError → Option Bytes
+error_text (Words error) = None
+error_text (Bad line why) = Some (codes "line " ++ decimal line ++ codes ": " ++ why_text why ++ 10 ∷ [])
+error_text (errors.Fault fault) = None
+error_text Device = Some (codes "fault 9 Device" ++ 10 ∷ [])
 
 -- the message for an end, where a clause can say it: none for one with all done
-abbrev pub reported_text : Result (Unit {0}) Ending → Option Bytes
+abbrev pub reported_text : Result (Unit {0}) SessionError → Option Bytes
 reported_text (Ok done) = Some []
-reported_text (Err early) = ending_text early
+reported_text (Err early) = error_text early
 
 -- the message for words that cannot be read, with its line feed
 abbrev pub unread_text : Bytes
@@ -77,9 +77,9 @@ abbrev pub version_text : Bytes
 version_text = codes "bwsh 0.1.0" ++ 10 ∷ []
 
 -- the ending of a session whose text is not read
-abbrev pub ending_by : TextFault → Ending
-ending_by (faults.Bad line why) = Bad line why
-ending_by faults.Memory = endings.Fault NoMemory
+abbrev pub error_of_parse : ParseError → SessionError
+error_of_parse (faults.Bad line why) = Bad line why
+error_of_parse faults.Memory = errors.Fault NoMemory
 
 -- a store, and the bytes of its disk
 abbrev pub Stored : Type 0
@@ -338,32 +338,32 @@ abbrev pub AreTidiedAlike : Reads → Reads → Type 0
 AreTidiedAlike shown other = (i : ℕ) → (shown i).tidying ≡ (other i).tidying
 
 -- a store is tidied only where that is asked for
-abbrev pub TidiesBy : Ways → Reads → Type 0
-TidiesBy ways shown = ways.tidy ≡ 0 → AreUntidied shown
+abbrev pub TidiesBy : Mode → Reads → Type 0
+TidiesBy mode shown = mode.tidy ≡ 0 → AreUntidied shown
 
 -- this can be seen at each of these orders, where the words give this: the disk shows in memory what was left, in a file anything
 abbrev pub IsShown : Request → Start → Reads → List Order → Type 0
-IsShown request start shown orders = TidiesBy request.ways shown × (request.disk ≡ None → AreLeftFrom start shown orders)
+IsShown request start shown orders = TidiesBy request.mode shown × (request.disk ≡ None → AreLeftFrom start shown orders)
 
 -- whether all is done, whatever else is returned then
-abbrev pub without_value : {X : Type 0} → Result X Ending → Result (Unit {0}) Ending
+abbrev pub without_value : {X : Type 0} → Result X SessionError → Result (Unit {0}) SessionError
 without_value (Ok x) = Ok tt
 without_value (Err early) = Err early
 
 -- an end for this reason, or with all done
-abbrev pub stopped_by : Option Ending → Result (Unit {0}) Ending
+abbrev pub stopped_by : Option SessionError → Result (Unit {0}) SessionError
 stopped_by None = Ok tt
 stopped_by (Some early) = Err early
 
 -- how orders end by their right: at the first that the store refuses, or with all done
-abbrev pub orders_end : Settings → Store → Reads → List Order → Result (Unit {0}) Ending
-orders_end settings st shown orders = stopped_by (option_map (λ fault. endings.Fault fault) (first_refusal settings st shown orders))
+abbrev pub orders_end : Settings → Store → Reads → List Order → Result (Unit {0}) SessionError
+orders_end settings st shown orders = stopped_by (option_map (λ fault. errors.Fault fault) (first_refusal settings st shown orders))
 
 -- how a session with this first bad line, if there is one, ends by its right, that starts so and would run these orders: a bad
 -- line goes before the fault of a start that has no store
-abbrev pub end_after : Option (ℕ × Why) → Start → Reads → List Order → Result (Unit {0}) Ending
+abbrev pub end_after : Option (ℕ × Why) → Start → Reads → List Order → Result (Unit {0}) SessionError
 end_after (Some bad) start shown orders = Err (Bad bad.0 bad.1)
-end_after None (Err fault) shown orders = Err (endings.Fault fault)
+end_after None (Err fault) shown orders = Err (errors.Fault fault)
 end_after None (Ok p) shown orders = orders_end p.0 p.1.0 shown orders
 
 -- the lines that it prints by its right
@@ -373,54 +373,54 @@ lines_after None (Err fault) shown orders = []
 lines_after None (Ok p) shown orders = answer_lines p.0 p.1.0 shown (contents p.1.0.tree) (accepted p.0 p.1.0 shown orders)
 
 -- an end for this bad line
-abbrev pub bad_ending : ℕ × Why → Ending
-bad_ending bad = Bad bad.0 bad.1
+abbrev pub bad_line_error : ℕ × Why → SessionError
+bad_line_error bad = Bad bad.0 bad.1
 
 -- how a stream with this first bad line, if there is one, ends by its right, that starts so and runs these orders up to it: at a start that
 -- has no store, else at the first order that the store refuses, else at the bad line, or with all done
-abbrev pub end_streamed : Option (ℕ × Why) → Start → Reads → List Order → Result (Unit {0}) Ending
-end_streamed bad (Err fault) shown orders = Err (endings.Fault fault)
+abbrev pub end_streamed : Option (ℕ × Why) → Start → Reads → List Order → Result (Unit {0}) SessionError
+end_streamed bad (Err fault) shown orders = Err (errors.Fault fault)
 end_streamed bad (Ok p) shown orders =
-    stopped_by (option_or (option_map (λ fault. endings.Fault fault) (first_refusal p.0 p.1.0 shown orders)) (option_map bad_ending bad))
+    stopped_by (option_or (option_map (λ fault. errors.Fault fault) (first_refusal p.0 p.1.0 shown orders)) (option_map bad_line_error bad))
 
 -- the orders of a session on this text that starts so: what its lines order, and then the numbers, where the words ask for them; and among
 -- them the cleans that make room for flushes, where they ask for these
 abbrev pub session_orders : Request → Start → Reads → Bytes → List Order
-session_orders request start shown text = run_from request.ways.clean_when_full start shown (with_numbers request.ways.stat (orders_of [] (text_says text)))
+session_orders request start shown text = run_from request.mode.clean_when_full start shown (with_numbers request.mode.stat (orders_of [] (parse_text text)))
 
 -- how a session on this text ends by its right
-abbrev pub session_end : Request → Start → Reads → Bytes → Result (Unit {0}) Ending
-session_end request start shown text = end_after (first_bad 1 (text_says text)) start shown (session_orders request start shown text)
+abbrev pub session_end : Request → Start → Reads → Bytes → Result (Unit {0}) SessionError
+session_end request start shown text = end_after (first_bad 1 (parse_text text)) start shown (session_orders request start shown text)
 
 -- the lines that a session on this text prints by its right
 abbrev pub session_lines : Request → Start → Reads → Bytes → List Bytes
-session_lines request start shown text = lines_after (first_bad 1 (text_says text)) start shown (session_orders request start shown text)
+session_lines request start shown text = lines_after (first_bad 1 (parse_text text)) start shown (session_orders request start shown text)
 
 -- the same of a stream of lines that say this, up to the first bad one: what it runs, how it ends, and the lines that it prints
-abbrev pub stream_orders : Request → Start → Reads → List Says → List Order
-stream_orders request start shown said = run_from request.ways.clean_when_full start shown (streamed request.ways.stat [] said)
+abbrev pub stream_orders : Request → Start → Reads → List Line → List Order
+stream_orders request start shown parsed = run_from request.mode.clean_when_full start shown (streamed request.mode.stat [] parsed)
 
-abbrev pub stream_end : Request → Start → Reads → List Says → Result (Unit {0}) Ending
-stream_end request start shown said = end_streamed (first_bad 1 said) start shown (stream_orders request start shown said)
+abbrev pub stream_end : Request → Start → Reads → List Line → Result (Unit {0}) SessionError
+stream_end request start shown parsed = end_streamed (first_bad 1 parsed) start shown (stream_orders request start shown parsed)
 
-abbrev pub stream_lines : Request → Start → Reads → List Says → List Bytes
-stream_lines request start shown said = lines_after None start shown (stream_orders request start shown said)
+abbrev pub stream_lines : Request → Start → Reads → List Line → List Bytes
+stream_lines request start shown parsed = lines_after None start shown (stream_orders request start shown parsed)
 
 -- what is run of this text, by a stream or not
 abbrev pub run_by : Bool → Request → Start → Reads → Bytes → List Order
-run_by true request start shown text = stream_orders request start shown (text_says text)
+run_by true request start shown text = stream_orders request start shown (parse_text text)
 run_by false request start shown text = session_orders request start shown text
 
 -- and by a session that is asked for this
 abbrev pub orders_run : Request → Start → Reads → Bytes → List Order
-orders_run request start shown text = run_by request.ways.stream request start shown text
+orders_run request start shown text = run_by request.mode.stream request start shown text
 
 -- a session whose text has this first bad line, if it has one, can end so before anything is run
-abbrev pub IsReadEnding : Option (ℕ × Why) → Ending → Type 0
-IsReadEnding bad (Words error) = ⊥
-IsReadEnding bad (Bad line why) = bad ≡ Some (line, why)
-IsReadEnding bad (endings.Fault fault) = fault ≡ NoMemory
-IsReadEnding bad Device = Unit {0}
+abbrev pub IsReadError : Option (ℕ × Why) → SessionError → Type 0
+IsReadError bad (Words error) = ⊥
+IsReadError bad (Bad line why) = bad ≡ Some (line, why)
+IsReadError bad (errors.Fault fault) = fault ≡ NoMemory
+IsReadError bad Device = Unit {0}
 
 -- the list begins so
 abbrev pub BeginsWith : {X : Type 0} → List X → List X → Type 0
@@ -431,22 +431,22 @@ abbrev pub IsBegun : Option Bytes → Option Bytes → Bytes → Type 0
 IsBegun old new text = (front : Bytes) × BeginsWith text front × Appends old new front
 
 -- known bytes grow by a beginning of what is reported of this end, where a clause can say what that is, and of this after it
-abbrev pub IsReportedWith : Bytes → Result (Unit {0}) Ending → Option Bytes → Option Bytes → Type 0
+abbrev pub IsReportedWith : Bytes → Result (Unit {0}) SessionError → Option Bytes → Option Bytes → Type 0
 IsReportedWith more end old new = IfSome (reported_text end) (λ text. IsBegun old new (text ++ more))
 
 -- so it is, and more than that is reported only for words that ask for an explanation
-abbrev pub IsReported : List Bytes → Result (Unit {0}) Ending → Option Bytes → Option Bytes → Type 0
+abbrev pub IsReported : List Bytes → Result (Unit {0}) SessionError → Option Bytes → Option Bytes → Type 0
 IsReported words end old new = (more : Bytes) × (AsksToExplain words ⊎ (more ≡ [])) × IsReportedWith more end old new
 
 -- known bytes grow by what is written to show some sights one after the other, or by a beginning of that
 abbrev pub IsProgress : Option Bytes → Option Bytes → Type 0
-IsProgress old new = (sights : List Sight) × IsBegun old new (flat (map shown_sight sights))
+IsProgress old new = (messages : List ProgressText) × IsBegun old new (flat (map shown_message messages))
 
 -- what holds these contents gets progress while it is shown: some sights, one after the other, or a beginning of that, where it is shown no
 -- more (as after a write that failed); where it isn't shown, nothing
 abbrev pub Shows : {E : Type 0} → (E → Option Bytes) → Bool → E → Bool → E → Type 0
 Shows contents false old on new = (on ≡ false) × (new ≡ old)
-Shows contents true old true new = (sights : List Sight) × Appends (contents old) (contents new) (flat (map shown_sight sights))
+Shows contents true old true new = (messages : List ProgressText) × Appends (contents old) (contents new) (flat (map shown_message messages))
 Shows contents true old false new = IsProgress (contents old) (contents new)
 
 -- it gets nothing but progress, where that is asked for, and else nothing
@@ -459,16 +459,16 @@ abbrev pub IsQuiet : {E : Type 0} → (E → Option Bytes) → List Bytes → E 
 IsQuiet contents words old new = (new ≡ old) ⊎ (AsksForProgress words × IsProgress (contents old) (contents new))
 
 -- an end is reported, where the words ask for progress after some of that
-abbrev pub IsReportedAfterProgress : List Bytes → Result (Unit {0}) Ending → Option Bytes → Option Bytes → Type 0
+abbrev pub IsReportedAfterProgress : List Bytes → Result (Unit {0}) SessionError → Option Bytes → Option Bytes → Type 0
 IsReportedAfterProgress words end old new =
     IsReported words end old new ⊎ (AsksForProgress words × ((shown : Option Bytes) × IsProgress old shown × IsReported words end shown new))
 
 -- known bytes grow by all of the lines where the end is the right one; memory can be refused after some whole lines, and a device can fail
 -- anywhere
-abbrev pub Prints : Option Bytes → Option Bytes → List Bytes → Result (Unit {0}) Ending → Result (Unit {0}) Ending → Type 0
+abbrev pub Prints : Option Bytes → Option Bytes → List Bytes → Result (Unit {0}) SessionError → Result (Unit {0}) SessionError → Type 0
 Prints old new lines right end =
     ((end ≡ right) × Appends old new (flat lines))
-    ⊎ ((end ≡ Err (endings.Fault NoMemory)) × ((front : List Bytes) × BeginsWith lines front × Appends old new (flat front)))
+    ⊎ ((end ≡ Err (errors.Fault NoMemory)) × ((front : List Bytes) × BeginsWith lines front × Appends old new (flat front)))
     ⊎ ((end ≡ Err Device) × ((front : Bytes) × BeginsWith (flat lines) front × Appends old new front))
 
 -- a copy of a store that holds this map, under these settings, is refused so: by its pairs, or by a flush of all of them
@@ -476,53 +476,53 @@ abbrev pub IsCopyRefusal : Settings → Pairs Bytes → Fault → Type 0
 IsCopyRefusal settings m fault = IsPutFault settings m fault ⊎ IsFilledFault settings m fault
 
 -- why there is no copy: it is refused so, or there is no memory, or a device failed
-abbrev pub IsCopyEnd : Settings → Pairs Bytes → Ending → Type 0
+abbrev pub IsCopyEnd : Settings → Pairs Bytes → SessionError → Type 0
 IsCopyEnd settings m early =
-    ((fault : Fault) × (early ≡ endings.Fault fault) × IsCopyRefusal settings m fault) ⊎ (early ≡ endings.Fault NoMemory) ⊎ (early ≡ Device)
+    ((fault : Fault) × (early ≡ errors.Fault fault) × IsCopyRefusal settings m fault) ⊎ (early ≡ errors.Fault NoMemory) ⊎ (early ≡ Device)
 
 -- what a copy under some settings comes to, if there is to be one
-abbrev pub CopiesTo : Option Settings → Pairs Bytes → Result (Unit {0}) Ending → Type 0
+abbrev pub CopiesTo : Option Settings → Pairs Bytes → Result (Unit {0}) SessionError → Type 0
 CopiesTo None m end = end ≡ Ok tt
 CopiesTo (Some settings) m end = IfErr end (IsCopyEnd settings m)
 
 -- why a session that is to leave such a copy ends before anything is run: the settings have a bad field, or a device failed
-abbrev pub IsUncopied : Option Settings → Ending → Type 0
+abbrev pub IsUncopied : Option Settings → SessionError → Type 0
 IsUncopied None early = ⊥
 IsUncopied (Some settings) early =
-    ((field : Field) × (first_bad_field settings ≡ Some field) × (early ≡ endings.Fault (BadSettings field))) ⊎ (early ≡ Device)
+    ((field : Field) × (first_bad_field settings ≡ Some field) × (early ≡ errors.Fault (BadSettings field))) ⊎ (early ≡ Device)
 
 -- the right end of a session whose orders end so, and whose copy is refused by this fault, if it is
-abbrev pub end_copied : Option Fault → Result (Unit {0}) Ending → Result (Unit {0}) Ending
-end_copied refused (Ok done) = stopped_by (option_map (λ fault. endings.Fault fault) refused)
+abbrev pub end_copied : Option Fault → Result (Unit {0}) SessionError → Result (Unit {0}) SessionError
+end_copied refused (Ok done) = stopped_by (option_map (λ fault. errors.Fault fault) refused)
 end_copied refused (Err early) = Err early
 
 -- an end is this one, or this is with all done and a fault comes after it
-abbrev pub IsEndAfter : Result (Unit {0}) Ending → Result (Unit {0}) Ending → Type 0
-IsEndAfter plain end = (end ≡ plain) ⊎ ((plain ≡ Ok tt) × ((fault : Fault) × (end ≡ Err (endings.Fault fault))))
+abbrev pub IsEndAfter : Result (Unit {0}) SessionError → Result (Unit {0}) SessionError → Type 0
+IsEndAfter plain end = (end ≡ plain) ⊎ ((plain ≡ Ok tt) × ((fault : Fault) × (end ≡ Err (errors.Fault fault))))
 
 -- The same of a session whose orders leave this map, and which is to leave a copy under some settings, if it is: where it isn't, word for word.
 -- Where it is, nothing else is printed; and where all orders are done, the right end can be why a copy of this map is refused.
-abbrev pub PrintsCopied : Option Settings → Pairs Bytes → Option Bytes → Option Bytes → List Bytes → Result (Unit {0}) Ending → Result (Unit {0}) Ending → Type 0
+abbrev pub PrintsCopied : Option Settings → Pairs Bytes → Option Bytes → Option Bytes → List Bytes → Result (Unit {0}) SessionError → Result (Unit {0}) SessionError → Type 0
 PrintsCopied None m old new lines right end = Prints old new lines right end
 PrintsCopied (Some settings) m old new lines right end =
     (refused : Option Fault) × IfSome refused (IsCopyRefusal settings m) × Prints old new lines (end_copied refused right) end
 
 -- what these orders print of a store of these settings, at which this is seen at each, and how they end, is right but for
 -- memory and devices
-unfoldable pub Runs : Settings → Store → Reads → List Order → Option Bytes → Option Bytes → Result (Unit {0}) Ending → Type 0
+unfoldable pub Runs : Settings → Store → Reads → List Order → Option Bytes → Option Bytes → Result (Unit {0}) SessionError → Type 0
 Runs settings st shown orders old new end =
     Prints old new (answer_lines settings st shown (contents st.tree) (accepted settings st shown orders))
     (orders_end settings st shown orders) end
 
 -- this can be seen at each of these orders, in such ways: the disk shows, if it is honest, what was left, and these bytes before the first
-abbrev pub AreSeen : Ways → Bool → Settings → Store → Bytes → Reads → List Order → Type 0
-AreSeen ways honest settings st left shown orders = TidiesBy ways shown × (IsTrue honest → AreLeft settings st left shown orders)
+abbrev pub AreSeen : Mode → Bool → Settings → Store → Bytes → Reads → List Order → Type 0
+AreSeen mode honest settings st left shown orders = TidiesBy mode shown × (IsTrue honest → AreLeft settings st left shown orders)
 
 -- so it is in such ways, in which flushes make themselves room or don't, where some such reads are seen at each order that is run
-abbrev pub RunsOn : Ways → Bool → Settings → Store → Bytes → List Order → Option Bytes → Option Bytes → Result (Unit {0}) Ending → Type 0
-RunsOn ways honest settings st left orders old new end =
-    (shown : Reads) × AreSeen ways honest settings st left shown (run_of ways.clean_when_full settings st shown orders)
-    × Runs settings st shown (run_of ways.clean_when_full settings st shown orders) old new end
+abbrev pub RunsOn : Mode → Bool → Settings → Store → Bytes → List Order → Option Bytes → Option Bytes → Result (Unit {0}) SessionError → Type 0
+RunsOn mode honest settings st left orders old new end =
+    (shown : Reads) × AreSeen mode honest settings st left shown (run_of mode.clean_when_full settings st shown orders)
+    × Runs settings st shown (run_of mode.clean_when_full settings st shown orders) old new end
 
 -- the order is accepted, where this is seen, and leaves this store, with its map; and on an honest disk these bytes
 pub record LeavesStored (honest : Bool) (settings : Settings) (st : Store) (seen : Seen) (order : Order) (now : Store) (left : Bytes) : Type 0 where
@@ -532,112 +532,112 @@ pub record LeavesStored (honest : Bool) (settings : Settings) (st : Store) (seen
   pub holds : contents now.tree ≡ map_after (contents st.tree) order
 
 -- this can be seen at an order, in such ways: the disk shows, if it is honest, these bytes
-abbrev pub IsSeen : Ways → Bool → Bytes → Seen → Type 0
-IsSeen ways honest left seen = (ways.tidy ≡ 0 → seen.tidying ≡ []) × (IsTrue honest → seen.bytes ≡ left)
+abbrev pub IsSeen : Mode → Bool → Bytes → Seen → Type 0
+IsSeen mode honest left seen = (mode.tidy ≡ 0 → seen.tidying ≡ []) × (IsTrue honest → seen.bytes ≡ left)
 
 -- What one order prints, and how it ends, is right but for memory and devices, where something is seen that can be, in such ways.
 -- Where all of it is done it leaves this store, and on an honest disk the bytes that come last.
-abbrev pub RunsOrder : Ways → Bool → Settings → Store → Bytes → Order → Option Bytes → Option Bytes → Result (Unit {0}) Ending → Store → Bytes → Type 0
-RunsOrder ways honest settings st left order old new end now bytes =
-    (seen : Seen) × IsSeen ways honest left seen × Runs settings st (λ i. seen) (order ∷ []) old new end
+abbrev pub RunsOrder : Mode → Bool → Settings → Store → Bytes → Order → Option Bytes → Option Bytes → Result (Unit {0}) SessionError → Store → Bytes → Type 0
+RunsOrder mode honest settings st left order old new end now bytes =
+    (seen : Seen) × IsSeen mode honest left seen × Runs settings st (λ i. seen) (order ∷ []) old new end
     × OnOk end (LeavesStored honest settings st seen order now bytes)
 
 -- What these orders print, and how they end, is right in front of any others that are run next: all of them are done, and the others go on
 -- with this store and, on an honest disk, these bytes; or they stop early, and so do all.
-abbrev pub RunsFirst : Ways → Bool → Settings → Store → Bytes → List Order → Option Bytes → Option Bytes → Result (Unit {0}) Ending → Store → Bytes → Type 0
-RunsFirst ways honest settings st left orders old new (Ok done) now bytes =
-    (rest : List Order) (last : Option Bytes) (end : Result (Unit {0}) Ending) → RunsOn ways honest settings now bytes rest new last end
-    → RunsOn ways honest settings st left (orders ++ rest) old last end
-RunsFirst ways honest settings st left orders old new (Err early) now bytes =
-    (rest : List Order) → RunsOn ways honest settings st left (orders ++ rest) old new (Err early)
+abbrev pub RunsFirst : Mode → Bool → Settings → Store → Bytes → List Order → Option Bytes → Option Bytes → Result (Unit {0}) SessionError → Store → Bytes → Type 0
+RunsFirst mode honest settings st left orders old new (Ok done) now bytes =
+    (rest : List Order) (last : Option Bytes) (end : Result (Unit {0}) SessionError) → RunsOn mode honest settings now bytes rest new last end
+    → RunsOn mode honest settings st left (orders ++ rest) old last end
+RunsFirst mode honest settings st left orders old new (Err early) now bytes =
+    (rest : List Order) → RunsOn mode honest settings st left (orders ++ rest) old new (Err early)
 
 -- What a stream of lines prints of this store, and how it ends, is right but for memory and devices, for what some lines say, which are
 -- those of the known text: the orders up to the first bad one, which is returned where all of these are done. Then this store is left, with
 -- their map.
-abbrev pub StreamsOn : Ways → Bool → Settings → Store → Bytes → Option Bytes → Option Bytes → Option Bytes → Result (Option (ℕ × Why)) Ending → Store → Type 0
-StreamsOn ways honest settings st left known old new end now =
-    (said : List Says) × IfSome known (λ text. said ≡ text_says text)
-    × RunsOn ways honest settings st left (streamed ways.stat [] said) old new (without_value end)
-    × IfOk end (λ bad. bad ≡ first_bad 1 said) × OnOk end (contents now.tree ≡ map_left (contents st.tree) (streamed ways.stat [] said))
+abbrev pub StreamsOn : Mode → Bool → Settings → Store → Bytes → Option Bytes → Option Bytes → Option Bytes → Result (Option (ℕ × Why)) SessionError → Store → Type 0
+StreamsOn mode honest settings st left known old new end now =
+    (parsed : List Line) × IfSome known (λ text. parsed ≡ parse_text text)
+    × RunsOn mode honest settings st left (streamed mode.stat [] parsed) old new (without_value end)
+    × IfOk end (λ bad. bad ≡ first_bad 1 parsed) × OnOk end (contents now.tree ≡ map_left (contents st.tree) (streamed mode.stat [] parsed))
 
 -- how it ends, where a bad line is returned
-abbrev pub stream_ended : Result (Option (ℕ × Why)) Ending → Result (Unit {0}) Ending
-stream_ended (Ok bad) = stopped_by (option_map bad_ending bad)
+abbrev pub stream_ended : Result (Option (ℕ × Why)) SessionError → Result (Unit {0}) SessionError
+stream_ended (Ok bad) = stopped_by (option_map bad_line_error bad)
 stream_ended (Err early) = Err early
 
 -- the same from this start, with the bad line as the end; and then there is a copy under some settings, if there is to be one
-unfoldable pub StreamsFrom : Ways → Option Settings → Type 0 → Start → Option Bytes → Option Bytes → Option Bytes → Result (Unit {0}) Ending → Type 0
-StreamsFrom ways copy IsHonest start known old new end =
-    (said : List Says) × IfSome known (λ text. said ≡ text_says text) × (shown : Reads)
-    × (TidiesBy ways shown × (IsHonest → AreLeftFrom start shown (run_from ways.clean_when_full start shown (streamed ways.stat [] said))))
-    × PrintsCopied copy (map_left_from start (streamed ways.stat [] said)) old new
-    (lines_after None start shown (run_from ways.clean_when_full start shown (streamed ways.stat [] said)))
-    (end_streamed (first_bad 1 said) start shown (run_from ways.clean_when_full start shown (streamed ways.stat [] said))) end
+unfoldable pub StreamsFrom : Mode → Option Settings → Type 0 → Start → Option Bytes → Option Bytes → Option Bytes → Result (Unit {0}) SessionError → Type 0
+StreamsFrom mode copy IsHonest start known old new end =
+    (parsed : List Line) × IfSome known (λ text. parsed ≡ parse_text text) × (shown : Reads)
+    × (TidiesBy mode shown × (IsHonest → AreLeftFrom start shown (run_from mode.clean_when_full start shown (streamed mode.stat [] parsed))))
+    × PrintsCopied copy (map_left_from start (streamed mode.stat [] parsed)) old new
+    (lines_after None start shown (run_from mode.clean_when_full start shown (streamed mode.stat [] parsed)))
+    (end_streamed (first_bad 1 parsed) start shown (run_from mode.clean_when_full start shown (streamed mode.stat [] parsed))) end
 
 -- what these orders print from this start, and how they end, is right but for memory and devices, in such ways, in which flushes make
 -- themselves room or don't, and where something is seen at each that is run: the disk shows what was left, where it is honest. Then there is a
 -- copy under some settings, if there is to be one.
-unfoldable pub RunsFrom : Ways → Option Settings → Type 0 → Start → List Order → Option Bytes → Option Bytes → Result (Unit {0}) Ending → Type 0
-RunsFrom ways copy IsHonest start orders old new end =
-    (shown : Reads) × (TidiesBy ways shown × (IsHonest → AreLeftFrom start shown (run_from ways.clean_when_full start shown orders)))
+unfoldable pub RunsFrom : Mode → Option Settings → Type 0 → Start → List Order → Option Bytes → Option Bytes → Result (Unit {0}) SessionError → Type 0
+RunsFrom mode copy IsHonest start orders old new end =
+    (shown : Reads) × (TidiesBy mode shown × (IsHonest → AreLeftFrom start shown (run_from mode.clean_when_full start shown orders)))
     × PrintsCopied copy (map_left_from start orders) old new
-    (lines_after None start shown (run_from ways.clean_when_full start shown orders))
-    (end_after None start shown (run_from ways.clean_when_full start shown orders)) end
+    (lines_after None start shown (run_from mode.clean_when_full start shown orders))
+    (end_after None start shown (run_from mode.clean_when_full start shown orders)) end
 
 -- a session that starts so can end so before anything is run
-abbrev pub IsUnopened : Start → Ending → Type 0
-IsUnopened start early = ((fault : Fault) × (start ≡ Err fault) × (early ≡ endings.Fault fault)) ⊎ (early ≡ endings.Fault NoMemory) ⊎ (early ≡ Device)
+abbrev pub IsUnopened : Start → SessionError → Type 0
+IsUnopened start early = ((fault : Fault) × (start ≡ Err fault) × (early ≡ errors.Fault fault)) ⊎ (early ≡ errors.Fault NoMemory) ⊎ (early ≡ Device)
 
 -- the opening of a store for a session that starts so gives its settings, its store and, on an honest disk, its bytes; or why there
 -- is none
-abbrev pub Opens : {D : Type 0} → (D → View) → Start → Result (State D) Ending → Type 0
+abbrev pub Opens : {D : Type 0} → (D → View) → Start → Result (State D) SessionError → Type 0
 Opens view start (Ok x) =
     (file : Bytes) × (start ≡ Ok (x.settings, (x.store, file))) × (IsTrue (view x.disk).is_honest → (view x.disk).seen ≡ file)
 Opens view start (Err early) = IsUnopened start early
 
 -- the disk of the store that was opened, if one was, is honest
-abbrev pub IsHonestStore : {D : Type 0} → (D → View) → Result (State D) Ending → Type 0
+abbrev pub IsHonestStore : {D : Type 0} → (D → View) → Result (State D) SessionError → Type 0
 IsHonestStore view opened = IfOk opened (λ x. IsTrue (view x.disk).is_honest)
 
 -- what a session prints that is given this, and how it ends, is right for a text, which is the known one, for a start, and for what is
 -- seen at each order, but for memory and devices. Where it is to leave a copy, that is of the map that all of its orders leave.
-unfoldable pub Answers : Request → Option Bytes → Option Bytes → Option Bytes → Result (Unit {0}) Ending → Type 0
+unfoldable pub Answers : Request → Option Bytes → Option Bytes → Option Bytes → Result (Unit {0}) SessionError → Type 0
 Answers request known old new end =
     (text : Bytes) × IfSome known (λ bytes. text ≡ bytes) × (start : Start) × IsStart request start
     × (shown : Reads) × IsShown request start shown (session_orders request start shown text)
-    × PrintsCopied (copy_of request) (map_left_from start (with_numbers request.ways.stat (orders_of [] (text_says text)))) old new (session_lines request start shown text) (session_end request start shown text) end
+    × PrintsCopied (copy_of request) (map_left_from start (with_numbers request.mode.stat (orders_of [] (parse_text text)))) old new (session_lines request start shown text) (session_end request start shown text) end
 
 -- The same of a stream, for what some lines say, which are those of the known text: its orders are run and answered up to the first bad line.
 -- When lines are read isn't said: one that reads all of them first is as right.
-unfoldable pub Streams : Request → Option Bytes → Option Bytes → Option Bytes → Result (Unit {0}) Ending → Type 0
+unfoldable pub Streams : Request → Option Bytes → Option Bytes → Option Bytes → Result (Unit {0}) SessionError → Type 0
 Streams request known old new end =
-    (said : List Says) × IfSome known (λ text. said ≡ text_says text) × (start : Start) × IsStart request start
-    × (shown : Reads) × IsShown request start shown (stream_orders request start shown said)
-    × PrintsCopied (copy_of request) (map_left_from start (streamed request.ways.stat [] said)) old new (stream_lines request start shown said) (stream_end request start shown said) end
+    (parsed : List Line) × IfSome known (λ text. parsed ≡ parse_text text) × (start : Start) × IsStart request start
+    × (shown : Reads) × IsShown request start shown (stream_orders request start shown parsed)
+    × PrintsCopied (copy_of request) (map_left_from start (streamed request.mode.stat [] parsed)) old new (stream_lines request start shown parsed) (stream_end request start shown parsed) end
 
 -- and of a session that is asked for this
-abbrev pub IsAnswered : Request → Option Bytes → Option Bytes → Option Bytes → Result (Unit {0}) Ending → Type 0
-IsAnswered request known old new end = MatchBool request.ways.stream (Streams request known old new end) (Answers request known old new end)
+abbrev pub IsAnswered : Request → Option Bytes → Option Bytes → Option Bytes → Result (Unit {0}) SessionError → Type 0
+IsAnswered request known old new end = MatchBool request.mode.stream (Streams request known old new end) (Answers request known old new end)
 
 -- a text is printed, but for memory and devices
-abbrev pub PrintsOneText : Option Bytes → Option Bytes → Result (Unit {0}) Ending → Type 0
+abbrev pub PrintsOneText : Option Bytes → Option Bytes → Result (Unit {0}) SessionError → Type 0
 PrintsOneText old new end = (text : Bytes) × Prints old new (text ∷ []) (Ok tt) end
 
 -- this is how a session for refused words ends
-abbrev pub IsForWords : Result (Unit {0}) Ending → Type 0
+abbrev pub IsForWords : Result (Unit {0}) SessionError → Type 0
 IsForWords (Ok done) = ⊥
 IsForWords (Err (Words error)) = Unit {0}
 IsForWords (Err _) = ⊥
 
 -- how a session with these words ends and what it prints, but for memory and devices: as it should for what they tell; or
 -- with nothing read, and help or the version where they ask for it; or with nothing printed either, where they are refused
-abbrev pub EndsBy : List Bytes → Option Bytes → Option Bytes → Option Bytes → Type 0 → Type 0 → Result (Unit {0}) Ending → Type 0
+abbrev pub EndsBy : List Bytes → Option Bytes → Option Bytes → Option Bytes → Type 0 → Type 0 → Result (Unit {0}) SessionError → Type 0
 EndsBy words known old new unread untouched end =
-    ((request : Request) × AsksFor words request × (request.ways.version ≡ false) × IsAnswered request known old new end)
+    ((request : Request) × AsksFor words request × (request.mode.version ≡ false) × IsAnswered request known old new end)
     ⊎ (unread × AsksForText words × PrintsOneText old new end)
-    ⊎ (unread × untouched × ((AreRefused words × IsForWords end) ⊎ (end ≡ Err (endings.Fault NoMemory))))
+    ⊎ (unread × untouched × ((AreRefused words × IsForWords end) ⊎ (end ≡ Err (errors.Fault NoMemory))))
 
 -- a session with these words ends with this status: it has an end that is right as `EndsBy` says, and that is reported
 abbrev pub EndsReported : List Bytes → Option Bytes → Option Bytes → Option Bytes → Option Bytes → Option Bytes → Type 0 → Type 0 → ℕ → Type 0
 EndsReported words known old new err_old err_new unread untouched status =
-    (end : Result (Unit {0}) Ending) × (status ≡ status_of_end end) × EndsBy words known old new unread untouched end × IsReportedAfterProgress words end err_old err_new
+    (end : Result (Unit {0}) SessionError) × (status ≡ status_of_end end) × EndsBy words known old new unread untouched end × IsReportedAfterProgress words end err_old err_new

@@ -1,16 +1,17 @@
-//! The commands that are to run as one batch.
+//! A batch: commands that run together.
 ghost use Rattle.std.specs.Prelude.{◌≡◌, [], length, IfOk, OnOk};
-ghost use Rattle.bwsh.specs.Line.{line_says};
+ghost use Rattle.bwsh.specs.Line.{parse_line};
 ghost use Rattle.bwsh.specs.KeptBatch.{command_in};
 
-use crate::line::{LineReader, Says};
+use crate::line::{Line, LineReader};
 use keys::Command;
 use std::alloc::{AllocError, Global};
 use std::marker::Model;
 use std::{mem, slice};
 
-/// The commands that are to run as one batch, in their order. Contracts see it as their list. A single command is kept as the line that
-/// says it, and read once more when it is to run: a command takes the room of the largest that there is, whatever it says.
+/// The commands of one batch, in order. Contracts see them as a list. A batch of one command keeps
+/// the text of its line and is parsed again when it runs, because a `Command` takes as much memory
+/// as the largest command.
 #[derive(Drop)]
 pub struct Batch {
     kept: KeptBatch,
@@ -18,7 +19,7 @@ pub struct Batch {
 
 #[derive(Drop)]
 enum KeptBatch {
-    Line(Vec<u8>),
+    Unparsed(Vec<u8>),
     Commands(Vec<Command<Global>>),
 }
 
@@ -34,14 +35,15 @@ impl Model for Batch {
 }
 
 impl Batch {
-    /// The batch of the pending commands; none are pending afterwards. The line is the one that said the last of them.
+    /// Moves the pending commands into a batch and leaves `pending` empty. `line` is the line of
+    /// the last of them.
     pub(crate) fn take(
         alloc: Global,
         pending: &mut Vec<Command<Global>>,
         line: &[u8],
     ) -> Result<Self, AllocError>
         requires { length pending.old.items ≡ 1 →
-            pending.old.items ≡ command_in (line_says line.now) }
+            pending.old.items ≡ command_in (parse_line line.now) }
         ensures commands { IfOk result (λ batch. batch ≡ pending.old.items) }
         ensures pending { OnOk result (pending.new.items ≡ []) }
     {
@@ -49,7 +51,7 @@ impl Batch {
             let line = line.to_vec(alloc)?;
             pending.clear();
             return Ok(Batch {
-                kept: KeptBatch::Line(line),
+                kept: KeptBatch::Unparsed(line),
             });
         }
         let mut commands = mem::replace(pending, Vec::new(alloc));
@@ -59,23 +61,23 @@ impl Batch {
         })
     }
 
-    /// The commands of the batch. `AllocError` comes only where memory was refused to a single command.
+    /// Returns the commands. Fails with `AllocError` only for a batch of one command.
     pub fn commands(&self, alloc: Global) -> Result<Commands<'_>, AllocError>
         ensures { IfOk result (λ commands. commands ≡ self.now) }
     {
         match &self.kept {
-            KeptBatch::Line(line) => {
-                let says = LineReader::new(alloc).read(line)?;
-                Ok(Commands::said(says))
+            KeptBatch::Unparsed(line) => {
+                let parsed = LineReader::new(alloc).read(line)?;
+                Ok(Commands::from_line(parsed))
             }
             KeptBatch::Commands(commands) => Ok(Commands {
-                form: Form::Lent(commands),
+                form: Form::Borrowed(commands),
             }),
         }
     }
 }
 
-/// The commands of a batch, to be run. Contracts see it as their list.
+/// The commands of a batch while it runs. Contracts see them as a list.
 #[derive(Drop)]
 pub struct Commands<'a> {
     form: Form<'a>,
@@ -83,8 +85,8 @@ pub struct Commands<'a> {
 
 #[derive(Drop)]
 enum Form<'a> {
-    One(Command<Global>),
-    Lent(&'a [Command<Global>]),
+    Owned(Command<Global>),
+    Borrowed(&'a [Command<Global>]),
 }
 
 impl<'a> Model for Commands<'a> {
@@ -99,27 +101,25 @@ impl<'a> Model for Commands<'a> {
 }
 
 impl<'a> Commands<'a> {
-    // The command that is said, if one is.
-    fn said(says: Says) -> Self
-        ensures { result ≡ command_in says }
+    fn from_line(parsed: Line) -> Self
+        ensures { result ≡ command_in parsed }
     {
-        match says {
-            Says::Command(command) => Commands {
-                form: Form::One(command),
+        match parsed {
+            Line::Command(command) => Commands {
+                form: Form::Owned(command),
             },
             _ => Commands {
-                form: Form::Lent(&[]),
+                form: Form::Borrowed(&[]),
             },
         }
     }
 
-    /// The commands.
     pub fn as_slice(&self) -> &[Command<Global>]
         ensures { result.now ≡ self.now }
     {
         match &self.form {
-            Form::One(command) => slice::from_ref(command),
-            Form::Lent(commands) => commands,
+            Form::Owned(command) => slice::from_ref(command),
+            Form::Borrowed(commands) => commands,
         }
     }
 }

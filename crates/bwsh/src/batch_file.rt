@@ -1,42 +1,41 @@
-//! Batch files.
-ghost use Rattle.std.specs.Prelude.{◌≡◌, ◌∷◌, ◌++◌, [], length, Some, None, IfOk, IfErr, OnOk};
-ghost use Rattle.bwsh.specs.declared.batch_file.TextFault.TheVariants.{Memory};
+//! Batch files: orders parsed from lines of text.
+ghost use Rattle.std.specs.Prelude.{◌≡◌, if◌then◌else◌, ◌∷◌, ◌++◌, [], length, Some, None, IfOk, IfErr, OnOk};
+ghost use Rattle.bwsh.specs.declared.batch_file.ParseError.TheVariants.{Memory};
 ghost use Rattle.bwsh.specs.KeptBatch.{command_in};
-ghost use Rattle.bwsh.specs.Line.{line_says};
-ghost use Rattle.bwsh.specs.BatchFile.{text_says, first_bad, last_order, orders_of, is_flush, writes, IsRightFault};
+ghost use Rattle.bwsh.specs.Line.{is_command, parse_line};
+ghost use Rattle.bwsh.specs.BatchFile.{parse_text, ended_by, first_bad, last_order, orders_of, is_flush, unended, writes, IsRightFault};
 
 use crate::batch::Batch;
-use crate::line::{LineReader, Says, Why};
+use crate::line::{Line, LineReader, Why};
 use bstr::ByteSlice;
 use keys::Command;
 use std::alloc::{AllocError, AllocFailed, Global};
 
-/// What a batch file orders to be done next.
+/// What a session does next.
 #[derive(Drop)]
 pub enum Order {
-    /// To run this batch, which may have no commands.
+    /// Run this batch, which may be empty.
     Batch(Batch),
-    /// To write what the log lacks, and print the sequence number.
+    /// Write the changes to the log, and print the sequence number.
     Flush,
-    /// To free the first segment of the log, and print which is the first now.
+    /// Free the first segment of the log, and print the number of the segment that is first now.
     Clean,
-    /// To bring the log to version 2, and print the sequence number.
+    /// Upgrade the log to version 2, and print the sequence number.
     Upgrade,
-    /// To verify the store, and print its pages, its height and its pairs.
+    /// Check the tree, and print its pages, its height and its pairs.
     Verify,
-    /// To print the numbers of the store. No line orders it.
+    /// Print the statistics of the store. No line of a batch file orders this.
     Numbers,
 }
 
 impl Order {
-    /// Whether it is a flush.
     pub fn is_flush(&self) -> bool
         ensures { result ≡ is_flush self.now }
     {
         matches!(self, Order::Flush)
     }
 
-    /// Whether it writes to the disk of its store.
+    /// Returns whether the order writes to the store's disk.
     pub fn writes(&self) -> bool
         ensures { result ≡ writes self.now }
     {
@@ -44,39 +43,39 @@ impl Order {
     }
 }
 
-/// Why a text is not read.
+/// Why a batch file cannot be parsed.
 #[derive(Clone, Copy, Debug, PartialEq, Eq)]
-pub enum TextFault {
-    /// The first bad line, by its number from 1, and what is wrong with it.
+pub enum ParseError {
+    /// The first bad line, by its number from 1.
     Bad { line: u64, why: Why },
-    /// Memory was refused.
+    /// An allocation failed.
     Memory,
 }
 
-impl From<AllocError> for TextFault {
+impl From<AllocError> for ParseError {
     ghost from_gives = { λ _ fault. fault ≡ Memory };
 
-    fn from(_refused: AllocError) -> TextFault {
-        TextFault::Memory
+    fn from(_refused: AllocError) -> ParseError {
+        ParseError::Memory
     }
 }
 
-impl<T: Drop> From<AllocFailed<T>> for TextFault {
+impl<T: Drop> From<AllocFailed<T>> for ParseError {
     ghost from_gives = { λ _ fault. fault ≡ Memory };
 
-    fn from(_refused: AllocFailed<T>) -> TextFault {
-        TextFault::Memory
+    fn from(_refused: AllocFailed<T>) -> ParseError {
+        ParseError::Memory
     }
 }
 
-// Orders the pending commands to be run, if there are any. None are pending any more. The line is the one that said the last of them.
+// Adds a batch of the pending commands, if there are any. `line` is the line of the last of them.
 fn push_pending(
     alloc: Global,
     pending: &mut Vec<Command<Global>>,
     line: &[u8],
     orders: &mut Vec<Order>,
 ) -> Result<(), AllocError>
-    requires { length pending.old.items ≡ 1 → pending.old.items ≡ command_in (line_says line.now) }
+    requires { length pending.old.items ≡ 1 → pending.old.items ≡ command_in (parse_line line.now) }
     ensures orders { OnOk result
         (orders.new.items ≡ orders.old.items ++ last_order pending.old.items) }
     ensures pending { OnOk result (pending.new.items ≡ []) }
@@ -88,7 +87,24 @@ fn push_pending(
     Ok(())
 }
 
-// Orders the pending commands to be run, if there are any, and then this. None are pending any more.
+// Adds a batch of the pending commands, even if there are none.
+fn push_batch(
+    alloc: Global,
+    pending: &mut Vec<Command<Global>>,
+    line: &[u8],
+    orders: &mut Vec<Order>,
+) -> Result<(), AllocError>
+    requires { length pending.old.items ≡ 1 → pending.old.items ≡ command_in (parse_line line.now) }
+    ensures orders { OnOk result
+        (orders.new.items ≡ orders.old.items ++ Order.Batch pending.old.items ∷ []) }
+    ensures pending { OnOk result (pending.new.items ≡ []) }
+{
+    let batch = Batch::take(alloc, pending, line)?;
+    orders.push(Order::Batch(batch))?;
+    Ok(())
+}
+
+// Adds a batch of the pending commands, if there are any, and then `order`.
 fn push_ended(
     alloc: Global,
     pending: &mut Vec<Command<Global>>,
@@ -96,7 +112,7 @@ fn push_ended(
     order: Order,
     orders: &mut Vec<Order>,
 ) -> Result<(), AllocError>
-    requires { length pending.old.items ≡ 1 → pending.old.items ≡ command_in (line_says line.now) }
+    requires { length pending.old.items ≡ 1 → pending.old.items ≡ command_in (parse_line line.now) }
     ensures orders { OnOk result
         (orders.new.items ≡ orders.old.items ++ last_order pending.old.items ++ order ∷ []) }
     ensures pending { OnOk result (pending.new.items ≡ []) }
@@ -106,37 +122,64 @@ fn push_ended(
     Ok(())
 }
 
-/// What the lines of the text order, all of them. Where a line is bad nothing is ordered: the answer is for the first such line.
-/// `TextFault::Memory` can be the answer to any text.
-pub fn parse(alloc: Global, text: &[u8]) -> Result<Vec<Order>, TextFault>
-    ensures bad { IfErr result (IsRightFault (text_says text.now)) }
-    ensures good { IfOk result (λ _. first_bad 1 (text_says text.now) ≡ None) }
-    ensures orders { IfOk result (λ orders. orders.items ≡ orders_of [] (text_says text.now)) }
+// Adds what a good line orders. A command becomes pending.
+fn push_line(
+    alloc: Global,
+    parsed: Line,
+    pending: &mut Vec<Command<Global>>,
+    last_line: &[u8],
+    orders: &mut Vec<Order>,
+) -> Result<(), AllocError>
+    requires { length pending.old.items ≡ 1 →
+        pending.old.items ≡ command_in (parse_line last_line.now) }
+    ensures orders { OnOk result
+        (orders.new.items ≡ orders.old.items ++ ended_by pending.old.items parsed) }
+    ensures pending { OnOk result
+        (pending.new.items ≡ unended pending.old.items (parsed ∷ [])) }
+{
+    match parsed {
+        Line::Blank => Ok(()),
+        Line::Bad(_) => Ok(()),
+        Line::Command(command) => Ok(pending.push(command)?),
+        Line::Go => push_batch(alloc, pending, last_line, orders),
+        Line::Flush => push_ended(alloc, pending, last_line, Order::Flush, orders),
+        Line::Clean => push_ended(alloc, pending, last_line, Order::Clean, orders),
+        Line::Upgrade => push_ended(alloc, pending, last_line, Order::Upgrade, orders),
+        Line::Verify => push_ended(alloc, pending, last_line, Order::Verify, orders),
+    }
+}
+
+// Returns the line of the last command that was read.
+fn last_command_line<'a>(parsed: &Line, line: &'a [u8], before: &'a [u8]) -> &'a [u8]
+    ensures { result.now ≡ (if is_command parsed.now then line.entry.now else before.entry.now) }
+{
+    match parsed {
+        Line::Command(_) => line,
+        _ => before,
+    }
+}
+
+/// Parses a batch file. Fails with the first bad line, or with `ParseError::Memory`.
+pub fn parse(alloc: Global, text: &[u8]) -> Result<Vec<Order>, ParseError>
+    ensures bad { IfErr result (IsRightFault (parse_text text.now)) }
+    ensures good { IfOk result (λ _. first_bad 1 (parse_text text.now) ≡ None) }
+    ensures orders { IfOk result (λ orders. orders.items ≡ orders_of [] (parse_text text.now)) }
 {
     let mut reader = LineReader::new(alloc);
     let mut orders = Vec::new(alloc);
     let mut pending = Vec::new(alloc);
-    let mut said: &[u8] = &[];
-    let mut line: u64 = 0;
+    let mut last_line: &[u8] = &[];
+    let mut number: u64 = 0;
     for bytes in text.lines() {
-        line += 1;
-        match reader.read(bytes)? {
-            Says::Nothing => {}
-            Says::Command(command) => {
-                pending.push(command)?;
-                said = bytes;
-            }
-            Says::Go => {
-                let batch = Batch::take(alloc, &mut pending, said)?;
-                orders.push(Order::Batch(batch))?;
-            }
-            Says::Flush => push_ended(alloc, &mut pending, said, Order::Flush, &mut orders)?,
-            Says::Clean => push_ended(alloc, &mut pending, said, Order::Clean, &mut orders)?,
-            Says::Upgrade => push_ended(alloc, &mut pending, said, Order::Upgrade, &mut orders)?,
-            Says::Verify => push_ended(alloc, &mut pending, said, Order::Verify, &mut orders)?,
-            Says::Bad(why) => return Err(TextFault::Bad { line, why }),
+        number += 1;
+        let parsed = reader.read(bytes)?;
+        if let Some(why) = parsed.bad() {
+            return Err(ParseError::Bad { line: number, why });
         }
+        let command_line = last_command_line(&parsed, bytes, last_line);
+        push_line(alloc, parsed, &mut pending, last_line, &mut orders)?;
+        last_line = command_line;
     }
-    push_pending(alloc, &mut pending, said, &mut orders)?;
+    push_pending(alloc, &mut pending, last_line, &mut orders)?;
     Ok(orders)
 }

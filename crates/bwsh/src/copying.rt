@@ -1,4 +1,5 @@
-//! The copy that a session leaves: its file is looked at before anything is run, and filled once all is done.
+//! The copy of the store that a session writes. Its file is opened and checked before anything
+//! runs, and written last.
 ghost use Rattle.std.specs.Prelude.{◌≡◌, ◌≤◌, false, None, Ok, IfOk, IfErr, IfSome, IsTrue, OnOk};
 ghost use Rattle.std.specs.Option.{option_map};
 ghost use Rattle.crew.specs.Crew.{is_crew};
@@ -11,12 +12,12 @@ ghost use Rattle.bwsh.specs.Options.{copy_of, request_of};
 ghost use Rattle.bwsh.specs.Session.{CopiesTo, IsCopyEnd, IsUncopied, Shows};
 
 use crate::meter::{Meter, Metered};
-use crate::notes::{Notes, Reasoned, Source};
+use crate::notes::{LastError, Notes, Source};
 use crate::opening::store_fault;
 use crate::options::Options;
 use crate::progress::{LongCall, Progress, Reports};
-use crate::session::Ending;
-use crate::watching::watched;
+use crate::session::SessionError;
+use crate::watching::run_watched;
 use engine::{Crew, Disk, FileDisk, LockFile, Store};
 use flush_log::disk_size;
 use keys::Settings;
@@ -28,7 +29,7 @@ use std::sync::Wait;
 use std::thread::Threads;
 use std::time::Clock;
 
-/// The file of a copy that is to be made, and the settings of the store in it. The file is held, and has no bytes.
+/// An empty, locked file for a copy, and the settings of the copy.
 #[derive(Drop)]
 pub(crate) struct Copying<'a, F> {
     path: &'a str,
@@ -36,8 +37,9 @@ pub(crate) struct Copying<'a, F> {
     settings: Settings,
 }
 
-// The file for a copy, which is held and has no bytes. One that has some stays as it was. The length of the copy is set once and taken
-// back: so a file that can't be so long, or is none that has a length, is seen now.
+// Opens and locks the file of a copy. Fails if the file has any bytes, and leaves them as they
+// were. The file is extended to the copy's length and truncated again, so that a device without
+// room, or a file without a length, is found before anything runs.
 fn empty_file<R: Files>(rt: &R, path: &str, settings: Settings) -> io::Result<R::File>
 where
     R::File: LockFile,
@@ -55,8 +57,8 @@ where
     Ok(file)
 }
 
-// The disk of the file for a copy, with room for a store of these settings. A file that got bytes meanwhile stays as it is: a stream of the
-// session may go there.
+// Extends the file to the size of a store. Fails if the file has bytes by now: a stream of the
+// session may have been redirected to it.
 fn disk_with_room<F: Read + Write + Seek + OpenFile + LockFile + Drop>(
     file: F,
     settings: &Settings,
@@ -72,12 +74,13 @@ fn disk_with_room<F: Read + Write + Seek + OpenFile + LockFile + Drop>(
     disk.zeroed(disk_size(settings))
 }
 
-// What a copy of this session needs, if it is to leave one. Where the settings are refused no file is opened.
-pub(crate) fn new_copy<'a, R: Files>(
+// Prepares the copy that the command line asks for, if it asks for one. Opens no file if the
+// settings are refused.
+pub(crate) fn prepare_copy<'a, R: Files>(
     rt: &R,
     request: &'a Options,
     notes: &mut Notes,
-) -> Result<Option<Copying<'a, R::File>>, Ending>
+) -> Result<Option<Copying<'a, R::File>>, SessionError>
 where
     R::File: LockFile,
     ensures asked { IfOk result
@@ -99,24 +102,25 @@ where
             settings,
         })),
         Err(reason) => {
-            notes.failed(Source::Copy, Some(reason));
-            Err(Ending::Device)
+            notes.record_failure(Source::Copy, Some(reason));
+            Err(SessionError::Device)
         }
     }
 }
 
-// Copies the store onto a disk that has room for it, under these settings, and returns the copy, which is flushed; or why there is none, and the disk.
-fn store_copied<R: Threads + Sync, D: Disk, E: Disk>(
+// Copies the store to a disk that is large enough, and flushes the copy. Returns the disk if this
+// fails.
+fn copy_store<R: Threads + Sync, D: Disk, E: Disk>(
     rt: &R,
     crew: Crew,
     store: &Store<D>,
     disk: E,
     settings: Settings,
-) -> Result<Store<E>, (Ending, E)>
+) -> Result<Store<E>, (SessionError, E)>
     requires crew { IsTrue (is_crew crew) }
     requires good { first_bad_field settings ≡ None }
     requires room { disk_size settings ≤ (E.view disk).size }
-    // It holds the same, under the settings; and an honest disk stands for this very store, and is settled.
+    // The copy holds the same pairs. A disk that keeps what was synced holds exactly this store.
     ensures made { IfOk result (λ copy.
         (copy.settings ≡ settings) × (copy.has_failed ≡ false)) }
     ensures contents { IfOk result (λ copy.
@@ -133,8 +137,8 @@ fn store_copied<R: Threads + Sync, D: Disk, E: Disk>(
     }
 }
 
-// The same while another thread shows how far it is, by the meter.
-fn copied_watched<R: Threads + Wait + Sync + Clock, D: Disk, C: Disk + Drop, E: Write + Send>(
+// Like `copy_store`, while another thread shows progress.
+fn copy_watched<R: Threads + Wait + Sync + Clock, D: Disk, C: Disk + Drop, E: Write + Send>(
     rt: &R,
     crew: Crew,
     store: &Store<D>,
@@ -144,7 +148,7 @@ fn copied_watched<R: Threads + Wait + Sync + Clock, D: Disk, C: Disk + Drop, E: 
     meter: &Meter,
     progress: &mut Progress,
     err: &mut E,
-) -> Result<Store<C>, (Ending, C)>
+) -> Result<Store<C>, (SessionError, C)>
     requires crew { IsTrue (is_crew crew) }
     requires good { first_bad_field settings ≡ None }
     requires room { disk_size settings ≤ (C.view disk).size }
@@ -153,16 +157,17 @@ fn copied_watched<R: Threads + Wait + Sync + Clock, D: Disk, C: Disk + Drop, E: 
     ensures shows { Shows E.contents progress.old.is_shown err.old
         progress.new.is_shown err.new }
 {
-    let fill = move || -> Result<Store<C>, (Ending, C)>
+    let fill = move || -> Result<Store<C>, (SessionError, C)>
         requires { IsTrue (is_crew crew) × (first_bad_field settings ≡ None)
             × (disk_size settings ≤ (C.view disk).size) }
         ensures { IfErr result
             (λ e. IsCopyEnd settings (contents store.entry.now.store.tree) e.0) }
-    { store_copied(rt, crew, store, disk, settings) };
-    watched(rt, meter, LongCall::Copying(path), progress, err, fill)
+    { copy_store(rt, crew, store, disk, settings) };
+    run_watched(rt, meter, LongCall::Copying(path), progress, err, fill)
 }
 
-// Copies the store into the file. Where that is refused the file has no bytes again, where its length can still be set.
+// Copies the store into the file. After a failure the file is truncated to no bytes, if that is
+// still possible.
 fn copy_into<
     R: Threads + Wait + Sync + Clock,
     D: Disk,
@@ -175,7 +180,7 @@ fn copy_into<
     copy: Copying<'_, F>,
     reports: &mut Reports,
     err: &mut E,
-) -> Result<(), Ending>
+) -> Result<(), SessionError>
     requires crew { IsTrue (is_crew crew) }
     requires good { first_bad_field copy.settings ≡ None }
     ensures refused { IfErr result
@@ -191,25 +196,27 @@ fn copy_into<
     let disk = match disk_with_room(file, &settings) {
         Ok(disk) => disk,
         Err(reason) => {
-            reports.notes.failed(Source::Copy, Some(reason));
-            return Err(Ending::Device);
+            reports.notes.record_failure(Source::Copy, Some(reason));
+            return Err(SessionError::Device);
         }
     };
     let meter = Meter::new();
     let disk = Metered::new(disk, &meter);
     let progress = &mut reports.progress;
-    match copied_watched(rt, crew, store, path, disk, settings, &meter, progress, err) {
+    match copy_watched(rt, crew, store, path, disk, settings, &meter, progress, err) {
         Ok(_copy) => Ok(()),
         Err(refused) => {
-            reports.notes.failed(Source::Copy, refused.1.reason());
+            reports
+                .notes
+                .record_failure(Source::Copy, refused.1.reason());
             let _emptied = refused.1.into_inner().zeroed(0);
             Err(refused.0)
         }
     }
 }
 
-// Leaves the copy of the store that the session is asked for, if it is.
-pub(crate) fn leave_copy<
+// Writes the copy, if the session is to leave one.
+pub(crate) fn write_copy<
     R: Threads + Wait + Sync + Clock,
     D: Disk,
     F: Read + Write + Seek + OpenFile + LockFile + Drop,
@@ -221,7 +228,7 @@ pub(crate) fn leave_copy<
     copy: Option<Copying<'_, F>>,
     reports: &mut Reports,
     err: &mut E,
-) -> Result<(), Ending>
+) -> Result<(), SessionError>
     requires crew { IsTrue (is_crew crew) }
     requires good { IfSome copy (λ c. first_bad_field c.settings ≡ None) }
     ensures copies { CopiesTo (option_map (λ c. c.settings) copy.entry)
@@ -232,7 +239,7 @@ pub(crate) fn leave_copy<
     let Some(copy) = copy else {
         return Ok(());
     };
-    reports.notes.copying();
-    reports.progress.copying(copy.path, err);
+    reports.notes.begin_copy();
+    reports.progress.show_copying(copy.path, err);
     copy_into(rt, crew, store, copy, reports, err)
 }

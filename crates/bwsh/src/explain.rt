@@ -1,252 +1,263 @@
-//! The second line on standard error: where an end came from, and what to do.
+//! The second line on standard error: where an error came from, and what to do about it.
 use crate::line::Why;
 use crate::notes::{Notes, OrderLines, Source};
 use crate::options::Options;
-use crate::session::Ending;
+use crate::session::SessionError;
 use keys::Fault;
 use std::alloc::{AllocError, Global};
 use std::io;
 use std::io::ErrorKind;
 
-// What to do about the file of the store where a call failed for this reason.
-fn advice(asked: &Options, reason: &io::Error) -> &'static str {
+fn file_advice(asked: &Options, reason: &io::Error) -> &'static str {
     match reason.kind() {
-        ErrorKind::NotFound => "; --create makes a new store there",
+        ErrorKind::NotFound => " Use --create to create a store there.",
         ErrorKind::PermissionDenied => {
-            "; a session that flushes, cleans, upgrades or creates has to be allowed to write it"
+            " A session that flushes, cleans, upgrades or creates needs permission to write the file."
         }
-        ErrorKind::ReadOnlyFilesystem => "; a store there can only be read",
+        ErrorKind::ReadOnlyFilesystem => " A session can only read the store there.",
         ErrorKind::WouldBlock if asked.copy_to.is_some() => {
-            "; another program holds or shares it, or it is the file of --copy-to too"
+            " Another program has locked the file, or it is the file of --copy-to too."
         }
-        ErrorKind::WouldBlock => "; another program holds or shares it: wait until that has ended",
-        ErrorKind::StorageFull => "; its device has no room left",
-        ErrorKind::IsADirectory => "; a store stands in a file",
+        ErrorKind::WouldBlock => " Another program has locked the file. Wait until it ends.",
+        ErrorKind::StorageFull => " Free some space on its device.",
+        ErrorKind::IsADirectory => " A store has to be a file.",
         _ => "",
     }
 }
 
-// What to do about the file of a copy where a call failed for this reason.
 fn copy_advice(reason: &io::Error) -> &'static str {
     match reason.kind() {
         ErrorKind::AlreadyExists => {
-            "; what stands there stays as it was: a copy takes a path where nothing stands, or an empty file"
+            " The file was left as it was. A copy needs a path without a file, or an empty file."
         }
-        ErrorKind::NotFound => "; the folder of a copy has to be there",
-        ErrorKind::PermissionDenied => "; the file of a copy has to be one that can be written",
-        ErrorKind::WouldBlock => "; another program holds or shares it",
-        ErrorKind::StorageFull => "; its device has no room left",
-        ErrorKind::IsADirectory => "; a copy stands in a file",
+        ErrorKind::NotFound => " The directory of a copy has to exist.",
+        ErrorKind::PermissionDenied => " A copy needs permission to write its file.",
+        ErrorKind::WouldBlock => " Another program has locked the file.",
+        ErrorKind::StorageFull => " Free some space on its device.",
+        ErrorKind::IsADirectory => " A copy has to be a file.",
         _ => "",
     }
 }
 
-// How much was done before the copy failed.
-fn before_copy(notes: &Notes) -> &'static str {
+fn done_before_copy(notes: &Notes) -> &'static str {
     if notes.is_copying() {
-        "all orders are done, but the store is not copied"
+        "All orders are done, but there is no copy."
     } else {
-        "nothing was run"
+        "Nothing was run."
     }
 }
 
-// The path of the copy.
 fn copy_path(asked: &Options) -> &str {
     asked.copy_to.as_deref().unwrap_or("the copy")
 }
 
-// A call of the copy's file failed for this reason.
-fn of_copy_file(
+fn explain_copy_file(
     alloc: Global,
     asked: &Options,
     notes: &Notes,
     reason: &io::Error,
 ) -> Result<String, AllocError> {
     let (path, advice) = (copy_path(asked), copy_advice(reason));
-    format!(in alloc; "{path}: {reason}{advice}; {}\n", before_copy(notes))
+    format!(in alloc; "{path}: {reason}.{advice} {}\n", done_before_copy(notes))
 }
 
-// What to do about a fault of the copy.
-fn rule_of_copy(fault: &Fault) -> &'static str {
+fn copy_rule(fault: &Fault) -> &'static str {
     match fault {
-        Fault::KeyTooLong(_) => "a key is too long for it; it takes a greater --max-key",
-        Fault::ValueTooLong(_) => "a value is too long for it; it takes a greater --max-value",
+        Fault::KeyTooLong(_) => "A key is too long for the copy. Use a larger --max-key.",
+        Fault::ValueTooLong(_) => "A value is too long for the copy. Use a larger --max-value.",
         Fault::Full => {
-            "its log has no room for all pairs; it takes more --segments, or a greater --seg-size"
+            "The log of the copy has no room for all pairs. Use more --segments or a larger --seg-size."
         }
-        Fault::NoMemory => "there was not enough memory",
-        Fault::Spent => "it needs more levels than a store can have; it takes a greater --fan",
-        _ => "its settings are refused",
+        Fault::NoMemory => "There was not enough memory.",
+        Fault::Spent => "The copy needs more levels than a store can have. Use a larger --fan.",
+        _ => "The settings of the copy are refused.",
     }
 }
 
-// The copy was refused by this fault.
-fn of_copy(
+fn explain_copy(
     alloc: Global,
     asked: &Options,
     notes: &Notes,
     fault: &Fault,
 ) -> Result<String, AllocError> {
-    let (path, rule) = (copy_path(asked), rule_of_copy(fault));
-    format!(in alloc; "{path}: {}: {rule}\n", before_copy(notes))
+    let (path, rule) = (copy_path(asked), copy_rule(fault));
+    format!(in alloc; "{path}: {rule} {}\n", done_before_copy(notes))
 }
 
-// The path of the store.
-fn path(asked: &Options) -> &str {
+fn store_path(asked: &Options) -> &str {
     asked.disk.as_deref().unwrap_or("the store in memory")
 }
 
-// A call failed. Only of the output no reason is noted.
-fn of_failure(alloc: Global, asked: &Options, notes: &mut Notes) -> Result<String, AllocError> {
+// Only a failure of standard output has no recorded reason.
+fn explain_failure(
+    alloc: Global,
+    asked: &Options,
+    notes: &mut Notes,
+) -> Result<String, AllocError> {
     match notes.failure() {
         None => format!(in alloc;
-            "standard output could not be written; not all answers stand there\n"
+            "Standard output could not be written. Some answers are missing.\n"
         ),
-        Some((Source::Input, reason)) => format!(in alloc; "standard input: {reason}\n"),
+        Some((Source::Input, reason)) => format!(in alloc; "standard input: {reason}.\n"),
         Some((Source::File, reason)) => {
-            format!(in alloc; "{}: {reason}{}\n", path(asked), advice(asked, &reason))
+            format!(in alloc;
+                "{}: {reason}.{}\n",
+                store_path(asked),
+                file_advice(asked, &reason)
+            )
         }
-        Some((Source::Copy, reason)) => of_copy_file(alloc, asked, notes, &reason),
+        Some((Source::Copy, reason)) => explain_copy_file(alloc, asked, notes, &reason),
     }
 }
 
-// The command at this place of a batch is refused, since it has this.
-fn of_command(
+// Explains why a batch was refused for the command at `place`, which has `what`.
+fn explain_command(
     alloc: Global,
     lines: &OrderLines,
     place: usize,
     what: &str,
 ) -> Result<String, AllocError> {
     let end = lines.end;
-    match lines.command(place) {
+    match lines.line_of_command(place) {
         Some(line) => format!(in alloc;
-            "the batch that line {end} ended was not run: the command in line {line} has {what} for this store\n"
+            "The batch that line {end} ended was not run. The command in line {line} has {what} of this store.\n"
         ),
         None => format!(in alloc;
-            "the batch that line {end} ended was not run: one of its commands has {what} for this store\n"
+            "The batch that line {end} ended was not run. One of its commands has {what} of this store.\n"
         ),
     }
 }
 
-// A fault of the order that has these lines, where it is one of an order.
-fn of_order(
-    alloc: Global,
-    lines: &OrderLines,
-    fault: &Fault,
-) -> Result<Option<String>, AllocError> {
-    let end = lines.end;
-    Ok(Some(match fault {
-        Fault::KeyTooLong(place) => of_command(alloc, lines, *place, "a key that is too long")?,
-        Fault::ValueTooLong(place) => of_command(alloc, lines, *place, "a value that is too long")?,
-        Fault::BatchTooLong => format!(in alloc;
-            "the batch that line {end} ended was not run: it has more than 65535 commands; \
-            divide it by lines go\n"
-        )?,
-        Fault::NoMemory => format!(in alloc;
-            "line {end}: there was not enough memory for what it orders; smaller batches need less\n"
-        )?,
-        Fault::Full => format!(in alloc;
-            "line {end}: the log has no room for its flush; a line clean before it makes some, \
-            as --clean-when-full does, unless all that the log holds is in use: then the store needs a larger log\n"
-        )?,
-        Fault::NothingToClean => format!(in alloc;
-            "line {end}: the log is in one segment, so there is nothing to clean\n"
-        )?,
-        Fault::AlreadyUpgraded => format!(in alloc; "line {end}: the log has version 2 already\n")?,
-        Fault::Spent => format!(in alloc;
-            "line {end}: what it orders needs more levels or greater numbers than a store can have\n"
-        )?,
-        _ => return Ok(None),
-    }))
+// Returns whether an order can end with this fault.
+fn is_order_fault(fault: &Fault) -> bool {
+    matches!(
+        fault,
+        Fault::KeyTooLong(_)
+            | Fault::ValueTooLong(_)
+            | Fault::BatchTooLong
+            | Fault::NoMemory
+            | Fault::Full
+            | Fault::NothingToClean
+            | Fault::AlreadyUpgraded
+            | Fault::Spent
+    )
 }
 
-// A fault of the start of a session.
-fn of_start(alloc: Global, asked: &Options, fault: &Fault) -> Result<String, AllocError> {
+fn order_rule(fault: &Fault) -> &'static str {
+    match fault {
+        Fault::NoMemory => "There was not enough memory to run it. Smaller batches need less.",
+        Fault::Full => {
+            "The log has no room for the flush. A line clean in front of it makes room, as --clean-when-full does. \
+            If all of the log is in use, copy the store with --copy-to to a file with a larger log."
+        }
+        Fault::NothingToClean => "The log is in one segment, so there is nothing to clean.",
+        Fault::AlreadyUpgraded => "The log has version 2 already.",
+        _ => "It needs more levels or larger numbers than a store can have.",
+    }
+}
+
+fn explain_order(alloc: Global, lines: &OrderLines, fault: &Fault) -> Result<String, AllocError> {
+    let end = lines.end;
+    match fault {
+        Fault::KeyTooLong(place) => {
+            explain_command(alloc, lines, *place, "a key that is longer than max-key")
+        }
+        Fault::ValueTooLong(place) => {
+            explain_command(
+                alloc,
+                lines,
+                *place,
+                "a value that is longer than max-value",
+            )
+        }
+        Fault::BatchTooLong => format!(in alloc;
+            "The batch that line {end} ended was not run. It has more than 65535 commands. Divide it by lines go.\n"
+        ),
+        _ => format!(in alloc; "line {end}: {}\n", order_rule(fault)),
+    }
+}
+
+fn explain_start(alloc: Global, asked: &Options, fault: &Fault) -> Result<String, AllocError> {
     match fault {
         Fault::BadSettings(field) => format!(in alloc;
-            "nothing was run: --help has the range of {field}, and what a segment has to hold\n"
+            "Nothing was run. --help has the range of {field}. A segment has to hold a full page of the longest keys and values.\n"
         ),
         Fault::BadCrew => format!(in alloc;
-            "nothing was run: --workers takes 1 to 64, and --grain 1 to 65535\n"
+            "Nothing was run. --workers takes 1 to 64, and --grain takes 1 to 65535.\n"
         ),
-        Fault::NoMemory => format!(in alloc; "nothing was run: there was not enough memory\n"),
+        Fault::NoMemory => format!(in alloc; "Nothing was run. There was not enough memory.\n"),
         _ => format!(in alloc;
-            "{}: no store stands there, or a damaged one, and it is as it was; \
-            --create makes a new one, and what stands there is lost\n",
-            path(asked)
+            "{}: The file holds no store, or a damaged one, and was left as it was. \
+            With --create a new store replaces what it holds.\n",
+            store_path(asked)
         ),
     }
 }
 
-// A fault of the store.
-fn of_fault(
+fn explain_fault(
     alloc: Global,
     asked: &Options,
     notes: &mut Notes,
     fault: &Fault,
 ) -> Result<String, AllocError> {
     if notes.is_copying() {
-        return of_copy(alloc, asked, notes, fault);
+        return explain_copy(alloc, asked, notes, fault);
     }
-    if let Some(line) = notes.unread() {
-        return format!(in alloc; "line {line}: there was not enough memory to read it\n");
+    if let Some(line) = notes.unread_line() {
+        return format!(in alloc; "line {line}: There was not enough memory to read it.\n");
     }
-    if let Some(lines) = notes.lines() {
-        if let Some(text) = of_order(alloc, &lines, fault)? {
-            return Ok(text);
+    if is_order_fault(fault) {
+        if let Some(lines) = notes.order_lines() {
+            return explain_order(alloc, &lines, fault);
         }
     }
-    of_start(alloc, asked, fault)
+    explain_start(alloc, asked, fault)
 }
 
-// What a line of this kind has to be.
-fn rule(why: Why) -> &'static str {
+fn line_rule(why: Why) -> &'static str {
     match why {
-        Why::UnknownCommand => "a line begins with a command that --help lists, or with #",
-        Why::WordCount => "--help lists the words that a command takes, and %20 is a blank in one",
-        Why::BadToken =>
-            "words are of printed ASCII, and %XX is the byte of two hexadecimal digits",
-        Why::BadNumber => "a limit is a number from 0 to 4294967295",
+        Why::UnknownCommand => "A line begins with a command that --help lists, or with #.",
+        Why::WordCount => "--help lists the words of each command. In a word, %20 is a space.",
+        Why::BadToken => "Words are printable ASCII, and two hexadecimal digits follow each %.",
+        Why::BadNumber => "A limit is a number from 0 to 4294967295.",
     }
 }
 
-// A bad line.
-fn of_line(alloc: Global, asked: &Options, why: Why) -> Result<String, AllocError> {
-    let before = if asked.ways.stream {
-        "what was ended before it is done"
+fn explain_bad_line(alloc: Global, asked: &Options, why: Why) -> Result<String, AllocError> {
+    let before = if asked.mode.stream {
+        "The orders in front of it are done."
     } else {
-        "nothing was run"
+        "Nothing was run."
     };
-    format!(in alloc; "{before}: {}\n", rule(why))
+    format!(in alloc; "{before} {}\n", line_rule(why))
 }
 
-// The explanation of this end.
-fn text_of(
+fn explain_error(
     alloc: Global,
     asked: &Options,
     notes: &mut Notes,
-    ending: &Ending,
+    error: &SessionError,
 ) -> Result<String, AllocError> {
-    match ending {
-        Ending::Words(_) => Ok(String::new(alloc)),
-        Ending::Bad { line: _, why } => of_line(alloc, asked, *why),
-        Ending::Fault(fault) => of_fault(alloc, asked, notes, fault),
-        Ending::Device => of_failure(alloc, asked, notes),
+    match error {
+        SessionError::Words(_) => Ok(String::new(alloc)),
+        SessionError::Bad { line: _, why } => explain_bad_line(alloc, asked, *why),
+        SessionError::Fault(fault) => explain_fault(alloc, asked, notes, fault),
+        SessionError::Device => explain_failure(alloc, asked, notes),
     }
 }
 
-/// The explanation of an end, with its line feed: where it came from, and what to do. It is empty where all is done, where the words
-/// are refused, and where memory for it is refused.
+/// Returns a line that explains how the session ended, with its line feed. It is empty if the
+/// session succeeded, if the command line was refused, or if an allocation for it fails.
 #[inline(never)]
-pub fn explained(
+pub fn explanation(
     alloc: Global,
     asked: &Options,
     notes: &mut Notes,
-    done: &Result<(), Ending>,
+    done: &Result<(), SessionError>,
 ) -> String {
     match done {
         Ok(()) => String::new(alloc),
-        Err(ending) => match text_of(alloc, asked, notes, ending) {
+        Err(error) => match explain_error(alloc, asked, notes, error) {
             Ok(text) => text,
             Err(_refused) => String::new(alloc),
         },

@@ -1,8 +1,8 @@
-//! What a line of a batch file says.
+//! The lines of a batch file.
 ghost use Rattle.std.specs.Prelude.{◌≡◌, Some, IfOk};
 ghost use Rattle.bwsh.specs.Token.{token_bytes};
 ghost use Rattle.bwsh.specs.Words.{words_of};
-ghost use Rattle.bwsh.specs.Line.{only_key, key_and_value, bound_of, scan_says, wipe_says, alone, bad_of, order_says, command_says, line_says, why_text};
+ghost use Rattle.bwsh.specs.Line.{only_key, key_and_value, bound_of, parse_scan, parse_wipe, if_alone, bad_of, parse_order, parse_command, parse_line, why_text};
 
 use crate::number::number_in;
 use crate::token::unescape;
@@ -11,16 +11,16 @@ use keys::{Command, Key, Value};
 use std::alloc::{AllocError, Global};
 use std::fmt;
 
-/// What is wrong with a line. It prints in words.
+/// What is wrong with a line. It is printed in words.
 #[derive(Clone, Copy, Debug, PartialEq, Eq)]
 pub enum Why {
-    /// The first word names no command.
+    /// The first word is no command.
     UnknownCommand,
-    /// The command has another number of words.
+    /// The command takes another number of words.
     WordCount,
-    /// A word that should stand for bytes does not.
+    /// A word does not encode a byte string.
     BadToken,
-    /// A word that should write a number does not.
+    /// A word that has to be a number is not one.
     BadNumber,
 }
 
@@ -37,40 +37,39 @@ impl fmt::Display for Why {
     }
 }
 
-/// What a line says.
+/// A parsed line.
 #[derive(Drop)]
-pub enum Says {
-    /// It has no words, or is a comment.
-    Nothing,
-    /// A command of the pending batch.
+pub enum Line {
+    /// A line without words, or a comment.
+    Blank,
+    /// A command, which becomes pending.
     Command(Command<Global>),
-    /// The pending batch is to run.
+    /// Run the pending commands as one batch.
     Go,
-    /// The pending batch is to run, if it has commands, and then the store is to be flushed.
+    /// Run the pending commands, if there are any, and flush the store.
     Flush,
-    /// The pending batch is to run, if it has commands, and then the log is to be cleaned.
+    /// Run the pending commands, if there are any, and clean the log.
     Clean,
-    /// The pending batch is to run, if it has commands, and then the log is to be brought to version 2.
+    /// Run the pending commands, if there are any, and upgrade the log to version 2.
     Upgrade,
-    /// The pending batch is to run, if it has commands, and then the store is to be verified.
+    /// Run the pending commands, if there are any, and verify the store.
     Verify,
-    /// It is no line of a batch file.
+    /// Not a line of a batch file.
     Bad(Why),
 }
 
-impl Says {
-    /// What is wrong with the line, if it is bad.
+impl Line {
     pub fn bad(&self) -> Option<Why>
         ensures { result ≡ bad_of self.now }
     {
         match self {
-            Says::Bad(why) => Some(*why),
+            Line::Bad(why) => Some(*why),
             _ => None,
         }
     }
 }
 
-/// Reads lines. It keeps the memory in which it takes the escapes out of a token.
+/// Parses lines. It reuses one buffer for the bytes of a word.
 #[derive(Drop)]
 pub struct LineReader {
     alloc: Global,
@@ -78,7 +77,7 @@ pub struct LineReader {
 }
 
 impl LineReader {
-    /// A reader that has read nothing. It takes no memory.
+    /// Creates a reader. It does not allocate.
     pub fn new(alloc: Global) -> Self {
         LineReader {
             alloc,
@@ -104,7 +103,6 @@ impl LineReader {
         Ok(Some(Value::from_bytes(self.alloc, &self.bytes)?))
     }
 
-    // The key that the words after a command are.
     fn only_key(&mut self, words: &[u8]) -> Result<Result<Key<Global>, Why>, AllocError>
         ensures { IfOk result (λ key. key ≡ only_key (words_of words.now)) }
     {
@@ -114,7 +112,6 @@ impl LineReader {
         Ok(self.key(token)?.ok_or(Why::BadToken))
     }
 
-    // The key and the value that the words after a command are.
     fn key_and_value(
         &mut self,
         words: &[u8],
@@ -133,7 +130,7 @@ impl LineReader {
         Ok(Ok((key, value)))
     }
 
-    // The upper bound that the token stands for.
+    // Parses an upper bound: a key, or `*` for none.
     fn bound(&mut self, token: &[u8]) -> Result<Option<Option<Key<Global>>>, AllocError>
         ensures { IfOk result (λ bound. bound ≡ bound_of token.now) }
     {
@@ -143,67 +140,64 @@ impl LineReader {
         Ok(self.key(token)?.map(Some))
     }
 
-    // What is said by these words after `scan`.
-    fn scan(&mut self, words: &[u8]) -> Result<Says, AllocError>
-        ensures { IfOk result (λ says. says ≡ scan_says (words_of words.now)) }
+    fn scan(&mut self, words: &[u8]) -> Result<Line, AllocError>
+        ensures { IfOk result (λ parsed. parsed ≡ parse_scan (words_of words.now)) }
     {
         let Some((lo, hi, limit)) = three_words(words) else {
-            return Ok(Says::Bad(Why::WordCount));
+            return Ok(Line::Bad(Why::WordCount));
         };
         let Some(lo) = self.key(lo)? else {
-            return Ok(Says::Bad(Why::BadToken));
+            return Ok(Line::Bad(Why::BadToken));
         };
         let Some(hi) = self.bound(hi)? else {
-            return Ok(Says::Bad(Why::BadToken));
+            return Ok(Line::Bad(Why::BadToken));
         };
         let Some(limit) = number_in(limit) else {
-            return Ok(Says::Bad(Why::BadNumber));
+            return Ok(Line::Bad(Why::BadNumber));
         };
-        Ok(Says::Command(Command::Scan(lo, hi, limit)))
+        Ok(Line::Command(Command::Scan(lo, hi, limit)))
     }
 
-    // What is said by these words after `wipe`.
-    fn wipe(&mut self, words: &[u8]) -> Result<Says, AllocError>
-        ensures { IfOk result (λ says. says ≡ wipe_says (words_of words.now)) }
+    fn wipe(&mut self, words: &[u8]) -> Result<Line, AllocError>
+        ensures { IfOk result (λ parsed. parsed ≡ parse_wipe (words_of words.now)) }
     {
         let Some((lo, hi)) = two_words(words) else {
-            return Ok(Says::Bad(Why::WordCount));
+            return Ok(Line::Bad(Why::WordCount));
         };
         let Some(lo) = self.key(lo)? else {
-            return Ok(Says::Bad(Why::BadToken));
+            return Ok(Line::Bad(Why::BadToken));
         };
         let Some(hi) = self.bound(hi)? else {
-            return Ok(Says::Bad(Why::BadToken));
+            return Ok(Line::Bad(Why::BadToken));
         };
-        Ok(Says::Command(Command::Wipe(lo, hi)))
+        Ok(Line::Command(Command::Wipe(lo, hi)))
     }
 
-    // What is said by this word and those after it.
-    fn command(&mut self, word: &[u8], words: &[u8]) -> Result<Says, AllocError>
-        ensures { IfOk result (λ says. says ≡ command_says word.now (words_of words.now)) }
+    fn command(&mut self, word: &[u8], words: &[u8]) -> Result<Line, AllocError>
+        ensures { IfOk result (λ parsed. parsed ≡ parse_command word.now (words_of words.now)) }
     {
         if word == b"put".as_slice() {
             return Ok(match self.key_and_value(words)? {
-                Ok((key, value)) => Says::Command(Command::Put(key, value)),
-                Err(why) => Says::Bad(why),
+                Ok((key, value)) => Line::Command(Command::Put(key, value)),
+                Err(why) => Line::Bad(why),
             });
         }
         if word == b"add".as_slice() {
             return Ok(match self.key_and_value(words)? {
-                Ok((key, value)) => Says::Command(Command::Add(key, value)),
-                Err(why) => Says::Bad(why),
+                Ok((key, value)) => Line::Command(Command::Add(key, value)),
+                Err(why) => Line::Bad(why),
             });
         }
         if word == b"get".as_slice() {
             return Ok(match self.only_key(words)? {
-                Ok(key) => Says::Command(Command::Get(key)),
-                Err(why) => Says::Bad(why),
+                Ok(key) => Line::Command(Command::Get(key)),
+                Err(why) => Line::Bad(why),
             });
         }
         if word == b"del".as_slice() {
             return Ok(match self.only_key(words)? {
-                Ok(key) => Says::Command(Command::Del(key)),
-                Err(why) => Says::Bad(why),
+                Ok(key) => Line::Command(Command::Del(key)),
+                Err(why) => Line::Bad(why),
             });
         }
         if word == b"scan".as_slice() {
@@ -215,48 +209,47 @@ impl LineReader {
         Ok(order(word, words))
     }
 
-    /// What the line says.
-    pub fn read(&mut self, line: &[u8]) -> Result<Says, AllocError>
-        ensures { IfOk result (λ says. says ≡ line_says line.now) }
+    /// Parses a line.
+    pub fn read(&mut self, line: &[u8]) -> Result<Line, AllocError>
+        ensures { IfOk result (λ parsed. parsed ≡ parse_line line.now) }
     {
         let Some((word, words)) = first_word(line) else {
-            return Ok(Says::Nothing);
+            return Ok(Line::Blank);
         };
         if word.starts_with(b"#") {
-            return Ok(Says::Nothing);
+            return Ok(Line::Blank);
         }
         self.command(word, words)
     }
 }
 
-// What is said by this word and those after it, where it is none of a command.
-fn order(word: &[u8], words: &[u8]) -> Says
-    ensures { result ≡ order_says word.now (words_of words.now) }
+fn order(word: &[u8], words: &[u8]) -> Line
+    ensures { result ≡ parse_order word.now (words_of words.now) }
 {
     if word == b"go".as_slice() {
-        return alone(Says::Go, words);
+        return if_alone(Line::Go, words);
     }
     if word == b"flush".as_slice() {
-        return alone(Says::Flush, words);
+        return if_alone(Line::Flush, words);
     }
     if word == b"clean".as_slice() {
-        return alone(Says::Clean, words);
+        return if_alone(Line::Clean, words);
     }
     if word == b"upgrade".as_slice() {
-        return alone(Says::Upgrade, words);
+        return if_alone(Line::Upgrade, words);
     }
     if word == b"verify".as_slice() {
-        return alone(Says::Verify, words);
+        return if_alone(Line::Verify, words);
     }
-    Says::Bad(Why::UnknownCommand)
+    Line::Bad(Why::UnknownCommand)
 }
 
-// This is said, where no words follow.
-fn alone(says: Says, words: &[u8]) -> Says
-    ensures { result ≡ alone says (words_of words.now) }
+// Returns the line if no words follow its first one.
+fn if_alone(parsed: Line, words: &[u8]) -> Line
+    ensures { result ≡ if_alone parsed (words_of words.now) }
 {
     match first_word(words) {
-        None => says,
-        Some(_) => Says::Bad(Why::WordCount),
+        None => parsed,
+        Some(_) => Line::Bad(Why::WordCount),
     }
 }

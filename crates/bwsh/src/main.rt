@@ -1,4 +1,4 @@
-//! `bwsh`: reads a batch file from standard input, runs it on a store, and prints what it answers.
+//! `bwsh`: runs a batch file on a store and prints the answers.
 #![tactic(auto)]
 
 mod batch;

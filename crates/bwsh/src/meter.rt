@@ -1,34 +1,32 @@
-//! A disk that counts the segments that are read and written, for who watches a call on it.
+//! A disk that counts the segments it reads and writes, so that another thread can show progress.
 ghost use Rattle.std.specs.Prelude.{◌≡◌, ◌+◌, ◌≤◌, length};
 
-use crate::notes::Reasoned;
+use crate::notes::LastError;
 use flush_log::{Disk, DiskFault};
 use std::io;
 use std::sync::atomic::{AtomicU64, Ordering};
 
-// Where the segments begin on a disk. What stands before them isn't counted.
+// The offset of the first segment. The header in front of it is not counted.
 const SEGMENTS_BEGIN: u64 = 512;
 
-/// Counts the segments that a call has read or written. Another thread may look at it meanwhile.
+/// A count of segments that threads share.
 #[derive(Drop)]
 pub struct Meter {
     segments: AtomicU64,
 }
 
 impl Meter {
-    /// None so far.
     pub fn new() -> Meter {
         Meter {
             segments: AtomicU64::new(0),
         }
     }
 
-    /// How many there are.
     pub fn segments(&self) -> u64 {
         self.segments.load(Ordering::SeqCst)
     }
 
-    // Counts one more, where this is a place in it.
+    // Counts one call, unless it is for the header.
     fn count(&self, at: u64) {
         if at >= SEGMENTS_BEGIN {
             self.segments.fetch_add(1, Ordering::SeqCst);
@@ -36,7 +34,7 @@ impl Meter {
     }
 }
 
-/// A disk whose reads and writes of segments are counted: the log makes one for each segment.
+/// A disk that counts its reads and writes of segments. The log makes one call for each segment.
 #[derive(Drop)]
 pub struct Metered<'a, D> {
     disk: D,
@@ -44,14 +42,12 @@ pub struct Metered<'a, D> {
 }
 
 impl<'a, D: Disk> Metered<'a, D> {
-    /// This disk, whose calls are counted on the meter.
     pub fn new(disk: D, meter: &'a Meter) -> Metered<'a, D>
         ensures { result.disk ≡ disk }
     {
         Metered { disk, meter }
     }
 
-    /// The disk alone.
     pub fn into_inner(self) -> D
         ensures { result ≡ self.entry.disk }
     {
@@ -90,7 +86,7 @@ impl<'a, D: Disk> Disk for Metered<'a, D> {
     }
 }
 
-impl<'a, D: Reasoned> Reasoned for Metered<'a, D> {
+impl<'a, D: LastError> LastError for Metered<'a, D> {
     fn reason(&self) -> Option<io::Error> {
         self.disk.reason()
     }

@@ -1,5 +1,5 @@
-//! What a session notes for the explanation of its end.
-use crate::line::{LineReader, Says};
+//! What a session records so that its end can be explained.
+use crate::line::{Line, LineReader};
 use bstr::ByteSlice;
 use engine::{Disk, FileDisk, LockFile, MemDisk};
 use std::alloc::{AllocError, Global};
@@ -7,32 +7,27 @@ use std::fs::OpenFile;
 use std::io;
 use std::io::{ErrorKind, Read, Seek, Write};
 
-/// Where a call failed.
+/// The file or stream whose call failed.
 #[derive(Clone, Copy, Debug, PartialEq, Eq)]
 pub enum Source {
-    /// Standard input.
     Input,
-    /// The file that holds the store.
     File,
-    /// The file of the copy.
     Copy,
 }
 
-/// The lines of one order of a batch file, by their numbers from 1.
+/// The line numbers of one order, counted from 1.
 #[derive(Drop)]
 pub struct OrderLines {
-    // Those of the commands of its batch, in their order.
     commands: Vec<u64>,
-    // Whether none of them is missing for want of memory.
+    // False after an allocation for `commands` failed.
     is_whole: bool,
-    /// The line that ended the order, or the last one that was read.
+    /// The line that ended the order, or the last line that was read.
     pub end: u64,
-    // Whether that line ended the order, so that the next one begins another.
+    // Whether `end` completed the order, so that the next line begins another one.
     is_ended: bool,
 }
 
 impl OrderLines {
-    // Before any line is read.
     fn new(alloc: Global) -> Self {
         OrderLines {
             commands: Vec::new(alloc),
@@ -42,28 +37,29 @@ impl OrderLines {
         }
     }
 
-    // Follows a stream by the line of this number, which says this.
-    fn follow(&mut self, line: u64, says: &Says) {
+    // Records the next line of a stream.
+    fn follow(&mut self, line: u64, parsed: &Line) {
         if self.is_ended {
             self.commands.clear();
             self.is_whole = true;
         }
         self.end = line;
-        self.is_ended = !matches!(says, Says::Nothing | Says::Command(_));
-        if let Says::Command(_) = says {
+        self.is_ended = !matches!(parsed, Line::Blank | Line::Command(_));
+        if let Line::Command(_) = parsed {
             self.is_whole &= self.commands.push(line).is_ok();
         }
     }
 
-    /// The line of the command at this place of the batch. None where memory for it was refused.
-    pub fn command(&self, place: usize) -> Option<u64> {
+    /// Returns the line of the command at `place` in its batch, or `None` if an allocation for the
+    /// lines failed.
+    pub fn line_of_command(&self, place: usize) -> Option<u64> {
         if !self.is_whole {
             return None;
         }
         self.commands.get(place).copied()
     }
 
-    // An order is complete: whether it is the one that is looked for, since no more of them are to be skipped.
+    // Called for each complete order. Returns true if no more orders are to be skipped.
     fn completes(&mut self, skipped: &mut u64) -> bool {
         if *skipped == 0 {
             return true;
@@ -73,17 +69,17 @@ impl OrderLines {
         false
     }
 
-    // Reads the next line, and returns whether the order that is looked for is complete.
-    fn read(&mut self, says: &Says, skipped: &mut u64) -> Result<bool, AllocError> {
+    // Reads the next line, and returns whether it completed the order after those to skip.
+    fn read(&mut self, parsed: &Line, skipped: &mut u64) -> Result<bool, AllocError> {
         self.end = self.end.saturating_add(1);
-        match says {
-            Says::Nothing | Says::Bad(_) => Ok(false),
-            Says::Command(_) => {
+        match parsed {
+            Line::Blank | Line::Bad(_) => Ok(false),
+            Line::Command(_) => {
                 self.commands.push(self.end)?;
                 Ok(false)
             }
-            Says::Go => Ok(self.completes(skipped)),
-            Says::Flush | Says::Clean | Says::Upgrade | Says::Verify => {
+            Line::Go => Ok(self.completes(skipped)),
+            Line::Flush | Line::Clean | Line::Upgrade | Line::Verify => {
                 let has_batch = !self.commands.is_empty();
                 if has_batch && self.completes(skipped) {
                     return Ok(true);
@@ -94,37 +90,45 @@ impl OrderLines {
     }
 }
 
-// The lines of the order of a text that follows on this number of others.
+fn read_line(
+    reader: &mut LineReader,
+    lines: &mut OrderLines,
+    bytes: &[u8],
+    skipped: &mut u64,
+) -> Result<bool, AllocError> {
+    let parsed = reader.read(bytes)?;
+    lines.read(&parsed, skipped)
+}
+
+// Finds the lines of the order that follows the first `before` orders of the text.
 fn lines_of(alloc: Global, text: &[u8], before: u64) -> Result<OrderLines, AllocError> {
     let mut reader = LineReader::new(alloc);
     let mut lines = OrderLines::new(alloc);
     let mut skipped = before;
     for bytes in text.lines() {
-        let says = reader.read(bytes)?;
-        if lines.read(&says, &mut skipped)? {
+        if read_line(&mut reader, &mut lines, bytes, &mut skipped)? {
             return Ok(lines);
         }
     }
     Ok(lines)
 }
 
-/// What a session notes: its text, how many orders are done, and the last call that failed.
 #[derive(Drop)]
 pub struct Notes {
     alloc: Global,
     is_wanted: bool,
     failed: Option<(Source, io::Error)>,
     text: Vec<u8>,
-    // None before there is a store.
+    // `None` before the store is open.
     done: Option<u64>,
     is_copying: bool,
     streamed: Option<OrderLines>,
-    // The line of a stream that is read now.
+    // The line of a stream that is being read.
     unread: Option<u64>,
 }
 
 impl Notes {
-    /// Notes of a session that has not begun. Where they are not wanted the text is not kept.
+    /// Creates the records of a new session. The text is kept only if `is_wanted`.
     pub fn new(alloc: Global, is_wanted: bool) -> Self {
         Notes {
             alloc,
@@ -138,62 +142,53 @@ impl Notes {
         }
     }
 
-    /// Notes that a call failed, where there is a reason for it.
-    pub fn failed(&mut self, source: Source, reason: Option<io::Error>) {
+    pub fn record_failure(&mut self, source: Source, reason: Option<io::Error>) {
         if let Some(reason) = reason {
             self.failed = Some((source, reason));
         }
     }
 
-    /// The last call that failed, and the system's reason.
     pub fn failure(&self) -> Option<(Source, io::Error)> {
         self.failed
     }
 
-    /// Notes the text that was read.
-    pub fn read(&mut self, text: Vec<u8>) {
+    pub fn keep_text(&mut self, text: Vec<u8>) {
         if self.is_wanted {
             self.text = text;
         }
     }
 
-    /// Notes that there is a store, on which the orders are run now.
-    pub fn opened(&mut self) {
+    pub fn store_opened(&mut self) {
         self.done = Some(0);
     }
 
-    /// Notes that one more order is done.
-    pub fn done(&mut self) {
+    pub fn count_order(&mut self) {
         self.done = self.done.map(|count| count.saturating_add(1));
     }
 
-    /// Notes that all orders are done, and the store is copied now.
-    pub fn copying(&mut self) {
+    /// Records that all orders are done and the copy begins.
+    pub fn begin_copy(&mut self) {
         self.is_copying = true;
     }
 
-    /// Whether all orders were done, and the store was copied, or was to be.
     pub fn is_copying(&self) -> bool {
         self.is_copying
     }
 
-    /// Notes that the line of this number of a stream is read now.
-    pub fn reading(&mut self, line: u64) {
+    pub fn begin_line(&mut self, line: u64) {
         self.unread = Some(line);
     }
 
-    /// Notes that a stream has no more lines.
-    pub fn ended(&mut self) {
+    pub fn end_of_input(&mut self) {
         self.unread = None;
     }
 
-    /// The line of a stream that could not be read, where it is one that failed.
-    pub fn unread(&self) -> Option<u64> {
+    /// Returns the line of a stream whose reading failed.
+    pub fn unread_line(&self) -> Option<u64> {
         self.unread
     }
 
-    /// Notes that the line of this number of a stream was read, and says this.
-    pub fn line(&mut self, line: u64, says: &Says) {
+    pub fn record_line(&mut self, line: u64, parsed: &Line) {
         self.unread = None;
         if !self.is_wanted {
             return;
@@ -202,12 +197,13 @@ impl Notes {
             Some(lines) => lines,
             None => OrderLines::new(self.alloc),
         };
-        lines.follow(line, says);
+        lines.follow(line, parsed);
         self.streamed = Some(lines);
     }
 
-    /// The lines of the order that was not done. None where there was no store, or no memory for them.
-    pub fn lines(&mut self) -> Option<OrderLines> {
+    /// Returns the lines of the order that failed, or `None` if no store was open or an allocation
+    /// fails.
+    pub fn order_lines(&mut self) -> Option<OrderLines> {
         if let Some(lines) = self.streamed.take() {
             return Some(lines);
         }
@@ -218,19 +214,18 @@ impl Notes {
     }
 }
 
-/// A disk that may know why a call of it failed.
-pub trait Reasoned {
-    /// The system's reason for the last call that failed, where it is known.
+/// A disk that may know the reason of its last failure.
+pub trait LastError {
     fn reason(&self) -> Option<io::Error>;
 }
 
-impl<F: Read + Write + Seek + OpenFile + LockFile + Drop> Reasoned for FileDisk<F> {
+impl<F: Read + Write + Seek + OpenFile + LockFile + Drop> LastError for FileDisk<F> {
     fn reason(&self) -> Option<io::Error> {
         self.last_error()
     }
 }
 
-impl Reasoned for MemDisk<Global> {
+impl LastError for MemDisk<Global> {
     fn reason(&self) -> Option<io::Error> {
         if self.failures() == 0 {
             return None;

@@ -1,4 +1,4 @@
-//! The store on which a session runs: a new one in memory, a new one in a file, or the one that a file holds.
+//! Opening the store of a session: in memory, in a new file, or in an existing file.
 ghost use Rattle.std.specs.Prelude.{false, IsTrue, replicate, ◌≡◌, ◌≢◌, ◌⊎◌, None, IfOk, ◌≤◌};
 ghost use Rattle.crew.specs.Crew.{is_crew};
 ghost use Rattle.keys.specs.Bytes.{Bytes};
@@ -7,10 +7,10 @@ ghost use Rattle.flush_log.specs.Segments.{disk_size};
 ghost use Rattle.bwsh.specs.Session.{Opens, IsHonestStore, Shows, new_start, found_start};
 
 use crate::meter::{Meter, Metered};
-use crate::notes::{Notes, Reasoned, Source};
+use crate::notes::{LastError, Notes, Source};
 use crate::progress::{LongCall, Reports};
-use crate::session::Ending;
-use crate::watching::watched;
+use crate::session::SessionError;
+use crate::watching::run_watched;
 use engine::{Crew, Disk, FileDisk, LockFile, MemDisk, Store};
 use flush_log::disk_size;
 use keys::{Fault, Settings};
@@ -22,24 +22,23 @@ use std::sync::Wait;
 use std::thread::Threads;
 use std::time::Clock;
 
-// Why a session ends whose store answered this.
-pub(crate) fn store_fault(fault: Fault) -> Ending
-    ensures { ((fault ≡ Fault.Device) × (result ≡ Ending.Device))
-        ⊎ ((fault ≢ Fault.Device) × (result ≡ Ending.Fault fault)) }
+pub(crate) fn store_fault(fault: Fault) -> SessionError
+    ensures { ((fault ≡ Fault.Device) × (result ≡ SessionError.Device))
+        ⊎ ((fault ≢ Fault.Device) × (result ≡ SessionError.Fault fault)) }
 {
     match fault {
-        Fault::Device => Ending::Device,
-        _ => Ending::Fault(fault),
+        Fault::Device => SessionError::Device,
+        _ => SessionError::Fault(fault),
     }
 }
 
-// A new store on a disk that has room for it.
-fn store_made<D: Disk + Reasoned + Drop>(
+// Creates a store on a disk that is large enough.
+fn create_store<D: Disk + LastError + Drop>(
     alloc: Global,
     disk: D,
     settings: Settings,
     notes: &mut Notes,
-) -> Result<Store<D>, Ending>
+) -> Result<Store<D>, SessionError>
     requires good { first_bad_field settings ≡ None }
     requires room { disk_size settings ≤ (D.view disk).size }
     ensures opens { (file : Bytes) → (IsTrue (D.view disk).is_honest → (D.view disk).seen ≡ file) →
@@ -51,18 +50,18 @@ fn store_made<D: Disk + Reasoned + Drop>(
     match Store::create(alloc, disk, settings) {
         Ok(store) => Ok(store),
         Err(refused) => {
-            notes.failed(Source::File, refused.1.reason());
+            notes.record_failure(Source::File, refused.1.reason());
             Err(store_fault(refused.0))
         }
     }
 }
 
-// A new store on a disk in memory, which has just the room that it needs.
+// Creates a store in memory, on a disk of exactly the size that it needs.
 pub(crate) fn store_in_memory(
     alloc: Global,
     settings: Settings,
     notes: &mut Notes,
-) -> Result<Store<MemDisk<Global>>, Ending>
+) -> Result<Store<MemDisk<Global>>, SessionError>
     ensures opens { Opens ⟦<MemDisk<Global> as Disk>⟧.view
         (new_start settings (replicate (disk_size settings) 0)) result }
     ensures honest { IsHonestStore ⟦<MemDisk<Global> as Disk>⟧.view result }
@@ -70,10 +69,10 @@ pub(crate) fn store_in_memory(
 {
     settings.check()?;
     let disk = MemDisk::new(alloc, disk_size(&settings) as usize)?;
-    store_made(alloc, disk, settings, notes)
+    create_store(alloc, disk, settings, notes)
 }
 
-// The disk of the file that there is. It is open for writing only where the session writes, and is held then.
+// Opens the existing file. It is locked exclusively if the session writes, and shared otherwise.
 fn old_disk<R: Files>(rt: &R, path: &str, writes: bool) -> io::Result<FileDisk<R::File>>
 where
     R::File: LockFile,
@@ -85,13 +84,14 @@ where
     }
 }
 
-// A new store in the file, which is made anew. Where the settings are refused the file isn't touched.
+// Creates a store in a file, which loses what it held. Does not touch the file if the settings are
+// refused.
 pub(crate) fn new_store_in_file<R: AllocGlobal + Files>(
     rt: &R,
     path: &str,
     settings: Settings,
     notes: &mut Notes,
-) -> Result<Store<FileDisk<R::File>>, Ending>
+) -> Result<Store<FileDisk<R::File>>, SessionError>
 where
     R::File: LockFile,
     ensures opens { (file : Bytes) →
@@ -100,22 +100,22 @@ where
 {
     settings.check()?;
     match FileDisk::create(rt, path, disk_size(&settings)) {
-        Ok(disk) => store_made(rt.alloc(), disk, settings, notes),
+        Ok(disk) => create_store(rt.alloc(), disk, settings, notes),
         Err(reason) => {
-            notes.failed(Source::File, Some(reason));
-            Err(Ending::Device)
+            notes.record_failure(Source::File, Some(reason));
+            Err(SessionError::Device)
         }
     }
 }
 
-// The store that the disk holds, which is settled first: an earlier program may have ended between its write and its sync, and
-// all that this session does stands on what it reads. Nothing is written.
-fn store_found<R: AllocGlobal + Threads + Sync, D: Disk + Reasoned + Drop>(
+// Recovers the store on the disk. The disk is synced first, because an earlier program may have
+// ended between its write and its sync. Nothing is written.
+fn open_store<R: AllocGlobal + Threads + Sync, D: Disk + LastError + Drop>(
     rt: &R,
     crew: Crew,
     disk: D,
     notes: &mut Notes,
-) -> Result<Store<D>, Ending>
+) -> Result<Store<D>, SessionError>
     requires crew { IsTrue (is_crew crew) }
     ensures opens { (file : Bytes) × (IsTrue (D.view disk).is_honest → file ≡ (D.view disk).seen)
         × Opens D.view (found_start file) result }
@@ -124,16 +124,16 @@ fn store_found<R: AllocGlobal + Threads + Sync, D: Disk + Reasoned + Drop>(
     match Store::open(rt, rt.alloc(), disk, crew) {
         Ok(store) => Ok(store),
         Err(refused) => {
-            notes.failed(Source::File, refused.1.reason());
+            notes.record_failure(Source::File, refused.1.reason());
             Err(store_fault(refused.0))
         }
     }
 }
 
-// The same while another thread shows how far it is, by the meter.
-fn found_watched<
+// Like `open_store`, while another thread shows progress.
+fn open_watched<
     R: AllocGlobal + Threads + Wait + Sync + Clock,
-    D: Disk + Reasoned + Drop,
+    D: Disk + LastError + Drop,
     E: Write + Send,
 >(
     rt: &R,
@@ -143,7 +143,7 @@ fn found_watched<
     meter: &Meter,
     reports: &mut Reports,
     err: &mut E,
-) -> Result<Store<D>, Ending>
+) -> Result<Store<D>, SessionError>
     requires crew { IsTrue (is_crew crew) }
     ensures opens { (file : Bytes) × Opens D.view (found_start file) result }
     ensures fine { IfOk result (λ store. store.has_failed ≡ false) }
@@ -151,15 +151,15 @@ fn found_watched<
         reports.new.progress.is_shown err.new }
 {
     let Reports { notes, progress } = reports;
-    let find = move || -> Result<Store<D>, Ending>
+    let find = move || -> Result<Store<D>, SessionError>
         requires { IsTrue (is_crew crew) }
         ensures { ((file : Bytes) × Opens D.view (found_start file) result)
             × IfOk result (λ store. store.has_failed ≡ false) }
-    { store_found(rt, crew, disk, notes) };
-    watched(rt, meter, LongCall::Opening(path), progress, err, find)
+    { open_store(rt, crew, disk, notes) };
+    run_watched(rt, meter, LongCall::Opening(path), progress, err, find)
 }
 
-// The store that the file holds. The meter counts the segments of it that are read and written.
+// Opens the store in an existing file. `meter` counts the segments that are read and written.
 pub(crate) fn store_in_file<
     'm,
     R: AllocGlobal + Threads + Wait + Sync + Files + Clock,
@@ -172,7 +172,7 @@ pub(crate) fn store_in_file<
     meter: &'m Meter,
     reports: &mut Reports,
     err: &mut E,
-) -> Result<Store<Metered<'m, FileDisk<R::File>>>, Ending>
+) -> Result<Store<Metered<'m, FileDisk<R::File>>>, SessionError>
 where
     R::File: LockFile,
     requires crew { IsTrue (is_crew crew) }
@@ -185,11 +185,11 @@ where
     match old_disk(rt, path, writes) {
         Ok(disk) => {
             let disk = Metered::new(disk, meter);
-            found_watched(rt, crew, path, disk, meter, reports, err)
+            open_watched(rt, crew, path, disk, meter, reports, err)
         }
         Err(reason) => {
-            reports.notes.failed(Source::File, Some(reason));
-            Err(Ending::Device)
+            reports.notes.record_failure(Source::File, Some(reason));
+            Err(SessionError::Device)
         }
     }
 }

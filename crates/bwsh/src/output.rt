@@ -1,4 +1,4 @@
-//! What a session writes to its output: lines, as they are made.
+//! Writing answers to the output.
 ghost use Rattle.std.specs.Prelude.{◌≡◌, ◌⊎◌, ℕ, [], ◌∷◌, ◌++◌, map, Ok, Err, IfOk, OnOk, OnErr, IsOkUnless, take, length, ◌≤◌};
 ghost use Rattle.std.specs.List.{flat_map};
 ghost use Rattle.std.specs.Io.KnownBytes.{Appends, Keeps};
@@ -7,7 +7,7 @@ ghost use Rattle.engine.specs.Plays.{answer_of};
 ghost use Rattle.bwsh.specs.Session.{BeginsWith, Prints};
 ghost use Rattle.bwsh.specs.Shown.{shown_reply, shown_flushed, shown_cleaned, shown_upgraded, shown_report, shown_numbers, shown_answer};
 
-use crate::session::Ending;
+use crate::session::SessionError;
 use crate::show::{
     StoreNumbers, show_cleaned, show_flushed, show_numbers, show_reply, show_report, show_upgraded,
 };
@@ -16,7 +16,7 @@ use keys::Reply;
 use std::alloc::{AllocError, Global};
 use std::io::{ErrorKind, Write};
 
-// Appends the lines of the replies. After an `Err` the first of them stand there.
+// Appends the replies. After an `Err` the first ones have been appended.
 fn show_replies(replies: &[Reply<Global>], lines: &mut Vec<u8>) -> Result<(), AllocError>
     ensures ok { OnOk result
         (lines.new.items ≡ lines.old.items ++ flat_map shown_reply replies.now) }
@@ -29,27 +29,28 @@ fn show_replies(replies: &[Reply<Global>], lines: &mut Vec<u8>) -> Result<(), Al
     Ok(())
 }
 
-// Writes some of the bytes, and returns how many: none where the call was interrupted.
-fn write_some<O: Write>(bytes: &[u8], out: &mut O) -> Result<usize, Ending>
+// Returns how many bytes were written, 0 after an interrupted call.
+fn write_some<O: Write>(bytes: &[u8], out: &mut O) -> Result<usize, SessionError>
     ensures ok { IfOk result (λ taken. (taken ≤ length bytes.now)
         × Appends (O.contents out.old) (O.contents out.new) (take taken bytes.now)) }
     ensures err { OnErr result (Keeps (O.contents out.old) (O.contents out.new)) }
-    ensures device { IsOkUnless result Ending.Device }
+    ensures device { IsOkUnless result SessionError.Device }
 {
     match out.write(bytes) {
-        Ok(0) => Err(Ending::Device),
+        Ok(0) => Err(SessionError::Device),
         Ok(taken) => Ok(taken),
         Err(error) if error.kind() == ErrorKind::Interrupted => Ok(0),
-        Err(_) => Err(Ending::Device),
+        Err(_) => Err(SessionError::Device),
     }
 }
 
-// Writes the bytes. Where the output fails, the first of them stand there; `write_all` would not say so.
-pub(crate) fn write_bytes<O: Write>(bytes: &[u8], out: &mut O) -> Result<(), Ending>
+// Writes all bytes. If this fails, the output has the first of them, which `write_all` does not
+// promise.
+pub(crate) fn write_bytes<O: Write>(bytes: &[u8], out: &mut O) -> Result<(), SessionError>
     ensures ok { OnOk result (Appends (O.contents out.old) (O.contents out.new) bytes.now) }
     ensures err { OnErr result ((front : Bytes) × BeginsWith bytes.now front
         × Appends (O.contents out.old) (O.contents out.new) front) }
-    ensures device { IsOkUnless result Ending.Device }
+    ensures device { IsOkUnless result SessionError.Device }
 {
     let mut rest = bytes;
     for _ in 0..u64::MAX {
@@ -59,16 +60,16 @@ pub(crate) fn write_bytes<O: Write>(bytes: &[u8], out: &mut O) -> Result<(), End
         let taken = write_some(rest, out)?;
         rest = &rest[taken..];
     }
-    Err(Ending::Device)
+    Err(SessionError::Device)
 }
 
-// Writes the lines of the replies, in the memory of `lines`. Where memory is refused, those that were made
-// before are written.
+// If an allocation fails, the replies that fit are written. `lines` is a buffer, as in the
+// functions below.
 fn write_replies<O: Write>(
     replies: &[Reply<Global>],
     lines: &mut Vec<u8>,
     out: &mut O,
-) -> Result<(), Ending>
+) -> Result<(), SessionError>
     ensures { Prints (O.contents out.old) (O.contents out.new)
         (map shown_reply replies.now) (Ok tt) result }
 {
@@ -78,8 +79,11 @@ fn write_replies<O: Write>(
     Ok(shown?)
 }
 
-// Writes the line of a flush that left this sequence number, in the memory of `lines`.
-fn write_flushed<O: Write>(sequence: u64, lines: &mut Vec<u8>, out: &mut O) -> Result<(), Ending>
+fn write_flushed<O: Write>(
+    sequence: u64,
+    lines: &mut Vec<u8>,
+    out: &mut O,
+) -> Result<(), SessionError>
     ensures { Prints (O.contents out.old) (O.contents out.new)
         (shown_flushed sequence ∷ []) (Ok tt) result }
 {
@@ -88,8 +92,7 @@ fn write_flushed<O: Write>(sequence: u64, lines: &mut Vec<u8>, out: &mut O) -> R
     write_bytes(lines, out)
 }
 
-// Writes the line of a clean that left the log beginning in this segment, in the memory of `lines`.
-fn write_cleaned<O: Write>(head: u64, lines: &mut Vec<u8>, out: &mut O) -> Result<(), Ending>
+fn write_cleaned<O: Write>(head: u64, lines: &mut Vec<u8>, out: &mut O) -> Result<(), SessionError>
     ensures { Prints (O.contents out.old) (O.contents out.new)
         (shown_cleaned head ∷ []) (Ok tt) result }
 {
@@ -98,8 +101,11 @@ fn write_cleaned<O: Write>(head: u64, lines: &mut Vec<u8>, out: &mut O) -> Resul
     write_bytes(lines, out)
 }
 
-// Writes the line of an upgrade that left this sequence number, in the memory of `lines`.
-fn write_upgraded<O: Write>(sequence: u64, lines: &mut Vec<u8>, out: &mut O) -> Result<(), Ending>
+fn write_upgraded<O: Write>(
+    sequence: u64,
+    lines: &mut Vec<u8>,
+    out: &mut O,
+) -> Result<(), SessionError>
     ensures { Prints (O.contents out.old) (O.contents out.new)
         (shown_upgraded sequence ∷ []) (Ok tt) result }
 {
@@ -108,12 +114,11 @@ fn write_upgraded<O: Write>(sequence: u64, lines: &mut Vec<u8>, out: &mut O) -> 
     write_bytes(lines, out)
 }
 
-// Writes the line of the report, in the memory of `lines`.
 pub(crate) fn write_report<O: Write>(
     report: &Report,
     lines: &mut Vec<u8>,
     out: &mut O,
-) -> Result<(), Ending>
+) -> Result<(), SessionError>
     ensures { Prints (O.contents out.old) (O.contents out.new)
         (shown_report report.now ∷ []) (Ok tt) result }
 {
@@ -122,12 +127,11 @@ pub(crate) fn write_report<O: Write>(
     write_bytes(lines, out)
 }
 
-// Writes the line of the numbers, in the memory of `lines`.
 pub(crate) fn write_numbers<O: Write>(
     numbers: &StoreNumbers,
     lines: &mut Vec<u8>,
     out: &mut O,
-) -> Result<(), Ending>
+) -> Result<(), SessionError>
     ensures { Prints (O.contents out.old) (O.contents out.new)
         (shown_numbers numbers.now ∷ []) (Ok tt) result }
 {
@@ -136,8 +140,11 @@ pub(crate) fn write_numbers<O: Write>(
     write_bytes(lines, out)
 }
 
-// Writes the lines of an answer.
-fn write_answer<O: Write>(answer: &Answer, lines: &mut Vec<u8>, out: &mut O) -> Result<(), Ending>
+fn write_answer<O: Write>(
+    answer: &Answer,
+    lines: &mut Vec<u8>,
+    out: &mut O,
+) -> Result<(), SessionError>
     ensures { Prints (O.contents out.old) (O.contents out.new)
         (shown_answer (answer_of answer.now)) (Ok tt) result }
 {
@@ -149,12 +156,11 @@ fn write_answer<O: Write>(answer: &Answer, lines: &mut Vec<u8>, out: &mut O) -> 
     }
 }
 
-// Writes the lines of the answers.
 pub(crate) fn write_answers<O: Write>(
     answers: &[Answer],
     lines: &mut Vec<u8>,
     out: &mut O,
-) -> Result<(), Ending>
+) -> Result<(), SessionError>
     ensures { Prints (O.contents out.old) (O.contents out.new)
         (flat_map shown_answer (map answer_of answers.now)) (Ok tt) result }
 {
@@ -164,26 +170,29 @@ pub(crate) fn write_answers<O: Write>(
     Ok(())
 }
 
-// Hands on to the device what was written. A fault of the output goes before one that was found earlier.
-pub(crate) fn flush<O: Write>(done: Result<(), Ending>, out: &mut O) -> Result<(), Ending>
+// Flushes the output. A failure here replaces an earlier error.
+pub(crate) fn flush<O: Write>(
+    done: Result<(), SessionError>,
+    out: &mut O,
+) -> Result<(), SessionError>
     ensures bytes { Keeps (O.contents out.old) (O.contents out.new) }
-    ensures end { (result ≡ done) ⊎ (result ≡ Err Ending.Device) }
+    ensures end { (result ≡ done) ⊎ (result ≡ Err SessionError.Device) }
 {
     match out.flush() {
         Ok(()) => done,
-        Err(_) => Err(Ending::Device),
+        Err(_) => Err(SessionError::Device),
     }
 }
 
-// Asks the output whether it is there, since a file that is opened while it is closed would get its descriptor, and with
-// that the answers. A call that was interrupted was begun.
-pub(crate) fn ask<O: Write>(out: &mut O) -> Result<(), Ending>
+// Writes no bytes, to find out whether the stream is open. Otherwise the next file that is opened
+// could get its descriptor, and the answers. An interrupted call shows that the stream is open.
+pub(crate) fn check_open<O: Write>(out: &mut O) -> Result<(), SessionError>
     ensures bytes { Appends (O.contents out.old) (O.contents out.new) [] }
-    ensures device { IsOkUnless result Ending.Device }
+    ensures device { IsOkUnless result SessionError.Device }
 {
     match out.write(&[]) {
         Ok(_) => Ok(()),
         Err(error) if error.kind() == ErrorKind::Interrupted => Ok(()),
-        Err(_) => Err(Ending::Device),
+        Err(_) => Err(SessionError::Device),
     }
 }

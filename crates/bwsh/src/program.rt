@@ -1,4 +1,4 @@
-//! The program: reads the words of its command line, and runs the session that they ask for.
+//! The program: reads its command line and runs the session.
 ghost use Rattle.std.specs.Prelude.{◌≡◌, ◌↔◌, ◌⊎◌, List, map, drop, IfOk, IfErr};
 ghost use Rattle.std.specs.String.{string_bytes};
 ghost use Rattle.std.specs.IoError.{error_kind};
@@ -14,12 +14,10 @@ use std::thread::Threads;
 use std::time::Clock;
 use std::{env, io};
 
-// All words of the command line. The first is the program's name.
 fn all_words<R: Env + AllocGlobal>(rt: &R) -> io::Result<Vec<String>> {
     Ok(env::args(rt)?.collect(rt.alloc())?)
 }
 
-// The words after the program's name.
 fn words_after_name(words: &[String]) -> &[String]
     ensures { result.now ≡ drop 1 words.now }
 {
@@ -29,9 +27,8 @@ fn words_after_name(words: &[String]) -> &[String]
     }
 }
 
-/// Does what all these words of the command line ask for, the first being the program's name, and returns the exit
-/// status of the session. Where they cannot be read, that alone is reported, and the status is that of
-/// `unread_words`.
+/// Runs the session that the words ask for, of which the first is the program's name, and returns
+/// its exit status. Words that cannot be read are reported by `unread_words`.
 pub fn run_words<
     R: AllocGlobal + Threads + Wait + Sync + Files + Clock,
     I: Read,
@@ -57,8 +54,8 @@ where
     }
 }
 
-/// Does what the words of the command line ask for, and returns the exit status. No clause of the library says which
-/// words an environment gives; a session with some words ends so, or they cannot be read.
+/// Runs the session of the program's own command line and returns its exit status. The contract
+/// holds for some words, because no clause of the library says which words the system passes.
 pub fn run_program<
     R: Env + AllocGlobal + Threads + Wait + Sync + Files + Clock,
     I: Read,

@@ -1,36 +1,33 @@
-//! Progress: one line on standard error, rewritten in place, that says how far a session is.
+//! Progress: one line on standard error that is rewritten in place.
 ghost use Rattle.std.specs.Prelude.{true, false, ◌≡◌, ◌++◌, Some, OnOk, OnErr};
 ghost use Rattle.std.specs.Io.KnownBytes.{Appends};
 ghost use Rattle.keys.specs.Bytes.{Bytes};
-ghost use Rattle.bwsh.specs.Progress.{Sight, counts_text, in_place, segments_text, sight_text};
+ghost use Rattle.bwsh.specs.Progress.{ProgressText, counts_text, in_place, segments_text, progress_text};
 ghost use Rattle.bwsh.specs.Session.{IsBegun, Shows};
 
 use crate::notes::Notes;
-use crate::output::{ask, write_bytes};
-use crate::session::Ending;
+use crate::output::{check_open, write_bytes};
+use crate::session::SessionError;
 use std::fmt;
 use std::fmt::{InlineText, Write as _};
 use std::io::Write;
 use std::time::{Clock, Instant};
 
-// Bytes that hold the text of numbers: at most two of 20 digits each, and words.
+// Room for two numbers of 20 digits and the words around them.
 const TEXT: usize = 64;
 
-// What is written before a text and after it, so that it takes the place of the line: a carriage return, and the sequence that
-// erases what follows up to the end of the line.
+// A carriage return before a text and the escape sequence that erases to the end of the line after
+// it.
 const START: &[u8] = b"\r";
 
 const END: &[u8] = b"\x1b[K";
 
-// Lines of a stream between two looks at the clock, where none of them is run.
+// Lines of a stream that are read between two looks at the clock, if none of them runs anything.
 const LINES: u64 = 256;
 
-/// How far a session is, in numbers.
 #[derive(Clone, Copy, Debug, PartialEq, Eq)]
 pub enum Counts {
-    /// Orders that are done, of those that were read.
     Orders { run: u64, read: u64 },
-    /// Lines of a stream that were read, and batches that were run.
     Lines { read: u64, run: u64 },
 }
 
@@ -45,33 +42,30 @@ impl fmt::Display for Counts {
     }
 }
 
-/// What was run since a line of a stream stands there.
+/// What a line of a stream ran.
 #[derive(Clone, Copy, Debug, PartialEq, Eq)]
-pub enum Ended {
-    /// Nothing: it orders nothing by itself.
+pub enum LineEffect {
     Nothing,
-    /// What it orders, and no batch.
+    /// An order, but no batch.
     Order,
-    /// A batch, and what it orders.
+    /// A batch, and perhaps an order.
     Batch,
 }
 
-/// A call of a session that can take long, on the file at a path.
+/// A call that can take long, with the path of its file.
 #[derive(Clone, Copy)]
 pub enum LongCall<'a> {
-    /// The store that the file holds is opened: its segments are read.
     Opening(&'a str),
-    /// The store is copied to the file: its segments are written.
     Copying(&'a str),
 }
 
-// Writes a text of three parts in place of the line. Where that fails, a beginning of it stands there.
+// Replaces the line by three texts. After a failure a beginning of them has been written.
 fn write_in_place<E: Write>(
     text: &[u8],
     path: &[u8],
     rest: &[u8],
     err: &mut E,
-) -> Result<(), Ending>
+) -> Result<(), SessionError>
     ensures ok { OnOk result (Appends (E.contents err.old) (E.contents err.new)
         (in_place (text.now ++ (path.now ++ rest.now)))) }
     ensures err { OnErr result (IsBegun (E.contents err.old) (E.contents err.new)
@@ -84,33 +78,31 @@ fn write_in_place<E: Write>(
     write_bytes(END, err)
 }
 
-/// How far a session is, and when that was shown.
 #[derive(Drop)]
 pub struct Progress {
-    /// Whether it is shown: it is asked for, and standard error took each line so far.
+    /// Whether progress is shown: it was asked for, and no write has failed.
     pub is_shown: bool,
-    // Whether a line stands there.
+    // Whether a line is visible.
     has_line: bool,
-    // When numbers were shown last, or else when the session began.
+    // When counts were last shown, or when the session began.
     last: Option<Instant>,
-    // Orders that are done, or batches of a stream that were run.
+    // Completed orders, or batches of a stream.
     run: u64,
 }
 
 impl Progress {
-    /// Begins, before anything is read or opened. Where it is asked for, standard error is asked whether it is there, since a file
-    /// that is opened while it is closed would get its descriptor, and with that the lines.
+    /// Begins, before anything is read or opened. If `is_asked`, checks that standard error is
+    /// open, since the next file would get its descriptor otherwise.
     pub fn begin<R: Clock, E: Write>(rt: &R, is_asked: bool, err: &mut E) -> Progress
         ensures { Shows E.contents is_asked err.old result.is_shown err.new }
     {
         if !is_asked {
             return Progress::with(false, None);
         }
-        let is_there = ask(err).is_ok();
+        let is_there = check_open(err).is_ok();
         Progress::with(is_there, Instant::now(rt).ok())
     }
 
-    // The same before a line is shown.
     fn with(is_shown: bool, last: Option<Instant>) -> Progress
         ensures { result.is_shown ≡ is_shown }
     {
@@ -122,7 +114,8 @@ impl Progress {
         }
     }
 
-    // Whether a second has gone by since numbers were shown; then they are shown now. A clock that can't be read says no.
+    // Returns whether a second has passed since counts were shown, and starts the next second.
+    // Returns false if the clock cannot be read.
     pub(crate) fn is_due<R: Clock>(&mut self, rt: &R) -> bool
         ensures { self.new.is_shown ≡ self.old.is_shown }
     {
@@ -138,9 +131,9 @@ impl Progress {
         true
     }
 
-    // Shows a text of three parts in place of the line. Where that can't be written, nothing is shown any more.
+    // Shows a text. After a failed write nothing is shown any more.
     fn show<E: Write>(&mut self, text: &[u8], path: &[u8], rest: &[u8], err: &mut E)
-        ensures { (sight : Sight) → sight_text sight ≡ text.now ++ (path.now ++ rest.now) →
+        ensures { (message : ProgressText) → progress_text message ≡ text.now ++ (path.now ++ rest.now) →
             Shows E.contents self.old.is_shown err.old self.new.is_shown err.new }
     {
         if self.is_shown {
@@ -149,7 +142,6 @@ impl Progress {
         }
     }
 
-    // Shows these numbers.
     fn show_counts<E: Write>(&mut self, counts: Counts, err: &mut E)
         ensures { Shows E.contents self.old.is_shown err.old self.new.is_shown err.new }
     {
@@ -159,8 +151,7 @@ impl Progress {
         }
     }
 
-    /// Shows that the file at this path, if there is one, is opened now, which can take long.
-    pub fn opening<E: Write>(&mut self, disk: &Option<String>, err: &mut E)
+    pub fn show_opening<E: Write>(&mut self, disk: &Option<String>, err: &mut E)
         ensures { Shows E.contents self.old.is_shown err.old self.new.is_shown err.new }
     {
         if let Some(path) = disk {
@@ -168,14 +159,12 @@ impl Progress {
         }
     }
 
-    /// Shows that the store is copied now to the file at this path.
-    pub fn copying<E: Write>(&mut self, path: &str, err: &mut E)
+    pub fn show_copying<E: Write>(&mut self, path: &str, err: &mut E)
         ensures { Shows E.contents self.old.is_shown err.old self.new.is_shown err.new }
     {
         self.show(b"copying to ", path.as_bytes(), b"", err);
     }
 
-    // Shows what is done to the file at a path, and to how many of its segments.
     fn show_segments<E: Write>(
         &mut self,
         text: &[u8],
@@ -184,8 +173,8 @@ impl Progress {
         done: &str,
         err: &mut E,
     )
-        ensures { (sight : Sight) →
-            sight_text sight ≡ text.now ++ (path.now ++ segments_text segments done.now) →
+        ensures { (message : ProgressText) →
+            progress_text message ≡ text.now ++ (path.now ++ segments_text segments done.now) →
             Shows E.contents self.old.is_shown err.old self.new.is_shown err.new }
     {
         let mut rest = InlineText::<TEXT>::new();
@@ -194,8 +183,7 @@ impl Progress {
         }
     }
 
-    // Shows that a long call goes on, and how many segments it has read or written.
-    pub(crate) fn goes_on<E: Write>(&mut self, call: LongCall<'_>, segments: u64, err: &mut E)
+    pub(crate) fn show_call<E: Write>(&mut self, call: LongCall<'_>, segments: u64, err: &mut E)
         ensures { Shows E.contents self.old.is_shown err.old self.new.is_shown err.new }
     {
         match call {
@@ -206,7 +194,7 @@ impl Progress {
         }
     }
 
-    /// Counts an order that is done, of this number that were read, and shows that, at most once a second.
+    /// Counts a completed order of `read`, and shows the counts at most once a second.
     pub fn order_done<R: Clock, E: Write>(&mut self, rt: &R, read: usize, err: &mut E)
         ensures { Shows E.contents self.old.is_shown err.old self.new.is_shown err.new }
     {
@@ -220,14 +208,20 @@ impl Progress {
         }
     }
 
-    /// Counts the line of this number of a stream, which ended this, and shows that, at most once a second.
-    pub fn line_done<R: Clock, E: Write>(&mut self, rt: &R, line: u64, ended: Ended, err: &mut E)
+    /// Counts a line of a stream, and shows the counts at most once a second.
+    pub fn line_done<R: Clock, E: Write>(
+        &mut self,
+        rt: &R,
+        line: u64,
+        effect: LineEffect,
+        err: &mut E,
+    )
         ensures { Shows E.contents self.old.is_shown err.old self.new.is_shown err.new }
     {
-        if ended == Ended::Batch {
+        if effect == LineEffect::Batch {
             self.run = self.run.saturating_add(1);
         }
-        let is_looked = ended != Ended::Nothing || line % LINES == 0;
+        let is_looked = effect != LineEffect::Nothing || line % LINES == 0;
         if self.is_shown && is_looked && self.is_due(rt) {
             let counts = Counts::Lines {
                 read: line,
@@ -237,7 +231,7 @@ impl Progress {
         }
     }
 
-    /// Ends: the line is erased, if one stands there.
+    /// Erases the line.
     pub fn end<E: Write>(&mut self, err: &mut E)
         ensures { Shows E.contents self.old.is_shown err.old self.new.is_shown err.new }
     {
@@ -247,22 +241,19 @@ impl Progress {
     }
 }
 
-/// What a session reports beside its answers: notes for the explanation of its end, and its progress.
+/// What a session reports beside its answers.
 #[derive(Drop)]
 pub struct Reports {
-    /// What an explanation needs.
     pub notes: Notes,
-    /// How far it is.
     pub progress: Progress,
 }
 
 impl Reports {
-    /// Notes that one more order is done, of this number that were read, and shows that.
     pub fn order_done<R: Clock, E: Write>(&mut self, rt: &R, read: usize, err: &mut E)
         ensures { Shows E.contents self.old.progress.is_shown err.old
             self.new.progress.is_shown err.new }
     {
-        self.notes.done();
+        self.notes.count_order();
         self.progress.order_done(rt, read, err);
     }
 }

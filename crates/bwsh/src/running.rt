@@ -1,4 +1,4 @@
-//! Orders that are run on a store, one after the other, each answered before the next is run.
+//! Running orders on a store. Each is answered before the next one runs.
 ghost use Rattle.std.specs.Prelude.{false, true, IsTrue, ◌≡◌, ◌≢◌, ◌⊎◌, [], ◌∷◌, Some, Err, IfOk, IfSome, None, OnOk};
 ghost use Rattle.std.specs.Option.{option_map};
 ghost use Rattle.crew.specs.Crew.{is_crew};
@@ -9,14 +9,15 @@ ghost use Rattle.engine.specs.Tidied.{IsTidied};
 ghost use Rattle.verify.specs.Report.{report};
 ghost use Rattle.bwsh.specs.Session.{RunsOn, RunsFirst, RunsOrder, RunsFrom, Shows, Start, Opens, IsHonestStore, map_after, map_left, step_in, numbers_of};
 
+use crate::batch::Batch;
 use crate::batch_file::Order;
-use crate::copying::{Copying, leave_copy};
-use crate::notes::{Reasoned, Source};
+use crate::copying::{Copying, write_copy};
+use crate::notes::{LastError, Source};
 use crate::opening::store_fault;
-use crate::options::Ways;
+use crate::options::Mode;
 use crate::output::{flush, write_answers, write_numbers, write_report};
 use crate::progress::Reports;
-use crate::session::Ending;
+use crate::session::SessionError;
 use crate::show::StoreNumbers;
 use cleaner::laws::a_clean_keeps_the_store;
 use climb_plan::laws::the_plan_holds_the_map_after_the_commands;
@@ -29,7 +30,6 @@ use std::sync::Wait;
 use std::thread::Threads;
 use std::time::Clock;
 
-// The numbers of a store with this report on its tree.
 fn numbers_of<D: Disk>(store: &Store<D>, tree: &Report) -> StoreNumbers
     requires { tree.now ≡ report store.now.store.tree }
     ensures { result ≡ numbers_of store.now.settings store.now.store }
@@ -45,7 +45,7 @@ fn numbers_of<D: Disk>(store: &Store<D>, tree: &Report) -> StoreNumbers
     }
 }
 
-// Plays a step, and writes what it answers.
+// Plays one step and writes its answer.
 pub(crate) fn run_step<R: Threads + Sync, D: Disk, O: Write>(
     rt: &R,
     crew: Crew,
@@ -53,22 +53,22 @@ pub(crate) fn run_step<R: Threads + Sync, D: Disk, O: Write>(
     step: Step<'_>,
     lines: &mut Vec<u8>,
     out: &mut O,
-) -> Result<(), Ending>
+) -> Result<(), SessionError>
     requires crew { IsTrue (is_crew crew) }
     requires fine { store.old.has_failed ≡ false }
-    ensures runs { (ways : Ways) → (order : Order) → step_in order ≡ Some (step_of step.entry) →
-        RunsOrder ways (D.view store.old.disk).is_honest store.old.settings store.old.store
+    ensures runs { (mode : Mode) → (order : Order) → step_in order ≡ Some (step_of step.entry) →
+        RunsOrder mode (D.view store.old.disk).is_honest store.old.settings store.old.store
         (D.view store.old.disk).seen order (O.contents out.old) (O.contents out.new)
         result store.new.store (D.view store.new.disk).seen }
     ensures settings { store.new.settings ≡ store.old.settings }
     ensures honest { (D.view store.new.disk).is_honest ≡ (D.view store.old.disk).is_honest }
     ensures failed { OnOk result (store.new.has_failed ≡ store.old.has_failed) }
-    ensures full { result ≡ Err (Ending.Fault Fault.Full) →
+    ensures full { result ≡ Err (SessionError.Fault Fault.Full) →
         (store.new.store ≡ store.old.store) × (store.new.has_failed ≡ store.old.has_failed)
         × (IsTrue (D.view store.old.disk).is_honest →
         (D.view store.new.disk).seen ≡ (D.view store.old.disk).seen) }
 {
-    // Only for the proof.
+    // These calls do nothing at run time. Their contracts serve the proof.
     the_plan_holds_the_map_after_the_commands::<Global>();
     a_clean_keeps_the_store();
     match store.play(rt, crew, &NoGate, &[step]) {
@@ -77,91 +77,91 @@ pub(crate) fn run_step<R: Threads + Sync, D: Disk, O: Write>(
     }
 }
 
-// Tidies the store. Only want of memory ends the session: the other faults are those of commands that don't fit, and of a tree that grows
-// too high, and there are no such commands here; and the store holds the same after each fault.
+// Tidies the store. Only a failed allocation ends the session: after another fault the store holds
+// the same pairs, and the next flush proceeds.
 fn tidy_store<R: Threads + Sync, D: Disk>(
     rt: &R,
     crew: Crew,
     most: u32,
     store: &mut Store<D>,
-) -> Result<(), Ending>
+) -> Result<(), SessionError>
     requires crew { IsTrue (is_crew crew) }
     requires fine { store.old.has_failed ≡ false }
     ensures tidied { IsTidied store.old.settings store.old.store store.new.store }
-    ensures end { (result ≡ Ok tt) ⊎ (result ≡ Err (Ending.Fault Fault.NoMemory)) }
+    ensures end { (result ≡ Ok tt) ⊎ (result ≡ Err (SessionError.Fault Fault.NoMemory)) }
     ensures rest { (store.new.settings ≡ store.old.settings) × (store.new.disk ≡ store.old.disk)
         × (store.new.has_failed ≡ store.old.has_failed) }
 {
     match store.tidy(rt, crew, most as usize) {
-        Err(Fault::NoMemory) => Err(Ending::Fault(Fault::NoMemory)),
+        Err(Fault::NoMemory) => Err(SessionError::Fault(Fault::NoMemory)),
         _ => Ok(()),
     }
 }
 
-// Flushes the store, and writes what it answers. Then, where that is asked for, the answer is handed on, and the store is tidied.
+// Flushes the store. With `--tidy`, the answer is flushed to the device before the store is tidied.
 fn run_flush<R: Threads + Sync, D: Disk, O: Write>(
     rt: &R,
     crew: Crew,
-    ways: Ways,
+    mode: Mode,
     store: &mut Store<D>,
     lines: &mut Vec<u8>,
     out: &mut O,
-) -> Result<(), Ending>
+) -> Result<(), SessionError>
     requires crew { IsTrue (is_crew crew) }
     requires fine { store.old.has_failed ≡ false }
-    ensures runs { RunsOrder ways (D.view store.old.disk).is_honest store.old.settings
+    ensures runs { RunsOrder mode (D.view store.old.disk).is_honest store.old.settings
         store.old.store (D.view store.old.disk).seen Order.Flush (O.contents out.old)
         (O.contents out.new) result store.new.store (D.view store.new.disk).seen }
     ensures settings { store.new.settings ≡ store.old.settings }
     ensures honest { (D.view store.new.disk).is_honest ≡ (D.view store.old.disk).is_honest }
     ensures failed { OnOk result (store.new.has_failed ≡ store.old.has_failed) }
-    ensures full { result ≡ Err (Ending.Fault Fault.Full) →
+    ensures full { result ≡ Err (SessionError.Fault Fault.Full) →
         (store.new.store ≡ store.old.store) × (store.new.has_failed ≡ store.old.has_failed)
         × (IsTrue (D.view store.old.disk).is_honest →
         (D.view store.new.disk).seen ≡ (D.view store.old.disk).seen) }
 {
     run_step(rt, crew, store, Step::Flush, lines, out)?;
-    if ways.tidy == 0 {
+    if mode.tidy == 0 {
         return Ok(());
     }
     flush(Ok(()), out)?;
-    tidy_store(rt, crew, ways.tidy, store)
+    tidy_store(rt, crew, mode.tidy, store)
 }
 
-// Whether a flush ended since the log is full for it.
-fn is_full(done: &Result<(), Ending>) -> bool
-    ensures full { result ≡ true → done.now ≡ Err (Ending.Fault Fault.Full) }
-    ensures other { result ≡ false → done.now ≢ Err (Ending.Fault Fault.Full) }
+fn is_full(done: &Result<(), SessionError>) -> bool
+    ensures full { result ≡ true → done.now ≡ Err (SessionError.Fault Fault.Full) }
+    ensures other { result ≡ false → done.now ≢ Err (SessionError.Fault Fault.Full) }
 {
     match done {
-        Err(Ending::Fault(fault)) => matches!(fault, Fault::Full),
+        Err(SessionError::Fault(fault)) => matches!(fault, Fault::Full),
         _ => false,
     }
 }
 
-// The end where a clean for a flush is refused so: a log that is in one segment is full.
-fn want_of_room(refused: Ending) -> Ending
-    ensures { ((refused ≡ Ending.Fault Fault.NothingToClean) × (result ≡ Ending.Fault Fault.Full))
-        ⊎ ((refused ≢ Ending.Fault Fault.NothingToClean) × (result ≡ refused)) }
+// Reports a log of one segment, in which there is nothing to clean, as a full log.
+fn full_if_nothing_to_clean(refused: SessionError) -> SessionError
+    ensures { ((refused ≡ SessionError.Fault Fault.NothingToClean) × (result ≡ SessionError.Fault Fault.Full))
+        ⊎ ((refused ≢ SessionError.Fault Fault.NothingToClean) × (result ≡ refused)) }
 {
     match refused {
-        Ending::Fault(Fault::NothingToClean) => Ending::Fault(Fault::Full),
+        SessionError::Fault(Fault::NothingToClean) => SessionError::Fault(Fault::Full),
         other => other,
     }
 }
 
-// Flushes the store after as many cleans as it takes, at most one for each segment, and writes what each answers.
+// Flushes the store. While the log is full, cleans a segment and tries again, at most once for each
+// segment.
 fn run_flush_with_room<R: AllocGlobal + Threads + Sync, D: Disk, O: Write>(
     rt: &R,
     crew: Crew,
-    ways: Ways,
+    mode: Mode,
     store: &mut Store<D>,
     lines: &mut Vec<u8>,
     out: &mut O,
-) -> Result<(), Ending>
+) -> Result<(), SessionError>
     requires crew { IsTrue (is_crew crew) }
     requires fine { store.old.has_failed ≡ false }
-    ensures runs { ways.clean_when_full ≡ true → RunsFirst ways (D.view store.old.disk).is_honest
+    ensures runs { mode.clean_when_full ≡ true → RunsFirst mode (D.view store.old.disk).is_honest
         store.old.settings store.old.store (D.view store.old.disk).seen (Order.Flush ∷ [])
         (O.contents out.old) (O.contents out.new) result store.new.store
         (D.view store.new.disk).seen }
@@ -173,30 +173,89 @@ fn run_flush_with_room<R: AllocGlobal + Threads + Sync, D: Disk, O: Write>(
 {
     let mut left = store.settings().segments;
     'room: loop {
-        let done = run_flush(rt, crew, ways, store, lines, out);
+        let done = run_flush(rt, crew, mode, store, lines, out);
         if left == 0 || !is_full(&done) {
             return done;
         }
         if let Err(refused) = run_step(rt, crew, store, Step::Clean, lines, out) {
-            return Err(want_of_room(refused));
+            return Err(full_if_nothing_to_clean(refused));
         }
         left -= 1;
     }
 }
 
-// Runs an order as it stands, and writes what it answers.
+fn run_batch<R: AllocGlobal + Threads + Sync, D: Disk, O: Write>(
+    rt: &R,
+    crew: Crew,
+    store: &mut Store<D>,
+    batch: &Batch,
+    lines: &mut Vec<u8>,
+    out: &mut O,
+) -> Result<(), SessionError>
+    requires crew { IsTrue (is_crew crew) }
+    requires fine { store.old.has_failed ≡ false }
+    ensures runs { (mode : Mode) → RunsOrder mode (D.view store.old.disk).is_honest
+        store.old.settings store.old.store (D.view store.old.disk).seen (Order.Batch batch.now)
+        (O.contents out.old) (O.contents out.new) result store.new.store
+        (D.view store.new.disk).seen }
+    ensures settings { store.new.settings ≡ store.old.settings }
+    ensures honest { (D.view store.new.disk).is_honest ≡ (D.view store.old.disk).is_honest }
+    ensures failed { OnOk result (store.new.has_failed ≡ store.old.has_failed) }
+{
+    let commands = batch.commands(rt.alloc())?;
+    run_step(
+        rt,
+        crew,
+        store,
+        Step::Batch(commands.as_slice()),
+        lines,
+        out,
+    )
+}
+
+fn run_verify<R: AllocGlobal + Threads + Sync, D: Disk, O: Write>(
+    rt: &R,
+    store: &Store<D>,
+    lines: &mut Vec<u8>,
+    out: &mut O,
+) -> Result<(), SessionError>
+    ensures { (mode : Mode) → RunsOrder mode (D.view store.now.disk).is_honest
+        store.now.settings store.now.store (D.view store.now.disk).seen Order.Verify
+        (O.contents out.old) (O.contents out.new) result store.now.store
+        (D.view store.now.disk).seen }
+{
+    let report = store.verify(rt)?;
+    write_report(&report, lines, out)
+}
+
+fn run_numbers<R: AllocGlobal + Threads + Sync, D: Disk, O: Write>(
+    rt: &R,
+    store: &Store<D>,
+    lines: &mut Vec<u8>,
+    out: &mut O,
+) -> Result<(), SessionError>
+    ensures { (mode : Mode) → RunsOrder mode (D.view store.now.disk).is_honest
+        store.now.settings store.now.store (D.view store.now.disk).seen Order.Numbers
+        (O.contents out.old) (O.contents out.new) result store.now.store
+        (D.view store.now.disk).seen }
+{
+    let report = store.verify(rt)?;
+    write_numbers(&numbers_of(store, &report), lines, out)
+}
+
+// Runs an order, without cleans that make room for it.
 fn run_plain<R: AllocGlobal + Threads + Sync, D: Disk, O: Write>(
     rt: &R,
     crew: Crew,
-    ways: Ways,
+    mode: Mode,
     store: &mut Store<D>,
     order: &Order,
     lines: &mut Vec<u8>,
     out: &mut O,
-) -> Result<(), Ending>
+) -> Result<(), SessionError>
     requires crew { IsTrue (is_crew crew) }
     requires fine { store.old.has_failed ≡ false }
-    ensures runs { RunsOrder ways (D.view store.old.disk).is_honest store.old.settings
+    ensures runs { RunsOrder mode (D.view store.old.disk).is_honest store.old.settings
         store.old.store (D.view store.old.disk).seen order.now (O.contents out.old)
         (O.contents out.new) result store.new.store (D.view store.new.disk).seen }
     ensures settings { store.new.settings ≡ store.old.settings }
@@ -204,44 +263,28 @@ fn run_plain<R: AllocGlobal + Threads + Sync, D: Disk, O: Write>(
     ensures failed { OnOk result (store.new.has_failed ≡ store.old.has_failed) }
 {
     match order {
-        Order::Batch(batch) => {
-            let commands = batch.commands(rt.alloc())?;
-            run_step(
-                rt,
-                crew,
-                store,
-                Step::Batch(commands.as_slice()),
-                lines,
-                out,
-            )
-        }
-        Order::Flush => run_flush(rt, crew, ways, store, lines, out),
+        Order::Batch(batch) => run_batch(rt, crew, store, batch, lines, out),
+        Order::Flush => run_flush(rt, crew, mode, store, lines, out),
         Order::Clean => run_step(rt, crew, store, Step::Clean, lines, out),
         Order::Upgrade => run_step(rt, crew, store, Step::Upgrade, lines, out),
-        Order::Verify => {
-            let report = store.verify(rt)?;
-            write_report(&report, lines, out)
-        }
-        Order::Numbers => {
-            let report = store.verify(rt)?;
-            write_numbers(&numbers_of(store, &report), lines, out)
-        }
+        Order::Verify => run_verify(rt, store, lines, out),
+        Order::Numbers => run_numbers(rt, store, lines, out),
     }
 }
 
-// Runs an order, a flush with the cleans that make room for it where it has to, and writes what it answers.
+// Runs an order. With `--clean-when-full`, cleans make room for a flush.
 pub(crate) fn run_order<R: AllocGlobal + Threads + Sync, D: Disk, O: Write>(
     rt: &R,
     crew: Crew,
-    ways: Ways,
+    mode: Mode,
     store: &mut Store<D>,
     order: &Order,
     lines: &mut Vec<u8>,
     out: &mut O,
-) -> Result<(), Ending>
+) -> Result<(), SessionError>
     requires crew { IsTrue (is_crew crew) }
     requires fine { store.old.has_failed ≡ false }
-    ensures runs { RunsFirst ways (D.view store.old.disk).is_honest
+    ensures runs { RunsFirst mode (D.view store.old.disk).is_honest
         store.old.settings store.old.store (D.view store.old.disk).seen (order.now ∷ [])
         (O.contents out.old) (O.contents out.new) result store.new.store
         (D.view store.new.disk).seen }
@@ -251,26 +294,25 @@ pub(crate) fn run_order<R: AllocGlobal + Threads + Sync, D: Disk, O: Write>(
     ensures holds { OnOk result (contents store.new.store.tree
         ≡ map_after (contents store.old.store.tree) order.now) }
 {
-    if ways.clean_when_full && order.is_flush() {
-        return run_flush_with_room(rt, crew, ways, store, lines, out);
+    if mode.clean_when_full && order.is_flush() {
+        return run_flush_with_room(rt, crew, mode, store, lines, out);
     }
-    run_plain(rt, crew, ways, store, order, lines, out)
+    run_plain(rt, crew, mode, store, order, lines, out)
 }
 
-// Runs the orders one after the other, and writes what each answers before the next runs.
 fn run_orders<R: AllocGlobal + Threads + Sync + Clock, D: Disk, O: Write, E: Write>(
     rt: &R,
     crew: Crew,
-    ways: Ways,
+    mode: Mode,
     store: &mut Store<D>,
     orders: &[Order],
     out: &mut O,
     reports: &mut Reports,
     err: &mut E,
-) -> Result<(), Ending>
+) -> Result<(), SessionError>
     requires crew { IsTrue (is_crew crew) }
     requires fine { store.old.has_failed ≡ false }
-    ensures runs { RunsOn ways (D.view store.old.disk).is_honest
+    ensures runs { RunsOn mode (D.view store.old.disk).is_honest
         store.old.settings store.old.store
         (D.view store.old.disk).seen orders.now (O.contents out.old) (O.contents out.new) result }
     ensures shows { Shows E.contents reports.old.progress.is_shown err.old
@@ -280,44 +322,47 @@ fn run_orders<R: AllocGlobal + Threads + Sync + Clock, D: Disk, O: Write, E: Wri
 {
     let mut lines = Vec::new(rt.alloc());
     for order in orders {
-        run_order(rt, crew, ways, store, order, &mut lines, out)?;
+        run_order(rt, crew, mode, store, order, &mut lines, out)?;
         reports.order_done(rt, orders.len(), err);
     }
     Ok(())
 }
 
-// Runs the orders on the store that was opened, and hands on to the device what was written. Then the store is copied, if it is to be.
+// Runs the orders on the store that was opened, flushes the output, and then writes the copy, if
+// there is to be one.
 pub(crate) fn run_opened<
     R: AllocGlobal + Threads + Wait + Sync + Files + Clock,
-    D: Disk + Reasoned + Drop,
+    D: Disk + LastError + Drop,
     O: Write,
     E: Write + Send,
 >(
     rt: &R,
     crew: Crew,
-    ways: Ways,
+    mode: Mode,
     copy: Option<Copying<'_, R::File>>,
-    opened: Result<Store<D>, Ending>,
+    opened: Result<Store<D>, SessionError>,
     orders: &[Order],
     out: &mut O,
     reports: &mut Reports,
     err: &mut E,
-) -> Result<(), Ending>
+) -> Result<(), SessionError>
 where
     R::File: LockFile,
     requires crew { IsTrue (is_crew crew) }
     requires fine { IfOk opened (λ store. store.has_failed ≡ false) }
     requires good { IfSome copy (λ c. first_bad_field c.settings ≡ None) }
     ensures runs { (start : Start) → Opens D.view start opened →
-        RunsFrom ways (option_map (λ c. c.settings) copy.entry) (IsHonestStore D.view opened)
+        RunsFrom mode (option_map (λ c. c.settings) copy.entry) (IsHonestStore D.view opened)
         start orders.now (O.contents out.old) (O.contents out.new) result }
     ensures shows { Shows E.contents reports.old.progress.is_shown err.old
         reports.new.progress.is_shown err.new }
 {
     let mut store = opened?;
-    reports.notes.opened();
-    let done = run_orders(rt, crew, ways, &mut store, orders, out, reports, err);
-    reports.notes.failed(Source::File, store.disk().reason());
+    reports.notes.store_opened();
+    let done = run_orders(rt, crew, mode, &mut store, orders, out, reports, err);
+    reports
+        .notes
+        .record_failure(Source::File, store.disk().reason());
     flush(done, out)?;
-    leave_copy(rt, crew, &store, copy, reports, err)
+    write_copy(rt, crew, &store, copy, reports, err)
 }

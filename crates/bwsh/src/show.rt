@@ -1,4 +1,4 @@
-//! Replies, sequence numbers, head segments and reports as they are printed.
+//! Answers as they are printed.
 ghost use Rattle.std.specs.Prelude.{◌≡◌, ◌∷◌, ◌++◌, [], codes, length, take, OnOk, OnErr};
 ghost use Rattle.std.specs.Fmt.{decimal};
 ghost use Rattle.std.specs.List.{flat_map};
@@ -9,26 +9,23 @@ use engine::Report;
 use keys::{Reply, RowList};
 use std::alloc::{AllocError, Global};
 
-/// The numbers of a store.
+/// The statistics of a store.
 #[derive(Clone, Copy, Debug, PartialEq, Eq)]
 pub struct StoreNumbers {
-    /// Of the last flush, clean or upgrade.
+    /// The number of the last flush, clean or upgrade.
     pub sequence: u64,
     /// The first segment of the log.
     pub head: u64,
-    /// Where the log ends.
+    /// The offset at which the log ends.
     pub tail: u64,
     /// The segments of the log that are in use.
     pub in_use: u64,
-    /// The segments that it may have.
+    /// The segments that the log may have.
     pub segments: u64,
-    /// The pages of the tree.
     pub pages: u128,
-    /// The pairs of the tree.
     pub pairs: u128,
 }
 
-// Appends the first line of a reply with this number of rows.
 fn push_count(count: usize, out: &mut Vec<u8>) -> Result<(), AllocError>
     ensures ok { OnOk result (out.new.items ≡ out.old.items ++ codes "rows " ++ decimal count) }
     ensures err { OnErr result (out.new.items ≡ out.old.items) }
@@ -37,7 +34,6 @@ fn push_count(count: usize, out: &mut Vec<u8>) -> Result<(), AllocError>
     out.extend_from_slice(text.as_bytes())
 }
 
-// Appends what the line of a reply to a wipe of `count` keys says.
 fn push_wiped(count: u128, out: &mut Vec<u8>) -> Result<(), AllocError>
     ensures ok { OnOk result (out.new.items ≡ out.old.items ++ codes "wiped " ++ decimal count) }
     ensures err { OnErr result (out.new.items ≡ out.old.items) }
@@ -46,7 +42,8 @@ fn push_wiped(count: u128, out: &mut Vec<u8>) -> Result<(), AllocError>
     out.extend_from_slice(text.as_bytes())
 }
 
-// Appends what the first line of the reply says. After an `Err` some of it may stand there.
+// The `push_` functions may leave a part of the text after an `Err`, unless their contract says
+// otherwise.
 fn push_reply(reply: &Reply<Global>, out: &mut Vec<u8>) -> Result<(), AllocError>
     ensures ok { OnOk result (out.new.items ≡ out.old.items ++ reply_text reply.now) }
     ensures err { OnErr result (take (length out.old.items) out.new.items ≡ out.old.items) }
@@ -67,7 +64,6 @@ fn push_reply(reply: &Reply<Global>, out: &mut Vec<u8>) -> Result<(), AllocError
     }
 }
 
-// Appends the line of a row. After an `Err` some of it may stand there.
 fn push_row(key: &[u8], value: &[u8], out: &mut Vec<u8>) -> Result<(), AllocError>
     ensures ok { OnOk result (out.new.items ≡ out.old.items ++ shown_row (key.now, value.now)) }
     ensures err { OnErr result (take (length out.old.items) out.new.items ≡ out.old.items) }
@@ -79,7 +75,6 @@ fn push_row(key: &[u8], value: &[u8], out: &mut Vec<u8>) -> Result<(), AllocErro
     Ok(())
 }
 
-// Appends the lines of the rows. After an `Err` some of them may stand there.
 fn push_rows(rows: &RowList<Global>, out: &mut Vec<u8>) -> Result<(), AllocError>
     ensures ok { OnOk result (out.new.items ≡ out.old.items ++ flat_map shown_row rows.now) }
     ensures err { OnErr result (take (length out.old.items) out.new.items ≡ out.old.items) }
@@ -90,7 +85,6 @@ fn push_rows(rows: &RowList<Global>, out: &mut Vec<u8>) -> Result<(), AllocError
     Ok(())
 }
 
-// Appends the lines of the reply. After an `Err` some of them may stand there.
 fn push_lines(reply: &Reply<Global>, out: &mut Vec<u8>) -> Result<(), AllocError>
     ensures ok { OnOk result (out.new.items ≡ out.old.items ++ shown_reply reply.now) }
     ensures err { OnErr result (take (length out.old.items) out.new.items ≡ out.old.items) }
@@ -103,7 +97,8 @@ fn push_lines(reply: &Reply<Global>, out: &mut Vec<u8>) -> Result<(), AllocError
     Ok(())
 }
 
-/// Appends the lines of the reply, each with its line feed. After an `Err` `out` is as it was before.
+/// Appends the lines of a reply. Like each `show_` function, it leaves `out` as it was after an
+/// `Err`.
 pub fn show_reply(reply: &Reply<Global>, out: &mut Vec<u8>) -> Result<(), AllocError>
     ensures ok { OnOk result (out.new.items ≡ out.old.items ++ shown_reply reply.now) }
     ensures err { OnErr result (out.new.items ≡ out.old.items) }
@@ -116,7 +111,7 @@ pub fn show_reply(reply: &Reply<Global>, out: &mut Vec<u8>) -> Result<(), AllocE
     shown
 }
 
-/// Appends the line of a flush that left this sequence number, with its line feed. After an `Err` `out` is as it was before.
+/// Appends the line of a flush.
 pub fn show_flushed(sequence: u64, out: &mut Vec<u8>) -> Result<(), AllocError>
     ensures ok { OnOk result (out.new.items ≡ out.old.items ++ shown_flushed sequence) }
     ensures err { OnErr result (out.new.items ≡ out.old.items) }
@@ -125,8 +120,7 @@ pub fn show_flushed(sequence: u64, out: &mut Vec<u8>) -> Result<(), AllocError>
     out.extend_from_slice(line.as_bytes())
 }
 
-/// Appends the line of a clean that left the log beginning in this segment, with its line feed. After an `Err` `out` is as it was
-/// before.
+/// Appends the line of a clean, after which `head` is the first segment.
 pub fn show_cleaned(head: u64, out: &mut Vec<u8>) -> Result<(), AllocError>
     ensures ok { OnOk result (out.new.items ≡ out.old.items ++ shown_cleaned head) }
     ensures err { OnErr result (out.new.items ≡ out.old.items) }
@@ -135,7 +129,7 @@ pub fn show_cleaned(head: u64, out: &mut Vec<u8>) -> Result<(), AllocError>
     out.extend_from_slice(line.as_bytes())
 }
 
-/// Appends the line of an upgrade that left this sequence number, with its line feed. After an `Err` `out` is as it was before.
+/// Appends the line of an upgrade.
 pub fn show_upgraded(sequence: u64, out: &mut Vec<u8>) -> Result<(), AllocError>
     ensures ok { OnOk result (out.new.items ≡ out.old.items ++ shown_upgraded sequence) }
     ensures err { OnErr result (out.new.items ≡ out.old.items) }
@@ -144,7 +138,7 @@ pub fn show_upgraded(sequence: u64, out: &mut Vec<u8>) -> Result<(), AllocError>
     out.extend_from_slice(line.as_bytes())
 }
 
-/// Appends the line of the report, with its line feed. After an `Err` `out` is as it was before.
+/// Appends the line of a verify.
 pub fn show_report(report: &Report, out: &mut Vec<u8>) -> Result<(), AllocError>
     ensures ok { OnOk result (out.new.items ≡ out.old.items ++ shown_report report.now) }
     ensures err { OnErr result (out.new.items ≡ out.old.items) }
@@ -158,7 +152,7 @@ pub fn show_report(report: &Report, out: &mut Vec<u8>) -> Result<(), AllocError>
     out.extend_from_slice(line.as_bytes())
 }
 
-/// Appends the line of the numbers, with its line feed. After an `Err` `out` is as it was before.
+/// Appends the line of `--stat`.
 pub fn show_numbers(numbers: &StoreNumbers, out: &mut Vec<u8>) -> Result<(), AllocError>
     ensures ok { OnOk result (out.new.items ≡ out.old.items ++ shown_numbers numbers.now) }
     ensures err { OnErr result (out.new.items ≡ out.old.items) }

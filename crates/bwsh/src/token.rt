@@ -1,11 +1,10 @@
-//! Tokens: how the words of a batch file stand for byte strings.
+//! Tokens: byte strings as words of a batch file.
 ghost use Rattle.std.specs.Prelude.{◌≡◌, ◌<◌, ◌++◌, ◌/◌, ◌%◌, [], ◌∷◌, length, take, Some, None, if◌then◌else◌, IfOk, IfSome, MatchOption, OnOk, OnErr};
 ghost use Rattle.std.specs.List.{list_all};
 ghost use Rattle.bwsh.specs.Token.{hex_value, hex_byte, stands_for_itself, unescaped, byte_in_front, with_front, token_bytes, hex_digit, shown_byte, shown_token};
 
 use std::alloc::AllocError;
 
-// The value of a hexadecimal digit, in either case.
 fn hex_value(digit: u8) -> Option<u8>
     ensures value { result ≡ hex_value digit }
     ensures small { IfSome result (λ value. value < 16) }
@@ -30,7 +29,7 @@ fn stands_for_itself(byte: u8) -> bool
     byte.is_ascii_graphic() && byte != b'%'
 }
 
-// Whether each of the bytes stands for itself. It tests all of them, which lets the processor test many at a time.
+// Tests all bytes without a branch, so that the compiler can vectorize the loop.
 fn are_plain(bytes: &[u8]) -> bool
     ensures { result ≡ list_all stands_for_itself bytes.now }
 {
@@ -41,7 +40,7 @@ fn are_plain(bytes: &[u8]) -> bool
     plain
 }
 
-// The byte that the front of the text stands for, and the text after it.
+// Decodes the first byte of the text, and returns the text after it.
 fn first_byte(text: &[u8]) -> Option<(u8, &[u8])>
     requires { 0 < length text.now }
     ensures value { MatchOption result (unescaped text.now ≡ None)
@@ -55,7 +54,7 @@ fn first_byte(text: &[u8]) -> Option<(u8, &[u8])>
     }
 }
 
-// Appends the bytes that the text stands for, and returns whether it stands for any.
+// Returns false if the text encodes no bytes.
 fn push_unescaped(text: &[u8], bytes: &mut Vec<u8>) -> Result<bool, AllocError>
     ensures { IfOk result (λ well. (if well then Some bytes.new.items else None)
         ≡ with_front bytes.old.items (unescaped text.now)) }
@@ -72,8 +71,8 @@ fn push_unescaped(text: &[u8], bytes: &mut Vec<u8>) -> Result<bool, AllocError>
     Ok(true)
 }
 
-/// Writes over `bytes` the bytes that the token stands for, and returns whether it stands for any. Where it does
-/// not, and after an `Err`, `bytes` has some of them.
+/// Decodes the token into `bytes`, and returns false if it encodes no bytes. Then, and after an
+/// `Err`, `bytes` may hold some of them.
 pub fn unescape(token: &[u8], bytes: &mut Vec<u8>) -> Result<bool, AllocError>
     ensures { IfOk result
         (λ well. (if well then Some bytes.new.items else None) ≡ token_bytes token.now) }
@@ -92,7 +91,6 @@ pub fn unescape(token: &[u8], bytes: &mut Vec<u8>) -> Result<bool, AllocError>
     push_unescaped(token, bytes)
 }
 
-// The upper case digit of a number below 16.
 fn hex_digit(value: u8) -> u8
     requires { value < 16 }
     ensures { result ≡ hex_digit value }
@@ -104,7 +102,6 @@ fn hex_digit(value: u8) -> u8
     }
 }
 
-// Appends the byte as it is printed.
 fn push_byte(byte: u8, out: &mut Vec<u8>) -> Result<(), AllocError>
     ensures ok { OnOk result (out.new.items ≡ out.old.items ++ shown_byte byte) }
     ensures err { OnErr result (out.new.items ≡ out.old.items) }
@@ -117,7 +114,7 @@ fn push_byte(byte: u8, out: &mut Vec<u8>) -> Result<(), AllocError>
     Ok(())
 }
 
-/// Appends the byte string as it is printed. After an `Err` some of it may stand there.
+/// Appends the bytes as a token. After an `Err` a part of it may be left.
 pub fn push_token(bytes: &[u8], out: &mut Vec<u8>) -> Result<(), AllocError>
     ensures ok { OnOk result (out.new.items ≡ out.old.items ++ shown_token bytes.now) }
     ensures err { OnErr result (take (length out.old.items) out.new.items ≡ out.old.items) }

@@ -1,4 +1,4 @@
-//! A call that takes long, which another thread watches: about once a second it shows how far the call is.
+//! A long call while another thread shows its progress.
 ghost use Rattle.std.specs.Prelude.{◌≡◌, Some, IfSome, IsSome};
 ghost use Rattle.bwsh.specs.Session.{Shows};
 
@@ -9,10 +9,11 @@ use std::sync::{Condvar, CondvarTimeouts, Mutex, Wait};
 use std::thread::{Threads, join_mut};
 use std::time::{Clock, Duration};
 
-// Milliseconds between two looks of the watcher: some more than the second after which a line is due, since clocks aren't exact.
+// Milliseconds between two looks: a little more than the second after which a line is due, since
+// clocks are not exact.
 const PAUSE: u64 = 1_100;
 
-// Whether a call is done, for the thread that watches it.
+// Tells the watching thread that the call is done.
 #[derive(Drop)]
 struct Latch {
     is_done: Mutex<bool>,
@@ -20,13 +21,12 @@ struct Latch {
 }
 
 impl Latch {
-    // The call is done: the thread that watches it needn't wait.
     fn set<R: Wait>(&self, rt: &R) {
         *self.is_done.lock(rt) = true;
         self.changed.notify_all();
     }
 
-    // Whether the call is done. Where it isn't, it has until the pause is over.
+    // Waits for at most `PAUSE`, and returns whether the call is done.
     fn is_set<R: Wait + Clock>(&self, rt: &R) -> bool {
         let is_done = self.is_done.lock(rt);
         let (is_done, _) = self.changed.wait_timeout_while(
@@ -39,7 +39,7 @@ impl Latch {
     }
 }
 
-// Shows how far the call is after each pause, until it is done, or nothing is shown any more, or the clock can't be read.
+// Shows progress until the call is done, a write fails or the clock cannot be read.
 fn watch<R: Wait + Clock, E: Write>(
     rt: &R,
     latch: &Latch,
@@ -54,20 +54,18 @@ fn watch<R: Wait + Clock, E: Write>(
         if latch.is_set(rt) || !progress.is_shown || !progress.is_due(rt) {
             break;
         }
-        progress.goes_on(call, meter.segments(), err);
+        progress.show_call(call, meter.segments(), err);
     }
 }
 
-/// Does the work, which counts on the meter. Where progress is shown another thread watches it, and shows how far it is: about once a second,
-/// the first time after a second. Where no thread can be made, it is done all the same.
-pub fn watched<R: Threads + Wait + Clock + Sync, E: Write + Send, T: Drop, W: FnOnce() -> T + Drop>(
-    rt: &R,
-    meter: &Meter,
-    call: LongCall<'_>,
-    progress: &mut Progress,
-    err: &mut E,
-    work: W,
-) -> T
+/// Runs `work`. If progress is shown, a second thread shows about once a second what `meter` has
+/// counted. If no thread can be started, `work` runs all the same.
+pub fn run_watched<
+    R: Threads + Wait + Clock + Sync,
+    E: Write + Send,
+    T: Drop,
+    W: FnOnce() -> T + Drop,
+>(rt: &R, meter: &Meter, call: LongCall<'_>, progress: &mut Progress, err: &mut E, work: W) -> T
     requires { W.pre work }
     ensures done { W.post work result }
     ensures shows { Shows E.contents progress.old.is_shown err.old progress.new.is_shown err.new }

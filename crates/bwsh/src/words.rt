@@ -1,30 +1,27 @@
-//! The words of a line.
+//! Splitting a line into words.
 ghost use Rattle.std.specs.Prelude.{◌≡◌, [], ◌∷◌, not, position, MatchOption};
 ghost use Rattle.std.specs.Option.{option_copied, option_map};
 ghost use Rattle.bwsh.specs.Words.{is_blank, words_of, the_only, the_two, the_three};
 
-// Whether the byte is a space or a tab.
 fn is_blank(byte: u8) -> bool
     ensures { result ≡ is_blank byte }
 {
     byte == b' ' || byte == b'\t'
 }
 
-// Where the first byte stands that is no blank.
 fn start_of_word(text: &[u8]) -> Option<usize>
     ensures { result ≡ position (λ c. not (is_blank c)) text.now }
 {
     text.iter().position(|byte| !is_blank(*byte))
 }
 
-// Where the first blank stands.
 fn end_of_word(text: &[u8]) -> Option<usize>
     ensures { result ≡ position is_blank text.now }
 {
     text.iter().position(|byte| is_blank(*byte))
 }
 
-/// The first word of the line, and the rest of the line after it.
+/// Returns the first word and the rest of the line.
 pub fn first_word(line: &[u8]) -> Option<(&[u8], &[u8])>
     ensures { MatchOption result (words_of line.now ≡ [])
         (λ first. words_of line.now ≡ first.0.now ∷ words_of first.1.now) }
@@ -35,7 +32,7 @@ pub fn first_word(line: &[u8]) -> Option<(&[u8], &[u8])>
     Some(line.split_at(end))
 }
 
-/// The word of the line, where it has one and no more.
+/// Returns the word of a line that has exactly one.
 pub fn only_word(line: &[u8]) -> Option<&[u8]>
     ensures { option_copied result ≡ the_only (words_of line.now) }
 {
@@ -46,7 +43,7 @@ pub fn only_word(line: &[u8]) -> Option<&[u8]>
     Some(word)
 }
 
-/// The two words of the line, where it has two and no more.
+/// Returns the words of a line that has exactly two.
 pub fn two_words(line: &[u8]) -> Option<(&[u8], &[u8])>
     ensures { option_map (λ (a, b). (a.now, b.now)) result ≡ the_two (words_of line.now) }
 {
@@ -54,7 +51,7 @@ pub fn two_words(line: &[u8]) -> Option<(&[u8], &[u8])>
     Some((first, only_word(rest)?))
 }
 
-/// The three words of the line, where it has three and no more.
+/// Returns the words of a line that has exactly three.
 pub fn three_words(line: &[u8]) -> Option<(&[u8], &[u8], &[u8])>
     ensures { option_map (λ (a, b, c). (a.now, b.now, c.now)) result
         ≡ the_three (words_of line.now) }

@@ -2,38 +2,37 @@
 use engine::Crew;
 use keys::Settings;
 
-/// What the command line asks for.
+/// The values of all options.
 #[derive(Drop)]
 pub struct Options {
-    /// The settings of a store that is made.
+    /// The settings of a store that is created.
     pub settings: Settings,
-    /// Who works the pages. What is answered is the same for every crew.
+    /// Workers and grain, which change no answer.
     pub crew: Crew,
-    /// The file in which the store is. Without one it is in memory, and ends with the program.
+    /// The file of the store, or `None` for a store in memory.
     pub disk: Option<String>,
-    /// Whether that file is made anew, so that what it held is lost. Without a file it changes nothing.
+    /// Whether the file is created anew and loses what it held.
     pub create: bool,
-    /// The new file into which the store is copied where all orders are done. Without one it is not copied.
+    /// The file into which the store is copied at the end.
     pub copy_to: Option<String>,
-    /// In which ways the session differs from one without options.
-    pub ways: Ways,
+    pub mode: Mode,
 }
 
-/// In which ways a session differs from one without options. Each is off unless it is asked for.
+/// The options that change how a session runs.
 #[derive(Clone, Copy, Debug, PartialEq, Eq)]
-pub struct Ways {
-    /// The version is printed, and nothing is read or done.
+pub struct Mode {
+    /// Print the version and do nothing else.
     pub version: bool,
-    /// Where the session ends early, a second line on standard error says where that came from, and what to do.
+    /// Explain an error on a second line of standard error.
     pub explain: bool,
-    /// Where all orders are done, one more line has the numbers of the store.
+    /// Print the statistics of the store at the end.
     pub stat: bool,
-    /// A flush for which the log is full is made after as many cleans as it takes, at most one for each segment; each prints its line.
+    /// Print statistics at the end.
     pub clean_when_full: bool,
-    /// The input is read line by line, and each batch is answered before the next line is waited for.
+    /// Read line by line, and answer each batch before reading on.
     pub stream: bool,
-    /// After each flush that was answered, up to this number of emptied leaves are merged. 0 is none.
+    /// How many emptied leaves to merge after each flush.
     pub tidy: u32,
-    /// Once a second, a line on standard error says how far the session is.
+    /// Show progress on standard error once a second.
     pub progress: bool,
 }

@@ -10,7 +10,7 @@ returns c =
     let disk = c.in_ok-disk.ensures refl w.0 w.2 in
     let copy = c.in_ok-copy_to.ensures refl w.0 w.2 in
     record {
-      ok = (w.0, w.1, rw (c.settings.ensures w.0 w.3 w.2, c.crew.ensures w.0 w.3 w.2, disk, copy, c.flag_at.ensures refl w.0 w.3 w.2, c.ways.ensures w.0 w.3 w.2) refl);
+      ok = (w.0, w.1, rw (c.settings.ensures w.0 w.3 w.2, c.crew.ensures w.0 w.3 w.2, disk, copy, c.flag_at.ensures refl w.0 w.3 w.2, c.mode.ensures w.0 w.3 w.2) refl);
       err = tt;
     }
 

@@ -7,18 +7,18 @@ use Rattle.bwsh.proofs.output.write_answers.Goals as goal
 pub returns-in_err-write_answer : goal.returns-in_err-write_answer
 returns-in_err-write_answer g c =
     let at = c.loop-answer in
-    let said = c.args.answers.now in
+    let parsed = c.args.answers.now in
     let p = err_from_is_err_and c.from_residual.result c.from_residual.ensures.1 in
-    rw (p.1, p.2) (left_early _ _ _ _ at.invariant.leads _ (lines_of_answers (drop (at.answer-index + 1) said))
-    (answers_left said at.answer-index c.answer-item.result c.loop-answer-test.true c.answer-item.is) _ _ c.in_err-write_answer.ensures)
+    rw (p.1, p.2) (left_early _ _ _ _ at.invariant.leads _ (lines_of_answers (drop (at.answer-index + 1) parsed))
+    (answers_left parsed at.answer-index c.answer-item.result c.loop-answer-test.true c.answer-item.is) _ _ c.in_err-write_answer.ensures)
 
 pub loop-answer-preserved : goal.loop-answer-preserved
 loop-answer-preserved g c =
     let at = c.loop-answer in
-    let said = c.args.answers.now in
+    let parsed = c.args.answers.now in
     record {
-      leads = left_later _ _ _ _ at.invariant.leads _ (lines_of_answers (drop (at.answer-index + 1) said))
-          (answers_left said at.answer-index c.answer-item.result c.loop-answer-test.true c.answer-item.is) _ _ c.in_ok-write_answer.ensures;
+      leads = left_later _ _ _ _ at.invariant.leads _ (lines_of_answers (drop (at.answer-index + 1) parsed))
+          (answers_left parsed at.answer-index c.answer-item.result c.loop-answer-test.true c.answer-item.is) _ _ c.in_ok-write_answer.ensures;
     }
 
 pub returns : goal.returns

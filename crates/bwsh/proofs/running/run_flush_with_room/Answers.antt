@@ -4,7 +4,7 @@ use Rattle.mapping.specs.Levels.{contents}
 use Rattle.mapping.specs.Tree.{Store}
 use Rattle.keys.specs.declared.fault.Fault.TheVariants.{Full}
 use Rattle.bwsh.specs.declared.batch_file.Order.TheVariants.{Clean}
-use Rattle.bwsh.specs.declared.session.Ending.TheVariants as endings
+use Rattle.bwsh.specs.declared.session.SessionError.TheVariants as errors
 use Rattle.bwsh.proofs.RoomLemmas.{as_roomy, Room-ends, Room-cleaned, Room-refused}
 use Rattle.bwsh.proofs.running.run_flush_with_room.Goals as goal
 use Rattle.bwsh.proofs.running.run_flush_with_room.Goals.{then-left-eq0-via-then-left-eq0, then-left-eq0-via-else-left-eq0+then-not-is_full}
@@ -16,13 +16,13 @@ returns-then-left-eq0-clause-runs g c room =
     let at = c.room in
     let now = g.D.Disk.view at.store.disk in
     let tried = c.run_flush-done.new.store in
-    let why : (at.left ≡ 0) ⊎ (c.run_flush-done.result ≢ Err (endings.Fault Full)) = elim c.then-left-eq0.branch [
+    let why : (at.left ≡ 0) ⊎ (c.run_flush-done.result ≢ Err (errors.Fault Full)) = elim c.then-left-eq0.branch [
       | then-left-eq0-via-then-left-eq0 w ↦ inl w.if-left-eq0.true
       | then-left-eq0-via-else-left-eq0+then-not-is_full w ↦ inr (w.is_full.ensures.other w.if-not-is_full.true)
     ] in
-    as_roomy c.args.ways room disk.is_honest store.settings store.store disk.seen (g.O.Write.contents c.args.out.now) (g.O.Write.contents c.run_flush-done.new.out) c.run_flush-done.result tried.store
+    as_roomy c.args.mode room disk.is_honest store.settings store.store disk.seen (g.O.Write.contents c.args.out.now) (g.O.Write.contents c.run_flush-done.new.out) c.run_flush-done.result tried.store
     (g.D.Disk.view tried.disk).seen
-    (Room-ends c.args.ways disk.is_honest store.settings store.store disk.seen (g.O.Write.contents c.args.out.now) at.left at.store.store now.seen (g.O.Write.contents at.out) at.invariant.leads
+    (Room-ends c.args.mode disk.is_honest store.settings store.store disk.seen (g.O.Write.contents c.args.out.now) at.left at.store.store now.seen (g.O.Write.contents at.out) at.invariant.leads
     now.is_honest at.invariant.honest at.store.settings at.invariant.settings (g.O.Write.contents c.run_flush-done.new.out) c.run_flush-done.result tried.store (g.D.Disk.view tried.disk).seen
     c.run_flush-done.ensures.runs why)
 
@@ -42,12 +42,12 @@ returns-in-Err-clause-runs g c room =
     let full = c.is_full.ensures.full c.if-not-is_full.false in
     let kept = flushed.full full in
     let after = c.run_step.new.store in
-    as_roomy c.args.ways room disk.is_honest store.settings store.store disk.seen (g.O.Write.contents c.args.out.now) (g.O.Write.contents c.run_step.new.out) (Err c.want_of_room.result) after.store
+    as_roomy c.args.mode room disk.is_honest store.settings store.store disk.seen (g.O.Write.contents c.args.out.now) (g.O.Write.contents c.run_step.new.out) (Err c.full_if_nothing_to_clean.result) after.store
     (g.D.Disk.view after.disk).seen
-    (Room-refused c.args.ways disk.is_honest store.settings store.store disk.seen (g.O.Write.contents c.args.out.now) at.left at.store.store now.seen (g.O.Write.contents at.out) at.invariant.leads
+    (Room-refused c.args.mode disk.is_honest store.settings store.store disk.seen (g.O.Write.contents c.args.out.now) at.left at.store.store now.seen (g.O.Write.contents at.out) at.invariant.leads
     now.is_honest at.invariant.honest at.store.settings at.invariant.settings (g.O.Write.contents c.run_flush-done.new.out) c.run_flush-done.result tried.store shows.seen
     flushed.runs c.if-left-eq0.false full kept.0 kept.2 shows.is_honest flushed.honest tried.settings flushed.settings
-    (g.O.Write.contents c.run_step.new.out) _ after.store (g.D.Disk.view after.disk).seen (c.in-Err.ensures.runs c.args.ways Clean refl) c.in-Err.refused c.want_of_room.result refl c.want_of_room.ensures)
+    (g.O.Write.contents c.run_step.new.out) _ after.store (g.D.Disk.view after.disk).seen (c.in-Err.ensures.runs c.args.mode Clean refl) c.in-Err.refused c.full_if_nothing_to_clean.result refl c.full_if_nothing_to_clean.ensures)
 
 pub room-preserved-in_default-3 : goal.room-preserved-in_default-3
 room-preserved-in_default-3 g c =
@@ -67,9 +67,9 @@ room-preserved-in_default-3 g c =
       honest = cleaned.honest ∙ (flushed.honest ∙ at.invariant.honest);
       fine = cleaned.failed ∙ (kept.1 ∙ at.invariant.fine);
       same = at.invariant.same;
-      holds = (cleaned.runs c.args.ways Clean refl).3.holds ∙ (ap (λ (s : Store). contents s.tree) kept.0 ∙ at.invariant.holds);
-      leads = Room-cleaned c.args.ways disk.is_honest store.settings store.store disk.seen (g.O.Write.contents c.args.out.now) at.left at.store.store now.seen (g.O.Write.contents at.out) at.invariant.leads
+      holds = (cleaned.runs c.args.mode Clean refl).3.holds ∙ (ap (λ (s : Store). contents s.tree) kept.0 ∙ at.invariant.holds);
+      leads = Room-cleaned c.args.mode disk.is_honest store.settings store.store disk.seen (g.O.Write.contents c.args.out.now) at.left at.store.store now.seen (g.O.Write.contents at.out) at.invariant.leads
           now.is_honest at.invariant.honest at.store.settings at.invariant.settings (g.O.Write.contents c.run_flush-done.new.out) c.run_flush-done.result tried.store shows.seen
           flushed.runs c.if-left-eq0.false full kept.0 kept.2 shows.is_honest flushed.honest tried.settings flushed.settings
-          (g.O.Write.contents c.run_step.new.out) _ after.store (g.D.Disk.view after.disk).seen (cleaned.runs c.args.ways Clean refl) c.in_default.field-0 refl;
+          (g.O.Write.contents c.run_step.new.out) _ after.store (g.D.Disk.view after.disk).seen (cleaned.runs c.args.mode Clean refl) c.in_default.field-0 refl;
     }

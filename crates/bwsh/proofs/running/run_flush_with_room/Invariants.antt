@@ -11,7 +11,7 @@ invariant-room g l = record {
   fine : l.store.has_failed ≡ false;
   same : l.fn.store.has_failed ≡ false;
   holds : contents l.store.store.tree ≡ contents l.fn.store.store.tree;
-  leads : LeadsRoom l.fn.ways (g.D.Disk.view l.fn.store.disk).is_honest l.fn.store.settings l.fn.store.store (g.D.Disk.view l.fn.store.disk).seen (g.O.Write.contents l.fn.out)
+  leads : LeadsRoom l.fn.mode (g.D.Disk.view l.fn.store.disk).is_honest l.fn.store.settings l.fn.store.store (g.D.Disk.view l.fn.store.disk).seen (g.O.Write.contents l.fn.out)
       l.left l.store.store (g.D.Disk.view l.store.disk).seen (g.O.Write.contents l.out);
 }
 

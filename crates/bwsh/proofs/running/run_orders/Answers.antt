@@ -3,7 +3,7 @@ use Rattle.std.proofs.lemmas.Result.{err_from_is_err_and}
 use Rattle.std.proofs.lemmas.List.{drop_all}
 use Rattle.mapping.specs.Levels.{contents}
 use Rattle.bwsh.specs.Session.{map_left}
-use Rattle.bwsh.proofs.FirstLemmas.{Leads-stops, Leads-goes_on, Leads-done}
+use Rattle.bwsh.proofs.FirstLemmas.{Leads-stops, Leads-show_call, Leads-done}
 use Rattle.bwsh.proofs.ProgressLemmas.{Shows-same, Shows-trans}
 use Rattle.bwsh.proofs.RunLemmas.{orders_left}
 use Rattle.bwsh.proofs.running.run_orders.Goals as goal
@@ -19,7 +19,7 @@ returns-in_err-run_order-clause-runs g c =
     let now = g.D.Disk.view at.store.disk in
     let orders = c.args.orders.now in
     let p = err_from_is_err_and c.from_residual.result c.from_residual.ensures.1 in
-    rw (p.1, p.2) (Leads-stops c.args.ways disk.is_honest store.settings store.store at.store.store disk.seen now.seen orders _ _ _ at.invariant.leads c.order-item.result (drop (at.order-index + 1) orders)
+    rw (p.1, p.2) (Leads-stops c.args.mode disk.is_honest store.settings store.store at.store.store disk.seen now.seen orders _ _ _ at.invariant.leads c.order-item.result (drop (at.order-index + 1) orders)
     (orders_left orders at.order-index c.order-item.result c.loop-order-test.true c.order-item.is) now.is_honest at.invariant.honest at.store.settings at.invariant.settings _ _
     c.run_order.new.store.store (g.D.Disk.view c.run_order.new.store.disk).seen c.in_err-run_order.ensures.runs _ refl)
 
@@ -38,7 +38,7 @@ loop-order-preserved g c =
       honest = ok.honest ∙ at.invariant.honest;
       fine = ok.failed ∙ at.invariant.fine;
       holds = ap (λ (m : List (List ℕ × List ℕ)). map_left m rest) ok.holds ∙ (ap (map_left (contents at.store.store.tree)) (sym left) ∙ at.invariant.holds);
-      leads = Leads-goes_on c.args.ways disk.is_honest store.settings store.store at.store.store disk.seen now.seen orders _ _ _ at.invariant.leads c.order-item.result (drop (at.order-index + 1) orders)
+      leads = Leads-show_call c.args.mode disk.is_honest store.settings store.store at.store.store disk.seen now.seen orders _ _ _ at.invariant.leads c.order-item.result (drop (at.order-index + 1) orders)
           (orders_left orders at.order-index c.order-item.result c.loop-order-test.true c.order-item.is) now.is_honest at.invariant.honest at.store.settings at.invariant.settings _ _ _ _ ok.runs _ refl;
       shows = Shows-trans g.E.Write.contents _ _ _ _ _ _ at.invariant.shows c.order_done.ensures;
     }
@@ -49,7 +49,7 @@ returns-clause-runs g c =
     let disk = g.D.Disk.view store.disk in
     let orders = c.args.orders.now in
     let at = c.loop-order in
-    Leads-done c.args.ways disk.is_honest store.settings store.store at.store.store disk.seen (g.D.Disk.view at.store.disk).seen orders (drop at.order-index orders) _ _ at.invariant.leads
+    Leads-done c.args.mode disk.is_honest store.settings store.store at.store.store disk.seen (g.D.Disk.view at.store.disk).seen orders (drop at.order-index orders) _ _ at.invariant.leads
     (drop_all at.order-index orders (omega arith))
 
 pub returns-clause-holds : goal.returns-clause-holds

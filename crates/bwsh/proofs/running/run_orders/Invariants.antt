@@ -11,7 +11,7 @@ invariant-loop-order g l = record {
   honest : (g.D.Disk.view l.store.disk).is_honest ≡ (g.D.Disk.view l.fn.store.disk).is_honest;
   fine : l.store.has_failed ≡ false;
   holds : map_left (contents l.store.store.tree) (drop l.order-index l.orders) ≡ map_left (contents l.fn.store.store.tree) l.fn.orders;
-  leads : Leads l.fn.ways (g.D.Disk.view l.fn.store.disk).is_honest l.fn.store.settings l.fn.store.store (g.D.Disk.view l.fn.store.disk).seen l.fn.orders (g.O.Write.contents l.fn.out)
+  leads : Leads l.fn.mode (g.D.Disk.view l.fn.store.disk).is_honest l.fn.store.settings l.fn.store.store (g.D.Disk.view l.fn.store.disk).seen l.fn.orders (g.O.Write.contents l.fn.out)
       l.store.store (g.D.Disk.view l.store.disk).seen (drop l.order-index l.orders) (g.O.Write.contents l.out);
   shows : Shows g.E.Write.contents l.fn.reports.progress.is_shown l.fn.err l.reports.progress.is_shown l.err;
 }

@@ -2,7 +2,7 @@ use Rattle.std.proofs.Common.{◌≡◌, ℕ, List, map, subst}
 use Rattle.std.specs.String.{string_bytes}
 use Rattle.bwsh.specs.Session.{IsReportedWith}
 use Rattle.bwsh.proofs.EndLemmas.{all_follows, Appends-same}
-use Rattle.bwsh.proofs.EndingLemmas.{quiet_end}
+use Rattle.bwsh.proofs.ErrorLemmas.{quiet_end}
 use Rattle.bwsh.proofs.ProgressLemmas.{quiet_after, reported_after}
 use Rattle.bwsh.proofs.session.session.Goals as goal
 
@@ -11,10 +11,10 @@ returns g c =
     let words = map string_bytes c.args.words.now in
     let known = g.I.Read.remaining c.args.input.now in
     let old = g.O.Write.contents c.args.out.now in
-    let new = g.O.Write.contents c.obey-done.new.out in
-    let ends = c.obey-done.ensures.ends in
-    let follows = all_follows words known old new (c.obey-done.new.input ≡ c.args.input.now) (c.obey-done.new.out ≡ c.args.out.now) c.end.result c.obey-done.result c.end.ensures.status
-    (Appends-same g.O.Write.contents c.args.out.now c.obey-done.new.out) ends in
+    let new = g.O.Write.contents c.execute-done.new.out in
+    let ends = c.execute-done.ensures.ends in
+    let follows = all_follows words known old new (c.execute-done.new.input ≡ c.args.input.now) (c.execute-done.new.out ≡ c.args.out.now) c.end.result c.execute-done.result c.end.ensures.status
+    (Appends-same g.O.Write.contents c.args.out.now c.execute-done.new.out) ends in
     record {
       status = follows.status_is;
       refused = follows.refused;
@@ -23,13 +23,13 @@ returns g c =
       bad = follows.bad;
       beginning = follows.beginning;
       ends = (
-        c.obey-done.result,
+        c.execute-done.result,
         c.end.ensures.status,
         ends,
-        reported_after g.E.Write.contents words c.args.err.now c.obey-done.new.err c.end.new.err c.obey-done.result c.obey-done.new.more.items c.obey-done.ensures.quiet c.obey-done.ensures.more
-            (subst (λ (m : List ℕ). IsReportedWith m c.obey-done.result (g.E.Write.contents c.obey-done.new.err) (g.E.Write.contents c.end.new.err)) c.deref.ensures.value c.end.ensures.reported),
+        reported_after g.E.Write.contents words c.args.err.now c.execute-done.new.err c.end.new.err c.execute-done.result c.execute-done.new.more.items c.execute-done.ensures.quiet c.execute-done.ensures.more
+            (subst (λ (m : List ℕ). IsReportedWith m c.execute-done.result (g.E.Write.contents c.execute-done.new.err) (g.E.Write.contents c.end.new.err)) c.deref.ensures.value c.end.ensures.reported),
       );
       quiet = λ zero.
-          quiet_after g.E.Write.contents words c.args.err.now c.obey-done.new.err c.end.new.err c.obey-done.ensures.quiet
-          (quiet_end c.obey-done.result c.end.result _ c.end.ensures.status c.end.ensures.quiet zero);
+          quiet_after g.E.Write.contents words c.args.err.now c.execute-done.new.err c.end.new.err c.execute-done.ensures.quiet
+          (quiet_end c.execute-done.result c.end.result _ c.end.ensures.status c.end.ensures.quiet zero);
     }

@@ -4,11 +4,11 @@ use Rattle.bwsh.proofs.StreamLemmas.{RunsFirst-no_pending, RunsFirst-pending, ma
 use Rattle.bwsh.proofs.stream.run_any_pending.Goals as goal
 
 pub returns-then-is_empty-clause-runs : goal.returns-then-is_empty-clause-runs
-returns-then-is_empty-clause-runs g c ways =
+returns-then-is_empty-clause-runs g c mode =
     let store = c.args.store.now in
     let disk = g.D.Disk.view store.disk in
     let pending = c.args.pending.now in
-    RunsFirst-no_pending ways disk.is_honest store.settings store.store disk.seen pending.items _ pending.len pending.ok.0 (sym c.is_empty.ensures ∙ c.if-is_empty.true) tt
+    RunsFirst-no_pending mode disk.is_honest store.settings store.store disk.seen pending.items _ pending.len pending.ok.0 (sym c.is_empty.ensures ∙ c.if-is_empty.true) tt
 
 pub returns-then-is_empty-clause-pending : goal.returns-then-is_empty-clause-pending
 returns-then-is_empty-clause-pending g c =
@@ -16,13 +16,13 @@ returns-then-is_empty-clause-pending g c =
     none_pending pending.items pending.len pending.ok.0 (sym c.is_empty.ensures ∙ c.if-is_empty.true)
 
 pub returns-clause-runs : goal.returns-clause-runs
-returns-clause-runs g c ways =
+returns-clause-runs g c mode =
     let store = c.args.store.now in
     let disk = g.D.Disk.view store.disk in
     let pending = c.args.pending.now in
     let run = c.run_pending in
-    RunsFirst-pending ways disk.is_honest store.settings store.store disk.seen pending.items _ pending.len pending.ok.0 (sym c.is_empty.ensures ∙ c.if-is_empty.false) _ run.result
-    run.new.store.store (g.D.Disk.view run.new.store.disk).seen (run.ensures.runs ways)
+    RunsFirst-pending mode disk.is_honest store.settings store.store disk.seen pending.items _ pending.len pending.ok.0 (sym c.is_empty.ensures ∙ c.if-is_empty.false) _ run.result
+    run.new.store.store (g.D.Disk.view run.new.store.disk).seen (run.ensures.runs mode)
 
 pub returns-then-is_empty-clause-holds : goal.returns-then-is_empty-clause-holds
 returns-then-is_empty-clause-holds g c =

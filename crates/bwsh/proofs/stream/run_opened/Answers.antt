@@ -10,22 +10,22 @@ pub returns-in_err-store-clause-runs : goal.returns-in_err-store-clause-runs
 returns-in_err-store-clause-runs g c start opens =
     let copy = option_map (λ w. w.settings) c.args.copy in
     let p = err_from_is_err_and c.from_residual.result c.from_residual.ensures.1 in
-    rw (p.1, p.2) (StreamsFrom-unopened c.args.ways _ _ start g.D.Disk.view c.args.opened opens _ c.in_err-store.was copy)
+    rw (p.1, p.2) (StreamsFrom-unopened c.args.mode _ _ start g.D.Disk.view c.args.opened opens _ c.in_err-store.was copy)
 
 pub returns-in_err-flush-clause-runs : goal.returns-in_err-flush-clause-runs
 returns-in_err-flush-clause-runs g c start opens =
     let copy = option_map (λ w. w.settings) c.args.copy in
     let run = c.run_lines-done in
     let p = err_from_is_err_and c.from_residual-in_err-flush.result c.from_residual-in_err-flush.ensures.1 in
-    rw (p.1, p.2) (StreamsFrom-opened c.args.ways _ _ start g.D.Disk.view c.args.opened opens c.in_ok-store.store (g.O.Write.contents run.new.out) _ run.result run.new.store.store _ c.in_ok-store.was
-    run.ensures.runs c.flush.ensures.bytes (ended_as c.ended.result (stream_ended run.result) _ c.ended.ensures c.in_err-flush.ensures.end) copy _ refl)
+    rw (p.1, p.2) (StreamsFrom-opened c.args.mode _ _ start g.D.Disk.view c.args.opened opens c.in_ok-store.store (g.O.Write.contents run.new.out) _ run.result run.new.store.store _ c.in_ok-store.was
+    run.ensures.runs c.flush.ensures.bytes (ended_as c.stream_result.result (stream_ended run.result) _ c.stream_result.ensures c.in_err-flush.ensures.end) copy _ refl)
 
 pub returns-clause-runs : goal.returns-clause-runs
 returns-clause-runs g c start opens =
     let copy = option_map (λ w. w.settings) c.args.copy in
     let run = c.run_lines-done in
-    StreamsFrom-opened c.args.ways _ _ start g.D.Disk.view c.args.opened opens c.in_ok-store.store (g.O.Write.contents run.new.out) _ run.result run.new.store.store (Ok tt) c.in_ok-store.was
-    run.ensures.runs c.flush.ensures.bytes (ended_as c.ended.result (stream_ended run.result) (Ok tt) c.ended.ensures c.in_ok-flush.ensures.end) copy c.leave_copy.result c.leave_copy.ensures.copies
+    StreamsFrom-opened c.args.mode _ _ start g.D.Disk.view c.args.opened opens c.in_ok-store.store (g.O.Write.contents run.new.out) _ run.result run.new.store.store (Ok tt) c.in_ok-store.was
+    run.ensures.runs c.flush.ensures.bytes (ended_as c.stream_result.result (stream_ended run.result) (Ok tt) c.stream_result.ensures c.in_ok-flush.ensures.end) copy c.write_copy.result c.write_copy.ensures.copies
 
 pub returns-in_err-store-clause-shows : goal.returns-in_err-store-clause-shows
 returns-in_err-store-clause-shows g c = Shows-same g.E.Write.contents c.args.reports.now.progress.is_shown c.args.err.now
@@ -34,4 +34,4 @@ pub returns-in_err-flush-clause-shows : goal.returns-in_err-flush-clause-shows
 returns-in_err-flush-clause-shows g c = c.run_lines-done.ensures.shows
 
 pub returns-clause-shows : goal.returns-clause-shows
-returns-clause-shows g c = Shows-trans g.E.Write.contents _ _ _ _ _ _ c.run_lines-done.ensures.shows c.leave_copy.ensures.shows
+returns-clause-shows g c = Shows-trans g.E.Write.contents _ _ _ _ _ _ c.run_lines-done.ensures.shows c.write_copy.ensures.shows

@@ -43,12 +43,12 @@ pub returns-in_err-copy-clause-shows : goal.returns-in_err-copy-clause-shows
 returns-in_err-copy-clause-shows g c = Shows-same g.E.Write.contents c.args.reports.now.progress.is_shown c.args.err.now
 
 pub returns-in-None-clause-shows : goal.returns-in-None-clause-shows
-returns-in-None-clause-shows g c = Shows-trans g.E.Write.contents _ _ _ _ _ _ c.opening.ensures c.run_opened.ensures.shows
+returns-in-None-clause-shows g c = Shows-trans g.E.Write.contents _ _ _ _ _ _ c.show_opening.ensures c.run_opened.ensures.shows
 
 pub returns-in-Some-clause-shows : goal.returns-in-Some-clause-shows
-returns-in-Some-clause-shows g c = Shows-trans g.E.Write.contents _ _ _ _ _ _ c.opening.ensures c.run_opened-in-Some.ensures.shows
+returns-in-Some-clause-shows g c = Shows-trans g.E.Write.contents _ _ _ _ _ _ c.show_opening.ensures c.run_opened-in-Some.ensures.shows
 
 pub returns-clause-shows : goal.returns-clause-shows
 returns-clause-shows g c =
-    Shows-trans g.E.Write.contents _ _ _ _ _ _ c.opening.ensures
+    Shows-trans g.E.Write.contents _ _ _ _ _ _ c.show_opening.ensures
     (Shows-trans g.E.Write.contents _ _ _ _ _ _ c.store_in_file-opened.ensures.shows c.run_opened-in-Some-2.ensures.shows)

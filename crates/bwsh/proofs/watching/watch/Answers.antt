@@ -6,4 +6,4 @@ use Rattle.bwsh.proofs.watching.watch.Goals as goal
 pub loop-preserved : goal.loop-preserved
 loop-preserved g c =
     Shows-trans g.E.Write.contents _ _ _ _ _ _ c.loop.invariant
-    (subst (λ (b : Bool). Shows g.E.Write.contents b c.loop.err c.goes_on.new.self.is_shown c.goes_on.new.err) c.is_due.ensures c.goes_on.ensures)
+    (subst (λ (b : Bool). Shows g.E.Write.contents b c.loop.err c.show_call.new.self.is_shown c.show_call.new.err) c.is_due.ensures c.show_call.ensures)

@@ -1,7 +1,7 @@
 use Rattle.std.proofs.Common.{◌∙◌, Some, rules, sym, append-nil}
 use Rattle.std.specs.Fmt.InlineText.{inline_text, IsIntact}
 use Rattle.bwsh.specs.Progress.{counts, counts_text}
-use Rattle.bwsh.proofs.EndingLemmas.{line_made}
+use Rattle.bwsh.proofs.ErrorLemmas.{line_made}
 use Rattle.bwsh.proofs.progress.Progress.show_counts.Goals as goal
 
 pub returns-then-is_ok : goal.returns-then-is_ok

@@ -1,0 +1,64 @@
+//! The texts of `--help`, which fit on one screen.
+
+pub const ABOUT: &str =
+    "Runs a batch file from standard input on an ordered key-value store, and prints the answers";
+
+pub const FAN: &str = "Entries of a page before it splits, 4 to 64";
+
+pub const CHAIN: &str = "Runs on a page before they are merged into it, 1 to 16";
+
+pub const MAX_KEY: &str = "Longest key in bytes, 1 to 255";
+
+pub const MAX_VALUE: &str = "Longest value in bytes, 0 to 1024";
+
+pub const SEG_SIZE: &str = "Bytes of a log segment, 256 to 1048576; must hold a full page";
+
+pub const SEGMENTS: &str = "Segments of the log, 3 to 65536";
+
+pub const WORKERS: &str = "Threads that work on a batch, 1 to 64";
+
+pub const GRAIN: &str = "Pages that a thread claims at a time, 1 to 65535";
+
+pub const TIDY: &str = "Emptied leaves to merge after each flush, at most";
+
+pub const DISK: &str = "File of the store; without it the store is in memory, and is lost at exit";
+
+pub const COPY_TO: &str = "Copies the store to this new or empty file after all orders";
+
+pub const CREATE: &str = "Creates the file of the store; what the file held is lost";
+
+pub const VERSION: &str = "Prints the version";
+
+pub const EXPLAIN: &str = "Explains an error on a second line of standard error";
+
+pub const STAT: &str = "Prints statistics of the store at the end";
+
+pub const CLEAN_WHEN_FULL: &str = "Cleans the log if it is full for a flush";
+
+pub const STREAM: &str =
+    "Answers each batch before it reads on; without it, all input is read first";
+
+pub const PROGRESS: &str = "Shows progress on standard error once a second";
+
+pub const AFTER_OPTIONS: &str = "\
+Lines of a batch file:
+  put K V           Stores the value V under the key K
+  add K V           Stores V under K unless K exists
+  get K             Reads the value of K
+  del K             Deletes K
+  scan LO HI LIMIT  Reads at most LIMIT pairs from LO up to, but not including, HI; * is no bound
+  wipe LO HI        Deletes the keys from LO up to, but not including, HI
+  go                Runs the commands since the last batch as one batch, as do the next four
+  flush             Writes all changes to the log; only flushed changes survive the program
+  clean             Frees the first segment of the log
+  upgrade           Flushes, and upgrades the log to version 2 (compressed keys); irreversible
+  verify            Checks the whole tree
+  # ...             A comment
+Keys and values are words of printable ASCII; %XX is a byte in hexadecimal, and % alone is the empty string.
+
+Exit status:
+  0  All orders are done, or the help or the version was printed
+  2  The command line is refused; nothing was read
+  3  A line is bad; nothing was run, or with --stream only what precedes the line
+  4  A fault, which standard error names; --explain tells what to do\
+";
