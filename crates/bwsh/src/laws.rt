@@ -38,7 +38,8 @@ pub fn what_is_printed_is_read_back()
 
 /// The orders of a batch file contain each command of its lines once, in order.
 pub fn each_command_is_ordered_once()
-    ensures { (parsed : List Line) → flat_map commands_of (orders_of [] parsed) ≡ commands_of_lines parsed }
+    ensures { (parsed : List Line) →
+        flat_map commands_of (orders_of [] parsed) ≡ commands_of_lines parsed }
 {}
 
 /// Batches that are written as their commands and a line `go` are parsed as the same batches.

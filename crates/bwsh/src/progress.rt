@@ -133,7 +133,8 @@ impl Progress {
 
     // Shows a text. After a failed write nothing is shown any more.
     fn show<E: Write>(&mut self, text: &[u8], path: &[u8], rest: &[u8], err: &mut E)
-        ensures { (message : ProgressText) → progress_text message ≡ text.now ++ (path.now ++ rest.now) →
+        ensures { (message : ProgressText) →
+            progress_text message ≡ text.now ++ (path.now ++ rest.now) →
             Shows E.contents self.old.is_shown err.old self.new.is_shown err.new }
     {
         if self.is_shown {

@@ -140,7 +140,8 @@ fn is_full(done: &Result<(), SessionError>) -> bool
 
 // Reports a log of one segment, in which there is nothing to clean, as a full log.
 fn full_if_nothing_to_clean(refused: SessionError) -> SessionError
-    ensures { ((refused ≡ SessionError.Fault Fault.NothingToClean) × (result ≡ SessionError.Fault Fault.Full))
+    ensures { ((refused ≡ SessionError.Fault Fault.NothingToClean)
+        × (result ≡ SessionError.Fault Fault.Full))
         ⊎ ((refused ≢ SessionError.Fault Fault.NothingToClean) × (result ≡ refused)) }
 {
     match refused {
