@@ -13,7 +13,7 @@ loop-bytes-preserved c =
     let rest : List (List ℕ) = c.next.new.self in
     let parsed = c.in_ok-parsed.parsed in
     let ok = c.in_ok-push_line.ensures in
-    let split : at.bytes-iterator ≡ c.in-Some.bytes.now ∷ rest = cc in
+    let split : at.bytes-iterator ≡ c.in-Some.bytes.now ∷ rest = c.in-Some.ensures.steps in
     let lines : parsed ∷ map parse_line rest ≡ map parse_line at.bytes-iterator = ap (λ (p : Line). p ∷ map parse_line rest) c.in_ok-parsed.ensures ∙ sym (ap (map parse_line) split) in
     record {
       numbered = omega (arith, inv.numbered, ap length split);

@@ -7,11 +7,6 @@ returns-in_err-run_remaining-clause-runs g c =
     let p = err_from_is_err_and c.from_residual.result c.from_residual.ensures.1 in
     rw (p.1, p.2) c.in_err-run_remaining.ensures.runs
 
-pub returns-in_err-run_remaining-clause-holds : goal.returns-in_err-run_remaining-clause-holds
-returns-in_err-run_remaining-clause-holds g c =
-    let p = err_from_is_err_and c.from_residual.result c.from_residual.ensures.1 in
-    rw (p.1, p.2) tt
-
 pub returns-clause-runs : goal.returns-clause-runs
 returns-clause-runs g c = c.in_ok-run_remaining.ensures.runs
 
