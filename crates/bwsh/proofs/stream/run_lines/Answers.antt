@@ -51,8 +51,8 @@ returns-in_default-clause-runs g c =
     LeadsOn-finished c.args.mode disk.is_honest store.settings store.store disk.seen known old store.settings at.store.store seen at.pending.items at.number left now inv.leads
     _ inv.honest _ inv.settings (g.O.Write.contents run.out) after.store (g.D.Disk.view after.disk).seen _ line none c.finish.result c.finish.ensures.runs c.finish.ensures.holds
 
-pub returns-in-Some-2-clause-runs : goal.returns-in-Some-2-clause-runs
-returns-in-Some-2-clause-runs g c =
+pub returns-in-Some-bad-clause-runs : goal.returns-in-Some-bad-clause-runs
+returns-in-Some-bad-clause-runs g c =
     let store = c.args.store.now in
     let disk = g.D.Disk.view store.disk in
     let at = c.loop-number in
@@ -65,7 +65,7 @@ returns-in-Some-2-clause-runs g c =
     let read_some = rw c.in-Some.is at c.in_ok-read.ensures.ok in
     let (line, next, says) = read_some in
     LeadsOn-bad c.args.mode disk.is_honest store.settings store.store disk.seen known old store.settings at.store.store seen at.pending.items at.number left now inv.leads
-    _ line next c.in-Some.line says c.in-Some-2.why (sym c.in-Some-2.ensures)
+    _ line next c.in-Some.line says c.in-Some-bad.why (sym c.in-Some-bad.ensures)
 
 pub returns-in_err-run_line-clause-runs : goal.returns-in_err-run_line-clause-runs
 returns-in_err-run_line-clause-runs g c =
@@ -86,7 +86,7 @@ returns-in_err-run_line-clause-runs g c =
     let (line, next, says) = read_some in
     let p = err_from_is_err_and c.from_residual-in_err-run_line.result c.from_residual-in_err-run_line.ensures.1 in
     rw (p.1, p.2) (LeadsOn-stops c.args.mode disk.is_honest store.settings store.store disk.seen known old store.settings at.store.store seen at.pending.items at.number left now inv.leads
-    _ line next c.in-Some.line says (sym c.in_default-2.ensures) _ inv.honest _ inv.settings new after.store bytes _ c.in_err-run_line.ensures.runs)
+    _ line next c.in-Some.line says (sym c.in_default-bad.ensures) _ inv.honest _ inv.settings new after.store bytes _ c.in_err-run_line.ensures.runs)
 
 pub loop-number-preserved : goal.loop-number-preserved
 loop-number-preserved g c =
@@ -111,7 +111,7 @@ loop-number-preserved g c =
       honest = ok.honest ∙ inv.honest;
       fine = ok.failed ∙ inv.fine;
       leads = LeadsOn-next c.args.mode disk.is_honest store.settings store.store disk.seen known old store.settings at.store.store seen at.pending.items at.number left now inv.leads
-          _ line next c.in-Some.line says (sym c.in_default-2.ensures) _ inv.honest _ inv.settings new after.store bytes tt ok.runs ok.holds _ ok.pending;
+          _ line next c.in-Some.line says (sym c.in_default-bad.ensures) _ inv.honest _ inv.settings new after.store bytes tt ok.runs ok.holds _ ok.pending;
       shows = Shows-trans g.E.Write.contents _ _ _ _ _ _ inv.shows c.line_done.ensures;
     }
 
@@ -135,8 +135,8 @@ returns-in_err-read-clause-shows g c = c.loop-number.invariant.shows
 pub returns-in_default-clause-shows : goal.returns-in_default-clause-shows
 returns-in_default-clause-shows g c = c.loop-number.invariant.shows
 
-pub returns-in-Some-2-clause-shows : goal.returns-in-Some-2-clause-shows
-returns-in-Some-2-clause-shows g c = c.loop-number.invariant.shows
+pub returns-in-Some-bad-clause-shows : goal.returns-in-Some-bad-clause-shows
+returns-in-Some-bad-clause-shows g c = c.loop-number.invariant.shows
 
 pub returns-in_err-run_line-clause-shows : goal.returns-in_err-run_line-clause-shows
 returns-in_err-run_line-clause-shows g c = c.loop-number.invariant.shows
