@@ -10,8 +10,8 @@ use std::marker::Model;
 use std::{mem, slice};
 
 /// The commands of one batch, in order. Contracts see them as a list. A batch of one command keeps
-/// the text of its line and is parsed again when it runs, because a `Command` takes as much memory
-/// as the largest command.
+/// the text of its line and is parsed again when it runs, because each `Command` takes as much
+/// memory as the largest variant.
 #[derive(Drop)]
 pub struct Batch {
     kept: KeptBatch,
@@ -36,7 +36,7 @@ impl Model for Batch {
 
 impl Batch {
     /// Moves the pending commands into a batch and leaves `pending` empty. `line` is the line of
-    /// the last of them.
+    /// the last pending command.
     pub(crate) fn take(
         alloc: Global,
         pending: &mut Vec<Command<Global>>,
@@ -61,7 +61,8 @@ impl Batch {
         })
     }
 
-    /// Returns the commands. Fails with `AllocError` only for a batch of one command.
+    /// Returns the commands. Fails with `AllocError` only for a batch of one command, which is
+    /// parsed again.
     pub fn commands(&self, alloc: Global) -> Result<Commands<'_>, AllocError>
         ensures { IfOk result (λ commands. commands ≡ self.now) }
     {

@@ -11,20 +11,20 @@ use bstr::ByteSlice;
 use keys::Command;
 use std::alloc::{AllocError, AllocFailed, Global};
 
-/// What a session does next.
+/// One step of a session.
 #[derive(Drop)]
 pub enum Order {
     /// Run this batch, which may be empty.
     Batch(Batch),
     /// Write the changes to the log, and print the sequence number.
     Flush,
-    /// Free the first segment of the log, and print the number of the segment that is first now.
+    /// Free the first segment of the log, and print the number of the new first segment.
     Clean,
     /// Upgrade the log to version 2, and print the sequence number.
     Upgrade,
-    /// Check the tree, and print its pages, its height and its pairs.
+    /// Check the tree, and print its page count, its height and its pair count.
     Verify,
-    /// Print the statistics of the store. No line of a batch file orders this.
+    /// Print the statistics of the store. `--stat` gives this order; no line does.
     Numbers,
 }
 
@@ -46,7 +46,7 @@ impl Order {
 /// Why a batch file cannot be parsed.
 #[derive(Clone, Copy, Debug, PartialEq, Eq)]
 pub enum ParseError {
-    /// The first bad line, by its number from 1.
+    /// The first bad line. Lines are counted from 1.
     Bad { line: u64, why: Why },
     /// An allocation failed.
     Memory,
@@ -68,7 +68,8 @@ impl<T: Drop> From<AllocFailed<T>> for ParseError {
     }
 }
 
-// Adds a batch of the pending commands, if there are any. `line` is the line of the last of them.
+// Appends a batch of the pending commands to `orders`, if there are any. Here and below, `line` is
+// the line of the last pending command.
 fn push_pending(
     alloc: Global,
     pending: &mut Vec<Command<Global>>,
@@ -87,7 +88,7 @@ fn push_pending(
     Ok(())
 }
 
-// Adds a batch of the pending commands, even if there are none.
+// Appends a batch of the pending commands to `orders`, even if the batch is empty.
 fn push_batch(
     alloc: Global,
     pending: &mut Vec<Command<Global>>,
@@ -104,7 +105,6 @@ fn push_batch(
     Ok(())
 }
 
-// Adds a batch of the pending commands, if there are any, and then `order`.
 fn push_ended(
     alloc: Global,
     pending: &mut Vec<Command<Global>>,
@@ -122,7 +122,8 @@ fn push_ended(
     Ok(())
 }
 
-// Adds what a good line orders. A command becomes pending.
+// Appends the orders of a parsed line to `orders`. A command becomes pending; a blank or bad line
+// appends nothing.
 fn push_line(
     alloc: Global,
     parsed: Line,
@@ -149,7 +150,6 @@ fn push_line(
     }
 }
 
-// Returns the line of the last command that was read.
 fn last_command_line<'a>(parsed: &Line, line: &'a [u8], before: &'a [u8]) -> &'a [u8]
     ensures { result.now ≡ (if is_command parsed.now then line.entry.now else before.entry.now) }
 {

@@ -37,9 +37,9 @@ pub(crate) struct Copying<'a, F> {
     settings: Settings,
 }
 
-// Opens and locks the file of a copy. Fails if the file has any bytes, and leaves them as they
-// were. The file is extended to the copy's length and truncated again, so that a device without
-// room, or a file without a length, is found before anything runs.
+// Opens and locks the file of a copy. Fails, and leaves the file as it was, if the file has any
+// bytes. The file is extended to the copy's length and truncated again, so that lack of room, or a
+// file that cannot be extended, is found before anything runs.
 fn empty_file<R: Files>(rt: &R, path: &str, settings: Settings) -> io::Result<R::File>
 where
     R::File: LockFile,
@@ -57,8 +57,8 @@ where
     Ok(file)
 }
 
-// Extends the file to the size of a store. Fails if the file has bytes by now: a stream of the
-// session may have been redirected to it.
+// Extends the file to the size of a store. Fails if the file has bytes by now: standard output, for
+// example, may have been redirected to it.
 fn disk_with_room<F: Read + Write + Seek + OpenFile + LockFile + Drop>(
     file: F,
     settings: &Settings,
@@ -74,8 +74,8 @@ fn disk_with_room<F: Read + Write + Seek + OpenFile + LockFile + Drop>(
     disk.zeroed(disk_size(settings))
 }
 
-// Prepares the copy that the command line asks for, if it asks for one. Opens no file if the
-// settings are refused.
+// Opens the file of the copy, if `request` asks for a copy. Opens no file if the settings are
+// refused.
 pub(crate) fn prepare_copy<'a, R: Files>(
     rt: &R,
     request: &'a Options,
@@ -108,8 +108,8 @@ where
     }
 }
 
-// Copies the store to a disk that is large enough, and flushes the copy. Returns the disk if this
-// fails.
+// Copies the store to a disk that is large enough, and flushes the copy. On failure, returns the
+// error and the disk.
 fn copy_store<R: Threads + Sync, D: Disk, E: Disk>(
     rt: &R,
     crew: Crew,
@@ -120,7 +120,8 @@ fn copy_store<R: Threads + Sync, D: Disk, E: Disk>(
     requires crew { IsTrue (is_crew crew) }
     requires good { first_bad_field settings ≡ None }
     requires room { disk_size settings ≤ (E.view disk).size }
-    // The copy holds the same pairs. A disk that keeps what was synced holds exactly this store.
+    // The copy holds the same pairs as `store`. If the disk keeps what was synced, its bytes encode
+    // the copy.
     ensures made { IfOk result (λ copy.
         (copy.settings ≡ settings) × (copy.has_failed ≡ false)) }
     ensures contents { IfOk result (λ copy.
@@ -166,8 +167,8 @@ fn copy_watched<R: Threads + Wait + Sync + Clock, D: Disk, C: Disk + Drop, E: Wr
     run_watched(rt, meter, LongCall::Copying(path), progress, err, fill)
 }
 
-// Copies the store into the file. After a failure the file is truncated to no bytes, if that is
-// still possible.
+// Copies the store into the file. If copying fails, the file is truncated to zero length, if that
+// is still possible.
 fn copy_into<
     R: Threads + Wait + Sync + Clock,
     D: Disk,
@@ -215,7 +216,6 @@ fn copy_into<
     }
 }
 
-// Writes the copy, if the session is to leave one.
 pub(crate) fn write_copy<
     R: Threads + Wait + Sync + Clock,
     D: Disk,

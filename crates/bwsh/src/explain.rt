@@ -110,7 +110,8 @@ fn explain_failure(
     }
 }
 
-// Explains why a batch was refused for the command at `place`, which has `what`.
+// Explains that a batch was refused because its command at `place` has `what`: too long a key or
+// value.
 fn explain_command(
     alloc: Global,
     lines: &OrderLines,
@@ -128,7 +129,6 @@ fn explain_command(
     }
 }
 
-// Returns whether an order can end with this fault.
 fn is_order_fault(fault: &Fault) -> bool {
     matches!(
         fault,
@@ -246,8 +246,8 @@ fn explain_error(
     }
 }
 
-/// Returns a line that explains how the session ended, with its line feed. It is empty if the
-/// session succeeded, if the command line was refused, or if an allocation for it fails.
+/// Returns a line that explains the error of the session, with its line feed. Returns an empty
+/// string if the session succeeded, if the command line was refused, or if an allocation fails.
 #[inline(never)]
 pub fn explanation(
     alloc: Global,

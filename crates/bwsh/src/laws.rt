@@ -42,13 +42,15 @@ pub fn each_command_is_ordered_once()
         flat_map commands_of (orders_of [] parsed) ≡ commands_of_lines parsed }
 {}
 
-/// Batches that are written as their commands and a line `go` are parsed as the same batches.
+/// If batches are written as their commands and a line `go`, these lines are parsed as the same
+/// batches.
 pub fn batches_are_read_back()
     ensures { (batches : List (List (Command Global))) →
         orders_of [] (flat_map batch_lines batches) ≡ map (λ commands. Batch commands) batches }
 {}
 
-/// What each order prints, in front of what the later orders print. Only a batch changes the map.
+/// The first order's answer is printed in front of the output of the later orders. Only a batch
+/// changes the map.
 pub fn each_order_prints_its_answer()
     ensures none { (settings : Settings) → (st : Store) → (shown : Reads) → (m : Pairs Bytes) →
         printed settings st shown m [] ≡ [] }
@@ -83,9 +85,9 @@ pub fn each_order_prints_its_answer()
         ≡ shown_numbers (numbers_of settings st) ++ printed settings st (later shown) m rest }
 {}
 
-/// If all orders are batches, their output is the replies of an ordered map to all commands. How
-/// the commands are cut into batches, the settings and the disk make no difference. A text without
-/// `flush`, `clean`, `upgrade` and `verify` has such orders.
+/// If all orders are batches, their output is the replies of an ordered map to all commands. The
+/// settings, the disk and how the commands are divided into batches make no difference. A batch
+/// file without `flush`, `clean`, `upgrade` and `verify` has only batches.
 pub fn the_commands_are_answered_in_order()
     ensures orders { (settings : Settings) → (st : Store) → (shown : Reads) → (m : Pairs Bytes) →
         (orders : List Order) → All IsBatch orders →
@@ -97,8 +99,8 @@ pub fn the_commands_are_answered_in_order()
         ≡ flat_map shown_reply (replies_to [] (commands_of_lines parsed)) }
 {}
 
-/// Unless an order is a clean, the disk's bytes make no difference to the answers, to the orders
-/// that are accepted and to the end. Both runs tidy the store alike.
+/// If no order is a clean, the answers, the accepted orders and how the session ends do not depend
+/// on the disk's bytes. The two runs compared tidy the store by the same batches.
 pub fn the_bytes_of_the_disk_do_not_matter()
     ensures lines { (settings : Settings) → (st : Store) → (shown other : Reads) →
         AreTidiedAlike shown other →
@@ -112,8 +114,9 @@ pub fn the_bytes_of_the_disk_do_not_matter()
         orders_end settings st shown orders ≡ orders_end settings st other orders }
 {}
 
-/// If each read of the disk returns what was last written to it, the store and the disk's first
-/// bytes determine the answers and the end, even with cleans. Such reads exist for each store.
+/// If each read of the disk returns what was last written, the store and the initial contents of
+/// the disk determine the answers and how the session ends, even with cleans. Such reads exist for
+/// each store.
 pub fn what_was_left_decides_the_answers()
     ensures lines { (settings : Settings) → (st : Store) → (file : Bytes) → (shown other : Reads) →
         AreTidiedAlike shown other → (m : Pairs Bytes) → (orders : List Order) →
@@ -141,8 +144,8 @@ pub fn cleans_alone_are_put_among_orders()
         filter cleans_nothing (with_cleans settings st shown orders) ≡ orders }
 {}
 
-/// Tidying changes no reply, no pair, no byte of the disk and nothing of the log. `Store::tidy`
-/// leaves a store that is `tidied` by some batches.
+/// Tidying changes no reply, no pair, no byte of the disk and nothing in the log. `Store::tidy`
+/// leaves the result of `tidied` for some batches.
 pub fn tidying_changes_no_replies()
     ensures replies { (settings : Settings) → (st : Store) → (shown : Reads) → (m : Pairs Bytes) →
         (front : List Order) → (commands : List (Command Global)) → (rest : List Order) →
@@ -163,8 +166,8 @@ pub fn tidying_changes_no_replies()
         ≡ left_by_step settings (st, file) (step_in order) }
 {}
 
-/// A stream runs the orders that precede the first bad line, except a batch that was not complete.
-/// Without a bad line it runs all orders and ends as a session that reads its input first.
+/// A stream runs the orders before the first bad line, except an incomplete batch. Without a bad
+/// line, a stream runs all orders and ends like a session without `--stream`.
 pub fn a_stream_orders_what_stands_before_a_bad_line()
     ensures good { (numbers : Bool) → (parsed : List Line) → first_bad 1 parsed ≡ None →
         streamed numbers [] parsed ≡ with_numbers numbers (orders_of [] parsed) }
@@ -178,8 +181,8 @@ pub fn a_stream_orders_what_stands_before_a_bad_line()
         (rest : List Line) → first_bad 1 (front ++ Bad why ∷ rest) ≡ Some (length front + 1, why) }
 {}
 
-/// With good settings, a session with `--copy-to` prints what it prints without it. It ends alike,
-/// or with a fault of the copy after all orders are done.
+/// With valid settings, a session prints the same with and without `--copy-to`. The session ends
+/// the same, or with a fault of the copy after all orders are done.
 pub fn a_copy_changes_only_the_end()
     ensures answers { (request : Request) → first_bad_field request.settings ≡ None →
         (known old new : Option Bytes) → (end : Result (Unit {0}) SessionError) →
@@ -191,8 +194,8 @@ pub fn a_copy_changes_only_the_end()
         × Streams (record request { copy_to = None }) known old new plain × IsEndAfter plain end }
 {}
 
-/// A session's output and end are the same for every crew in range. A crew out of range is refused
-/// before anything runs.
+/// A session's output and result are the same for every crew in range. A crew out of range is
+/// refused before anything runs.
 pub fn the_crew_does_not_matter()
     ensures same { (request : Request) → (crew : Crew) → is_crew crew ≡ is_crew request.crew →
         (known old new : Option Bytes) → (end : Result (Unit {0}) SessionError) →
@@ -206,8 +209,8 @@ pub fn the_crew_does_not_matter()
         IsStart request start → start ≡ Err BadCrew }
 {}
 
-/// `--progress` changes nothing but standard error. Without it, standard error gets only the report
-/// of the end.
+/// `--progress` changes only standard error. Without `--progress`, standard error gets only the
+/// report of an error.
 pub fn progress_changes_standard_error_alone()
     ensures same { (request : Request) → (asked : Bool) → (known old new : Option Bytes) →
         (end : Result (Unit {0}) SessionError) → IsAnswered request known old new end →

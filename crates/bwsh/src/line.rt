@@ -1,4 +1,4 @@
-//! The lines of a batch file.
+//! Parsing the lines of a batch file.
 ghost use Rattle.std.specs.Prelude.{◌≡◌, Some, IfOk};
 ghost use Rattle.bwsh.specs.Token.{token_bytes};
 ghost use Rattle.bwsh.specs.Words.{words_of};
@@ -11,16 +11,16 @@ use keys::{Command, Key, Value};
 use std::alloc::{AllocError, Global};
 use std::fmt;
 
-/// What is wrong with a line. It is printed in words.
+/// Why a line is bad. `Display` writes the error message.
 #[derive(Clone, Copy, Debug, PartialEq, Eq)]
 pub enum Why {
-    /// The first word is no command.
+    /// The first word is not a command.
     UnknownCommand,
-    /// The command takes another number of words.
+    /// The number of words is wrong for the command.
     WordCount,
-    /// A word does not encode a byte string.
+    /// A word is not a valid token, so it encodes no byte string.
     BadToken,
-    /// A word that has to be a number is not one.
+    /// A word that should be a number is not one.
     BadNumber,
 }
 
@@ -42,7 +42,7 @@ impl fmt::Display for Why {
 pub enum Line {
     /// A line without words, or a comment.
     Blank,
-    /// A command, which becomes pending.
+    /// A command. It is pending until a later line runs the batch.
     Command(Command<Global>),
     /// Run the pending commands as one batch.
     Go,
@@ -54,7 +54,7 @@ pub enum Line {
     Upgrade,
     /// Run the pending commands, if there are any, and verify the store.
     Verify,
-    /// Not a line of a batch file.
+    /// A line that cannot be parsed, and why.
     Bad(Why),
 }
 
@@ -69,7 +69,7 @@ impl Line {
     }
 }
 
-/// Parses lines. It reuses one buffer for the bytes of a word.
+/// Parses lines, with one reused buffer for decoded words.
 #[derive(Drop)]
 pub struct LineReader {
     alloc: Global,
@@ -77,7 +77,7 @@ pub struct LineReader {
 }
 
 impl LineReader {
-    /// Creates a reader. It does not allocate.
+    /// Creates a reader without allocating.
     pub fn new(alloc: Global) -> Self {
         LineReader {
             alloc,

@@ -6,10 +6,10 @@ use flush_log::{Disk, DiskFault};
 use std::io;
 use std::sync::atomic::{AtomicU64, Ordering};
 
-// The offset of the first segment. The header in front of it is not counted.
+// The byte offset of the first segment. Calls for the header before it are not counted.
 const SEGMENTS_BEGIN: u64 = 512;
 
-/// A count of segments that threads share.
+/// A count of segments, shared between threads.
 #[derive(Drop)]
 pub struct Meter {
     segments: AtomicU64,
@@ -26,7 +26,7 @@ impl Meter {
         self.segments.load(Ordering::SeqCst)
     }
 
-    // Counts one call, unless it is for the header.
+    // Counts a call at offset `at`, unless it is for the header.
     fn count(&self, at: u64) {
         if at >= SEGMENTS_BEGIN {
             self.segments.fetch_add(1, Ordering::SeqCst);

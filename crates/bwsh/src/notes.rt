@@ -1,4 +1,4 @@
-//! What a session records so that its end can be explained.
+//! What a session records, so that `--explain` can report where an error came from.
 use crate::line::{Line, LineReader};
 use bstr::ByteSlice;
 use engine::{Disk, FileDisk, LockFile, MemDisk};
@@ -7,7 +7,7 @@ use std::fs::OpenFile;
 use std::io;
 use std::io::{ErrorKind, Read, Seek, Write};
 
-/// The file or stream whose call failed.
+/// The file or stream on which a call failed.
 #[derive(Clone, Copy, Debug, PartialEq, Eq)]
 pub enum Source {
     Input,
@@ -15,13 +15,13 @@ pub enum Source {
     Copy,
 }
 
-/// The line numbers of one order, counted from 1.
+/// The numbers of the lines of one order, counted from 1.
 #[derive(Drop)]
 pub struct OrderLines {
     commands: Vec<u64>,
     // False after an allocation for `commands` failed.
     is_whole: bool,
-    /// The line that ended the order, or the last line that was read.
+    /// The line that completed the order, or, until then, the last line that was read.
     pub end: u64,
     // Whether `end` completed the order, so that the next line begins another one.
     is_ended: bool,
@@ -50,8 +50,8 @@ impl OrderLines {
         }
     }
 
-    /// Returns the line of the command at `place` in its batch, or `None` if an allocation for the
-    /// lines failed.
+    /// Returns the line number of the command at `place` in its batch, or `None` if an allocation
+    /// for the lines failed.
     pub fn line_of_command(&self, place: usize) -> Option<u64> {
         if !self.is_whole {
             return None;
@@ -59,7 +59,8 @@ impl OrderLines {
         self.commands.get(place).copied()
     }
 
-    // Called for each complete order. Returns true if no more orders are to be skipped.
+    // Called for each completed order. If `skipped` is 0, returns true: this order is the one
+    // looked for. Otherwise decrements `skipped`.
     fn completes(&mut self, skipped: &mut u64) -> bool {
         if *skipped == 0 {
             return true;
@@ -69,7 +70,8 @@ impl OrderLines {
         false
     }
 
-    // Reads the next line, and returns whether it completed the order after those to skip.
+    // Reads the next line. Returns true if the line completed an order and `skipped` other orders
+    // were completed before.
     fn read(&mut self, parsed: &Line, skipped: &mut u64) -> Result<bool, AllocError> {
         self.end = self.end.saturating_add(1);
         match parsed {
@@ -100,7 +102,7 @@ fn read_line(
     lines.read(&parsed, skipped)
 }
 
-// Finds the lines of the order that follows the first `before` orders of the text.
+// Finds the lines of the order that follows the first `before` orders of the batch file `text`.
 fn lines_of(alloc: Global, text: &[u8], before: u64) -> Result<OrderLines, AllocError> {
     let mut reader = LineReader::new(alloc);
     let mut lines = OrderLines::new(alloc);
@@ -119,16 +121,17 @@ pub struct Notes {
     is_wanted: bool,
     failed: Option<(Source, io::Error)>,
     text: Vec<u8>,
-    // `None` before the store is open.
+    // How many orders are done, or `None` before the store is open.
     done: Option<u64>,
     is_copying: bool,
     streamed: Option<OrderLines>,
-    // The line of a stream that is being read.
+    // The number of the stream's line that is being read, or `None` after it was read.
     unread: Option<u64>,
 }
 
 impl Notes {
-    /// Creates the records of a new session. The text is kept only if `is_wanted`.
+    /// Creates the notes of a new session. Unless `is_wanted`, the input and its lines are not
+    /// recorded.
     pub fn new(alloc: Global, is_wanted: bool) -> Self {
         Notes {
             alloc,
@@ -183,7 +186,7 @@ impl Notes {
         self.unread = None;
     }
 
-    /// Returns the line of a stream whose reading failed.
+    /// Returns the number of the stream's line that could not be read.
     pub fn unread_line(&self) -> Option<u64> {
         self.unread
     }

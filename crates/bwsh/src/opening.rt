@@ -32,7 +32,6 @@ pub(crate) fn store_fault(fault: Fault) -> SessionError
     }
 }
 
-// Creates a store on a disk that is large enough.
 fn create_store<D: Disk + LastError + Drop>(
     alloc: Global,
     disk: D,
@@ -56,7 +55,6 @@ fn create_store<D: Disk + LastError + Drop>(
     }
 }
 
-// Creates a store in memory, on a disk of exactly the size that it needs.
 pub(crate) fn store_in_memory(
     alloc: Global,
     settings: Settings,
@@ -72,7 +70,7 @@ pub(crate) fn store_in_memory(
     create_store(alloc, disk, settings, notes)
 }
 
-// Opens the existing file. It is locked exclusively if the session writes, and shared otherwise.
+// Opens the existing file, which is locked exclusively if the session writes, and shared otherwise.
 fn old_disk<R: Files>(rt: &R, path: &str, writes: bool) -> io::Result<FileDisk<R::File>>
 where
     R::File: LockFile,
@@ -84,8 +82,8 @@ where
     }
 }
 
-// Creates a store in a file, which loses what it held. Does not touch the file if the settings are
-// refused.
+// Creates a store in a file, whose old contents are lost. Does not touch the file if the settings
+// are refused.
 pub(crate) fn new_store_in_file<R: AllocGlobal + Files>(
     rt: &R,
     path: &str,
@@ -109,7 +107,7 @@ where
 }
 
 // Recovers the store on the disk. The disk is synced first, because an earlier program may have
-// ended between its write and its sync. Nothing is written.
+// ended between a write and the sync. Nothing is written.
 fn open_store<R: AllocGlobal + Threads + Sync, D: Disk + LastError + Drop>(
     rt: &R,
     crew: Crew,

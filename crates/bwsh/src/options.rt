@@ -170,7 +170,8 @@ fn mode(matches: &ArgMatches<'_>) -> Mode
 
 /// Parses the words after the program's name. Ranges of numbers are checked later, by
 /// `Settings::check` and `Crew::check`.
-// It is not inlined, since its 25 KB of stack would then be held during the whole session.
+// This function is not inlined, since its 25 KB of stack would then be held during the whole
+// session.
 #[inline(never)]
 pub fn options(alloc: Global, words: &[String]) -> Result<Options, Error>
     ensures ok { IfOk result (λ o. AsksFor (texts words.now) (request_of o)) }

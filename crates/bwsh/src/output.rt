@@ -16,7 +16,6 @@ use keys::Reply;
 use std::alloc::{AllocError, Global};
 use std::io::{ErrorKind, Write};
 
-// Appends the replies. After an `Err` the first ones have been appended.
 fn show_replies(replies: &[Reply<Global>], lines: &mut Vec<u8>) -> Result<(), AllocError>
     ensures ok { OnOk result
         (lines.new.items ≡ lines.old.items ++ flat_map shown_reply replies.now) }
@@ -29,7 +28,7 @@ fn show_replies(replies: &[Reply<Global>], lines: &mut Vec<u8>) -> Result<(), Al
     Ok(())
 }
 
-// Returns how many bytes were written, 0 after an interrupted call.
+// Makes one write call. Returns how many bytes were written, or 0 if the call was interrupted.
 fn write_some<O: Write>(bytes: &[u8], out: &mut O) -> Result<usize, SessionError>
     ensures ok { IfOk result (λ taken. (taken ≤ length bytes.now)
         × Appends (O.contents out.old) (O.contents out.new) (take taken bytes.now)) }
@@ -44,7 +43,7 @@ fn write_some<O: Write>(bytes: &[u8], out: &mut O) -> Result<usize, SessionError
     }
 }
 
-// Writes all bytes. If this fails, the output has the first of them, which `write_all` does not
+// Writes all bytes. After an error, `out` has a prefix of `bytes`, which `write_all` does not
 // promise.
 pub(crate) fn write_bytes<O: Write>(bytes: &[u8], out: &mut O) -> Result<(), SessionError>
     ensures ok { OnOk result (Appends (O.contents out.old) (O.contents out.new) bytes.now) }
@@ -63,8 +62,8 @@ pub(crate) fn write_bytes<O: Write>(bytes: &[u8], out: &mut O) -> Result<(), Ses
     Err(SessionError::Device)
 }
 
-// If an allocation fails, the replies that fit are written. `lines` is a buffer, as in the
-// functions below.
+// Writes the replies. If an allocation fails, the replies formatted before are written. Here and
+// below, `lines` is a reusable buffer.
 fn write_replies<O: Write>(
     replies: &[Reply<Global>],
     lines: &mut Vec<u8>,
@@ -170,7 +169,7 @@ pub(crate) fn write_answers<O: Write>(
     Ok(())
 }
 
-// Flushes the output. A failure here replaces an earlier error.
+// Flushes `out`. Returns `done`, or `Device` if flushing fails.
 pub(crate) fn flush<O: Write>(
     done: Result<(), SessionError>,
     out: &mut O,
@@ -184,8 +183,8 @@ pub(crate) fn flush<O: Write>(
     }
 }
 
-// Writes no bytes, to find out whether the stream is open. Otherwise the next file that is opened
-// could get its descriptor, and the answers. An interrupted call shows that the stream is open.
+// Fails if `out` is closed, which a write of no bytes shows. If `out` were closed, the next file
+// opened could get its descriptor, and the answers. An interrupted call shows that `out` is open.
 pub(crate) fn check_open<O: Write>(out: &mut O) -> Result<(), SessionError>
     ensures bytes { Appends (O.contents out.old) (O.contents out.new) [] }
     ensures device { IsOkUnless result SessionError.Device }

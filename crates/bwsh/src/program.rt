@@ -27,8 +27,8 @@ fn words_after_name(words: &[String]) -> &[String]
     }
 }
 
-/// Runs the session that the words ask for, of which the first is the program's name, and returns
-/// its exit status. Words that cannot be read are reported by `unread_words`.
+/// Runs the session of a command line, whose first word is the program's name, and returns the exit
+/// status. If `words` is an error, `unread_words` reports it.
 pub fn run_words<
     R: AllocGlobal + Threads + Wait + Sync + Files + Clock,
     I: Read,
@@ -54,8 +54,9 @@ where
     }
 }
 
-/// Runs the session of the program's own command line and returns its exit status. The contract
-/// holds for some words, because no clause of the library says which words the system passes.
+/// Runs the session of the program's own command line and returns the exit status. The contract
+/// says that this is the session of some words: the standard library does not specify which words
+/// the system passes.
 pub fn run_program<
     R: Env + AllocGlobal + Threads + Wait + Sync + Files + Clock,
     I: Read,

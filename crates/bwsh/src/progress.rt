@@ -16,13 +16,13 @@ use std::time::{Clock, Instant};
 // Room for two numbers of 20 digits and the words around them.
 const TEXT: usize = 64;
 
-// A carriage return before a text and the escape sequence that erases to the end of the line after
-// it.
+// `START` moves to the start of the line. `END`, after the text, erases the rest of the line.
 const START: &[u8] = b"\r";
 
 const END: &[u8] = b"\x1b[K";
 
-// Lines of a stream that are read between two looks at the clock, if none of them runs anything.
+// How many lines of a stream are read before the clock is read again, if none of them runs
+// anything.
 const LINES: u64 = 256;
 
 #[derive(Clone, Copy, Debug, PartialEq, Eq)]
@@ -48,7 +48,7 @@ pub enum LineEffect {
     Nothing,
     /// An order, but no batch.
     Order,
-    /// A batch, and perhaps an order.
+    /// A batch, and perhaps an order after it.
     Batch,
 }
 
@@ -59,7 +59,8 @@ pub enum LongCall<'a> {
     Copying(&'a str),
 }
 
-// Replaces the line by three texts. After a failure a beginning of them has been written.
+// Replaces the visible line by `text`, `path` and `rest`. After an error, a prefix has been
+// written.
 fn write_in_place<E: Write>(
     text: &[u8],
     path: &[u8],
@@ -86,13 +87,13 @@ pub struct Progress {
     has_line: bool,
     // When counts were last shown, or when the session began.
     last: Option<Instant>,
-    // Completed orders, or batches of a stream.
+    // How many orders, or batches of a stream, are completed.
     run: u64,
 }
 
 impl Progress {
-    /// Begins, before anything is read or opened. If `is_asked`, checks that standard error is
-    /// open, since the next file would get its descriptor otherwise.
+    /// Called before any file is opened. If `is_asked`, checks that `err` is open: otherwise the
+    /// next file opened could get its descriptor, and the progress.
     pub fn begin<R: Clock, E: Write>(rt: &R, is_asked: bool, err: &mut E) -> Progress
         ensures { Shows E.contents is_asked err.old result.is_shown err.new }
     {
@@ -114,8 +115,8 @@ impl Progress {
         }
     }
 
-    // Returns whether a second has passed since counts were shown, and starts the next second.
-    // Returns false if the clock cannot be read.
+    // Returns whether a second has passed since `last`, and if so sets `last` to now. Returns false
+    // if the clock cannot be read.
     pub(crate) fn is_due<R: Clock>(&mut self, rt: &R) -> bool
         ensures { self.new.is_shown ≡ self.old.is_shown }
     {
@@ -131,7 +132,7 @@ impl Progress {
         true
     }
 
-    // Shows a text. After a failed write nothing is shown any more.
+    // Shows the three texts as the line. After a failed write, nothing is shown any more.
     fn show<E: Write>(&mut self, text: &[u8], path: &[u8], rest: &[u8], err: &mut E)
         ensures { (message : ProgressText) →
             progress_text message ≡ text.now ++ (path.now ++ rest.now) →
@@ -195,7 +196,8 @@ impl Progress {
         }
     }
 
-    /// Counts a completed order of `read`, and shows the counts at most once a second.
+    /// Counts a completed order. Shows this count and `read`, the number of orders in the input, at
+    /// most once a second.
     pub fn order_done<R: Clock, E: Write>(&mut self, rt: &R, read: usize, err: &mut E)
         ensures { Shows E.contents self.old.is_shown err.old self.new.is_shown err.new }
     {
@@ -209,7 +211,8 @@ impl Progress {
         }
     }
 
-    /// Counts a line of a stream, and shows the counts at most once a second.
+    /// Called after each line of a stream. Counts the batch that it ran, if any, and shows the
+    /// counts at most once a second.
     pub fn line_done<R: Clock, E: Write>(
         &mut self,
         rt: &R,
@@ -242,7 +245,7 @@ impl Progress {
     }
 }
 
-/// What a session reports beside its answers.
+/// What a session reports besides its answers.
 #[derive(Drop)]
 pub struct Reports {
     pub notes: Notes,

@@ -1,4 +1,4 @@
-//! Running orders on a store. Each is answered before the next one runs.
+//! Running orders on a store. Each order is answered before the next one runs.
 ghost use Rattle.std.specs.Prelude.{false, true, IsTrue, ◌≡◌, ◌≢◌, ◌⊎◌, [], ◌∷◌, Some, Err, IfOk, IfSome, None, OnOk};
 ghost use Rattle.std.specs.Option.{option_map};
 ghost use Rattle.crew.specs.Crew.{is_crew};
@@ -45,7 +45,7 @@ fn numbers_of<D: Disk>(store: &Store<D>, tree: &Report) -> StoreNumbers
     }
 }
 
-// Plays one step and writes its answer.
+// Runs `step` on the store and writes the answer to `out`.
 pub(crate) fn run_step<R: Threads + Sync, D: Disk, O: Write>(
     rt: &R,
     crew: Crew,
@@ -77,8 +77,8 @@ pub(crate) fn run_step<R: Threads + Sync, D: Disk, O: Write>(
     }
 }
 
-// Tidies the store. Only a failed allocation ends the session: after another fault the store holds
-// the same pairs, and the next flush proceeds.
+// Tidies the store. Only a failed allocation ends the session: after any other fault the store
+// holds the same pairs, and the next flush proceeds.
 fn tidy_store<R: Threads + Sync, D: Disk>(
     rt: &R,
     crew: Crew,
@@ -98,7 +98,8 @@ fn tidy_store<R: Threads + Sync, D: Disk>(
     }
 }
 
-// Flushes the store. With `--tidy`, the answer is flushed to the device before the store is tidied.
+// Flushes the store. With `--tidy`, `out` is flushed, so that the answer is visible, before the
+// store is tidied.
 fn run_flush<R: Threads + Sync, D: Disk, O: Write>(
     rt: &R,
     crew: Crew,
@@ -138,7 +139,7 @@ fn is_full(done: &Result<(), SessionError>) -> bool
     }
 }
 
-// Reports a log of one segment, in which there is nothing to clean, as a full log.
+// Replaces `NothingToClean` by `Full`, since the clean was run only to make room for a flush.
 fn full_if_nothing_to_clean(refused: SessionError) -> SessionError
     ensures { ((refused ≡ SessionError.Fault Fault.NothingToClean)
         × (result ≡ SessionError.Fault Fault.Full))
@@ -150,8 +151,8 @@ fn full_if_nothing_to_clean(refused: SessionError) -> SessionError
     }
 }
 
-// Flushes the store. While the log is full, cleans a segment and tries again, at most once for each
-// segment.
+// Flushes the store. While the log is full, cleans a segment and flushes again, at most `segments`
+// times.
 fn run_flush_with_room<R: AllocGlobal + Threads + Sync, D: Disk, O: Write>(
     rt: &R,
     crew: Crew,
@@ -329,8 +330,6 @@ fn run_orders<R: AllocGlobal + Threads + Sync + Clock, D: Disk, O: Write, E: Wri
     Ok(())
 }
 
-// Runs the orders on the store that was opened, flushes the output, and then writes the copy, if
-// there is to be one.
 pub(crate) fn run_opened<
     R: AllocGlobal + Threads + Wait + Sync + Files + Clock,
     D: Disk + LastError + Drop,

@@ -40,14 +40,15 @@ use std::thread::Threads;
 use std::time::Clock;
 use std::{fmt, io};
 
-// Room for the line of each error except those of the command line.
+// The buffer size in bytes for the line of an error. Errors of the command line do not use the
+// buffer.
 const LINE: usize = 64;
 
 const VERSION: &[u8] = b"bwsh 0.1.0\n";
 
 const UNREAD: &[u8] = b"error: a word of the command line is no text\n";
 
-/// Why a session ends early. It is printed as the lines that go to standard error.
+/// Why a session ends early. `Display` writes the lines for standard error.
 #[derive(Drop)]
 pub enum SessionError {
     /// The command line is refused. Nothing was read.
@@ -139,7 +140,7 @@ pub(crate) fn read_fault(error: io::Error) -> SessionError
     }
 }
 
-// Reads and parses all of the input. With `numbers`, adds the order to print statistics.
+// Reads and parses all of the input. If `numbers`, appends `Order::Numbers` to the orders.
 fn read_orders<I: Read>(
     alloc: Global,
     input: &mut I,
@@ -237,16 +238,18 @@ where
 }
 
 /// Runs the session that `request` asks for, and writes the answers to `out`. After an error, `out`
-/// has the answers that precede it; if an allocation or a device failed, it may have fewer.
+/// has the answers of the orders before the error; if an allocation or a device failed, perhaps
+/// only a prefix of these answers.
 ///
-/// Errors are found in this order: a bad line, a closed output, a crew out of range, settings of
-/// the copy that are refused and failures of its file, settings that are refused and failures of
-/// the store's file, faults of the orders, faults of the copy. In a stream, bad lines come last. If
-/// flushing `out` fails, this replaces an earlier error.
+/// Errors are found in this order: a bad line, a closed output, a crew out of range, errors of the
+/// copy's settings and file, errors of the store's settings and file, faults of the orders, faults
+/// of the copy. A stream finds a bad line only when it reads the line. If flushing `out` fails,
+/// this error replaces an earlier one.
 ///
-/// The store's file is locked exclusively if an order writes, if it is created, or for a stream;
-/// otherwise it is shared and only read. A file that cannot be opened or locked, or that holds no
-/// store, is left as it was. A file whose creation fails is left as `FileDisk::of_zeros` says.
+/// The store's file is locked exclusively if an order writes, if the file is created, or for a
+/// stream; otherwise the file is shared and only read. A file that cannot be opened or locked, or
+/// that holds no store, is left as it was. If creating the file fails, `FileDisk::of_zeros` says
+/// what the file holds then.
 ///
 /// `reports` records what an explanation needs, and shows progress on `err`.
 pub fn run<
@@ -290,7 +293,6 @@ fn show_version<O: Write>(out: &mut O) -> Result<(), SessionError>
     flush(done, out)
 }
 
-// Prints the help if it was asked for, and passes on the error otherwise.
 fn answer_words<O: Write>(
     alloc: Global,
     error: clap::Error,
@@ -310,8 +312,8 @@ fn answer_words<O: Write>(
     }
 }
 
-// Prints the version, or runs the session. `more` gets the explanation of an error, if it is asked
-// for.
+// Prints the version, or runs the session. With `--explain`, `more` gets the explanation of an
+// error.
 fn execute_options<
     R: AllocGlobal + Threads + Wait + Sync + Files + Clock,
     I: Read,
@@ -378,7 +380,8 @@ where
     }
 }
 
-// Writes the error. A short line is formatted first, so that it is written at once.
+// Writes the error. Errors other than those of the command line are formatted into a buffer first,
+// so that they go out in one write.
 fn write_error<E: Write>(error: &SessionError, err: &mut E) -> Result<(), SessionError>
     ensures ok { OnOk result (IfSome (error_text error.now)
         (Appends (E.contents err.old) (E.contents err.new))) }
@@ -407,8 +410,8 @@ fn write_error_and<E: Write>(
     write_bytes(more, err)
 }
 
-// Reports the end on standard error and returns the exit status. A failure to write it cannot be
-// reported.
+// Reports an error, if there is one, on standard error, and returns the exit status. A failure to
+// write the report is ignored.
 fn end<E: Write>(done: Result<(), SessionError>, more: &[u8], err: &mut E) -> u8
     ensures status { result ≡ status_of_end done }
     ensures quiet { IfOk done (λ _. err.new ≡ err.old) }
@@ -424,7 +427,7 @@ fn end<E: Write>(done: Result<(), SessionError>, more: &[u8], err: &mut E) -> u8
 }
 
 /// Reports that the command line cannot be read, and returns the exit status: 4 if an allocation
-/// failed, and 2 for a word that is no text.
+/// failed, and 2 if a word is not valid text.
 pub fn unread_words<E: Write>(error: io::Error, err: &mut E) -> u8
     ensures memory { (result ≡ 4) ↔ (error_kind error ≡ ErrorKind.OutOfMemory) }
     ensures status { (result ≡ 2) ⊎ (result ≡ 4) }
@@ -445,9 +448,9 @@ pub fn unread_words<E: Write>(error: io::Error, err: &mut E) -> u8
 /// - 0: all orders are done, or the help or the version was printed.
 /// - 2: the command line is refused, and nothing was read.
 /// - 3: a line of the batch file is bad. Nothing was run and no file was opened; a stream has run
-///   what precedes the line.
-/// - 4: a fault. `out` has the answers of the orders that precede it, or the first of them if an
-///   allocation or a device failed.
+///   the orders completed before the bad line.
+/// - 4: a fault. `out` has the answers of the orders before the fault; if an allocation or a device
+///   failed, perhaps only a prefix of these answers.
 pub fn session<
     R: AllocGlobal + Threads + Wait + Sync + Files + Clock,
     I: Read,
@@ -458,15 +461,15 @@ where
     R::File: LockFile,
     ensures status { (result ≡ 0) ⊎ (result ≡ 2) ⊎ (result ≡ 3) ⊎ (result ≡ 4) }
 
-    // Only refused words give status 2. If an allocation fails, they give 4.
+    // Status 2 is returned only for a refused command line, which gives 4 if an allocation fails.
     ensures refused { (result ≡ 2) ↔ (AreRefused (map string_bytes words.now) × (result ≢ 4)) }
     ensures untouched { AreRefused (map string_bytes words.now) →
         (input.new ≡ input.old) × (out.new ≡ out.old) }
 
-    // With each status, the output is the help, the version, or a beginning of what the orders
-    // answer. They run on a new store, or on the one that the bytes of the file encode, whatever
-    // the bytes are. A clean works on what the disk returns: in memory, what was written last. With
-    // `--tidy`, some batches that keep the pairs run after each flush.
+    // With each status, the output is the help, the version, or a prefix of the answers. The orders
+    // run on a new store, or on the store that the bytes of the file encode, whatever the bytes
+    // are. A clean depends on what the disk returns, which in memory is what was written last.
+    // `--tidy` runs some batches, which change no pairs, after each flush.
     ensures done { result ≡ 0 →
         AsksForText (map string_bytes words.now)
         ⊎ ((request : Request) × AsksFor (map string_bytes words.now) request
@@ -488,15 +491,15 @@ where
         BeginsWith (printed_by start shown (orders_run request start shown text)) front
         × Appends (O.contents out.old) (O.contents out.new) front))) }
 
-    // The end and the output are right for the words and the text, unless an allocation or a device
-    // fails. Standard error gets a report of the end, or a beginning of it. No clause says how a
-    // fault other than 9 is reported.
+    // The exit status and the output are those defined for this command line and this input, unless
+    // an allocation or a device fails. Standard error gets the report of an error, or a prefix of
+    // it. No clause says how a fault other than 9 is reported.
     ensures ends { EndsReported (map string_bytes words.now)
         (I.remaining input.old) (O.contents out.old) (O.contents out.new)
         (E.contents err.old) (E.contents err.new)
         (input.new ≡ input.old) (out.new ≡ out.old) result }
 
-    // A session that succeeds writes nothing to standard error but progress.
+    // A session that succeeds writes only progress to standard error.
     ensures quiet { result ≡ 0 → IsQuiet E.contents (map string_bytes words.now) err.old err.new }
 {
     let mut more = Vec::new(rt.alloc());

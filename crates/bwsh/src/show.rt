@@ -1,4 +1,4 @@
-//! Answers as they are printed.
+//! Formatting answers as lines of output.
 ghost use Rattle.std.specs.Prelude.{◌≡◌, ◌∷◌, ◌++◌, [], codes, length, take, OnOk, OnErr};
 ghost use Rattle.std.specs.Fmt.{decimal};
 ghost use Rattle.std.specs.List.{flat_map};
@@ -9,18 +9,18 @@ use engine::Report;
 use keys::{Reply, RowList};
 use std::alloc::{AllocError, Global};
 
-/// The statistics of a store.
+/// The statistics that `--stat` prints.
 #[derive(Clone, Copy, Debug, PartialEq, Eq)]
 pub struct StoreNumbers {
-    /// The number of the last flush, clean or upgrade.
+    /// The sequence number of the last flush, clean or upgrade.
     pub sequence: u64,
-    /// The first segment of the log.
+    /// The number of the log's first segment.
     pub head: u64,
     /// The offset at which the log ends.
     pub tail: u64,
-    /// The segments of the log that are in use.
+    /// How many segments of the log are in use.
     pub in_use: u64,
-    /// The segments that the log may have.
+    /// How many segments the log may have.
     pub segments: u64,
     pub pages: u128,
     pub pairs: u128,
@@ -42,8 +42,8 @@ fn push_wiped(count: u128, out: &mut Vec<u8>) -> Result<(), AllocError>
     out.extend_from_slice(text.as_bytes())
 }
 
-// The `push_` functions may leave a part of the text after an `Err`, unless their contract says
-// otherwise.
+// After an `Err`, a `push_` function may have appended a part of its output to `out`, unless its
+// contract says otherwise.
 fn push_reply(reply: &Reply<Global>, out: &mut Vec<u8>) -> Result<(), AllocError>
     ensures ok { OnOk result (out.new.items ≡ out.old.items ++ reply_text reply.now) }
     ensures err { OnErr result (take (length out.old.items) out.new.items ≡ out.old.items) }
@@ -97,8 +97,7 @@ fn push_lines(reply: &Reply<Global>, out: &mut Vec<u8>) -> Result<(), AllocError
     Ok(())
 }
 
-/// Appends the lines of a reply. Like each `show_` function, it leaves `out` as it was after an
-/// `Err`.
+/// Appends the lines of a reply to `out`. If a `show_` function fails, `out` is unchanged.
 pub fn show_reply(reply: &Reply<Global>, out: &mut Vec<u8>) -> Result<(), AllocError>
     ensures ok { OnOk result (out.new.items ≡ out.old.items ++ shown_reply reply.now) }
     ensures err { OnErr result (out.new.items ≡ out.old.items) }
@@ -111,7 +110,7 @@ pub fn show_reply(reply: &Reply<Global>, out: &mut Vec<u8>) -> Result<(), AllocE
     shown
 }
 
-/// Appends the line of a flush.
+/// Appends the answer to a flush.
 pub fn show_flushed(sequence: u64, out: &mut Vec<u8>) -> Result<(), AllocError>
     ensures ok { OnOk result (out.new.items ≡ out.old.items ++ shown_flushed sequence) }
     ensures err { OnErr result (out.new.items ≡ out.old.items) }
@@ -120,7 +119,7 @@ pub fn show_flushed(sequence: u64, out: &mut Vec<u8>) -> Result<(), AllocError>
     out.extend_from_slice(line.as_bytes())
 }
 
-/// Appends the line of a clean, after which `head` is the first segment.
+/// Appends the answer to a clean, after which `head` is the first segment.
 pub fn show_cleaned(head: u64, out: &mut Vec<u8>) -> Result<(), AllocError>
     ensures ok { OnOk result (out.new.items ≡ out.old.items ++ shown_cleaned head) }
     ensures err { OnErr result (out.new.items ≡ out.old.items) }
@@ -129,7 +128,7 @@ pub fn show_cleaned(head: u64, out: &mut Vec<u8>) -> Result<(), AllocError>
     out.extend_from_slice(line.as_bytes())
 }
 
-/// Appends the line of an upgrade.
+/// Appends the answer to an upgrade.
 pub fn show_upgraded(sequence: u64, out: &mut Vec<u8>) -> Result<(), AllocError>
     ensures ok { OnOk result (out.new.items ≡ out.old.items ++ shown_upgraded sequence) }
     ensures err { OnErr result (out.new.items ≡ out.old.items) }
@@ -138,7 +137,7 @@ pub fn show_upgraded(sequence: u64, out: &mut Vec<u8>) -> Result<(), AllocError>
     out.extend_from_slice(line.as_bytes())
 }
 
-/// Appends the line of a verify.
+/// Appends the answer to a verify.
 pub fn show_report(report: &Report, out: &mut Vec<u8>) -> Result<(), AllocError>
     ensures ok { OnOk result (out.new.items ≡ out.old.items ++ shown_report report.now) }
     ensures err { OnErr result (out.new.items ≡ out.old.items) }
@@ -152,7 +151,7 @@ pub fn show_report(report: &Report, out: &mut Vec<u8>) -> Result<(), AllocError>
     out.extend_from_slice(line.as_bytes())
 }
 
-/// Appends the line of `--stat`.
+/// Appends the line of statistics.
 pub fn show_numbers(numbers: &StoreNumbers, out: &mut Vec<u8>) -> Result<(), AllocError>
     ensures ok { OnOk result (out.new.items ≡ out.old.items ++ shown_numbers numbers.now) }
     ensures err { OnErr result (out.new.items ≡ out.old.items) }

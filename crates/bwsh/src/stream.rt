@@ -1,4 +1,5 @@
-//! A stream: each line is read and run before the next one is read.
+//! A stream: lines are read one at a time, and each batch or order is run and answered before the
+//! next line is read.
 ghost use Rattle.std.specs.Prelude.{◌≡◌, ◌⊎◌, [], ◌∷◌, ◌++◌, false, IsTrue, IfOk, IfErr, IfSome, None, OnOk};
 ghost use Rattle.std.specs.Option.{option_map};
 ghost use Rattle.std.specs.Io.KnownBytes.{Keeps};
@@ -31,10 +32,10 @@ use std::sync::Wait;
 use std::thread::Threads;
 use std::time::Clock;
 
-// The number of the first bad line, counted from 1, and what is wrong with it.
+// The number of the first bad line, counted from 1, and why the line is bad.
 type BadLine = (u64, Why);
 
-// Removes the line feed and a carriage return in front of it.
+// Removes the line feed at the end of `line`, and a carriage return before it.
 fn without_end(line: &[u8]) -> &[u8]
     ensures { result.now ≡ without_terminator line.now }
 {
@@ -92,7 +93,6 @@ fn read_line<I: BufRead>(
     Ok(Some(line))
 }
 
-// Runs the pending commands as one batch, and flushes its replies to the device.
 fn run_pending<R: AllocGlobal + Threads + Sync, D: Disk, O: Write>(
     rt: &R,
     crew: Crew,
@@ -120,7 +120,6 @@ fn run_pending<R: AllocGlobal + Threads + Sync, D: Disk, O: Write>(
     flush(done, out)
 }
 
-// Does the same if commands are pending.
 fn run_any_pending<R: AllocGlobal + Threads + Sync, D: Disk, O: Write>(
     rt: &R,
     crew: Crew,
@@ -148,8 +147,6 @@ fn run_any_pending<R: AllocGlobal + Threads + Sync, D: Disk, O: Write>(
     run_pending(rt, crew, store, pending, lines, out)
 }
 
-// Runs the pending commands, if there are any, and then the order. Flushes both answers to the
-// device.
 fn run_pending_and_order<R: AllocGlobal + Threads + Sync, D: Disk, O: Write>(
     rt: &R,
     crew: Crew,
@@ -179,7 +176,7 @@ fn run_pending_and_order<R: AllocGlobal + Threads + Sync, D: Disk, O: Write>(
     flush(done, out)
 }
 
-// Runs what a good line orders. A command becomes pending.
+// Runs the orders of a parsed line. A command becomes pending; a blank or bad line runs nothing.
 fn run_line<R: AllocGlobal + Threads + Sync, D: Disk, O: Write>(
     rt: &R,
     crew: Crew,
@@ -251,8 +248,6 @@ fn run_line<R: AllocGlobal + Threads + Sync, D: Disk, O: Write>(
     }
 }
 
-// Runs what remains at the end of the input: the pending commands, and with `--stat` the order for
-// statistics.
 fn run_remaining<R: AllocGlobal + Threads + Sync, D: Disk, O: Write>(
     rt: &R,
     crew: Crew,
@@ -280,7 +275,6 @@ fn run_remaining<R: AllocGlobal + Threads + Sync, D: Disk, O: Write>(
     run_any_pending(rt, crew, store, pending, lines, out)
 }
 
-// Ends a stream that has no bad line.
 fn finish<R: AllocGlobal + Threads + Sync, D: Disk, O: Write>(
     rt: &R,
     crew: Crew,
@@ -307,7 +301,6 @@ fn finish<R: AllocGlobal + Threads + Sync, D: Disk, O: Write>(
     Ok(None)
 }
 
-// Returns what a line runs.
 fn effect_of(parsed: &Line, is_pending: bool) -> LineEffect {
     match parsed {
         Line::Blank | Line::Bad(_) | Line::Command(_) => LineEffect::Nothing,
@@ -358,7 +351,7 @@ fn run_lines<R: AllocGlobal + Threads + Sync + Clock, D: Disk, I: BufRead, O: Wr
         run_line(rt, crew, mode, store, &mut pending, line, &mut lines, out)?;
         reports.progress.line_done(rt, number, effect, err);
     }
-    // Not reached before 2^64 - 1 lines.
+    // Reached only after 2^64 - 2 lines.
     Err(SessionError::Device)
 }
 
@@ -372,8 +365,6 @@ fn stream_result(done: Result<Option<BadLine>, SessionError>) -> Result<(), Sess
     }
 }
 
-// Runs the stream on the store that was opened, flushes the output, and then writes the copy, if
-// there is to be one.
 fn run_opened<
     R: AllocGlobal + Threads + Wait + Sync + Files + Clock,
     D: Disk + LastError + Drop,
@@ -412,7 +403,6 @@ where
     write_copy(rt, crew, &store, copy, reports, err)
 }
 
-// Opens the store that is asked for, and runs the stream on it.
 fn run_request<
     R: AllocGlobal + Threads + Wait + Sync + Files + Clock,
     I: BufRead,
@@ -454,8 +444,8 @@ where
     }
 }
 
-// Reads no bytes, to find out whether the input is open. Otherwise the next file that is opened
-// could get its descriptor, and be read as the input.
+// Fails if `input` is closed, which a read of no bytes shows. If `input` were closed, the next file
+// opened could get its descriptor, and be read as the input.
 fn check_input_open<I: Read>(input: &mut I, notes: &mut Notes) -> Result<(), SessionError>
     ensures bytes { Keeps (I.remaining input.old) (I.remaining input.new) }
     ensures either { IfErr result

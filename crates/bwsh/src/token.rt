@@ -1,4 +1,4 @@
-//! Tokens: byte strings as words of a batch file.
+//! Tokens: byte strings encoded as words of a batch file.
 ghost use Rattle.std.specs.Prelude.{◌≡◌, ◌<◌, ◌++◌, ◌/◌, ◌%◌, [], ◌∷◌, length, take, Some, None, if◌then◌else◌, IfOk, IfSome, MatchOption, OnOk, OnErr};
 ghost use Rattle.std.specs.List.{list_all};
 ghost use Rattle.bwsh.specs.Token.{hex_value, hex_byte, stands_for_itself, unescaped, byte_in_front, with_front, token_bytes, hex_digit, shown_byte, shown_token};
@@ -40,7 +40,7 @@ fn are_plain(bytes: &[u8]) -> bool
     plain
 }
 
-// Decodes the first byte of the text, and returns the text after it.
+// Decodes the first byte of `text`. Returns the byte and the rest of `text`.
 fn first_byte(text: &[u8]) -> Option<(u8, &[u8])>
     requires { 0 < length text.now }
     ensures value { MatchOption result (unescaped text.now ≡ None)
@@ -54,7 +54,7 @@ fn first_byte(text: &[u8]) -> Option<(u8, &[u8])>
     }
 }
 
-// Returns false if the text encodes no bytes.
+// Appends the decoded `text` to `bytes`. Returns false if `text` is malformed.
 fn push_unescaped(text: &[u8], bytes: &mut Vec<u8>) -> Result<bool, AllocError>
     ensures { IfOk result (λ well. (if well then Some bytes.new.items else None)
         ≡ with_front bytes.old.items (unescaped text.now)) }
@@ -71,8 +71,8 @@ fn push_unescaped(text: &[u8], bytes: &mut Vec<u8>) -> Result<bool, AllocError>
     Ok(true)
 }
 
-/// Decodes the token into `bytes`, and returns false if it encodes no bytes. Then, and after an
-/// `Err`, `bytes` may hold some of them.
+/// Decodes `token` into `bytes`, which is cleared first. Returns false if `token` is malformed.
+/// Then, and after an `Err`, `bytes` may hold the first decoded bytes.
 pub fn unescape(token: &[u8], bytes: &mut Vec<u8>) -> Result<bool, AllocError>
     ensures { IfOk result
         (λ well. (if well then Some bytes.new.items else None) ≡ token_bytes token.now) }
@@ -114,7 +114,8 @@ fn push_byte(byte: u8, out: &mut Vec<u8>) -> Result<(), AllocError>
     Ok(())
 }
 
-/// Appends the bytes as a token. After an `Err` a part of it may be left.
+/// Encodes `bytes` as a token and appends it to `out`. After an `Err`, `out` may have a part of the
+/// token.
 pub fn push_token(bytes: &[u8], out: &mut Vec<u8>) -> Result<(), AllocError>
     ensures ok { OnOk result (out.new.items ≡ out.old.items ++ shown_token bytes.now) }
     ensures err { OnErr result (take (length out.old.items) out.new.items ≡ out.old.items) }

@@ -1,4 +1,4 @@
-//! A long call while another thread shows its progress.
+//! Running a long call while another thread shows its progress.
 ghost use Rattle.std.specs.Prelude.{◌≡◌, Some, IfSome, IsSome};
 ghost use Rattle.bwsh.specs.Session.{Shows};
 
@@ -9,8 +9,8 @@ use std::sync::{Condvar, CondvarTimeouts, Mutex, Wait};
 use std::thread::{Threads, join_mut};
 use std::time::{Clock, Duration};
 
-// Milliseconds between two looks: a little more than the second after which a line is due, since
-// clocks are not exact.
+// Milliseconds that the watching thread waits: a little more than the second after which progress
+// is due, since clocks are not exact.
 const PAUSE: u64 = 1_100;
 
 // Tells the watching thread that the call is done.
@@ -26,7 +26,7 @@ impl Latch {
         self.changed.notify_all();
     }
 
-    // Waits for at most `PAUSE`, and returns whether the call is done.
+    // Waits for the call to end, for at most `PAUSE`. Returns whether the call is done.
     fn is_set<R: Wait + Clock>(&self, rt: &R) -> bool {
         let is_done = self.is_done.lock(rt);
         let (is_done, _) = self.changed.wait_timeout_while(

@@ -21,7 +21,7 @@ fn end_of_word(text: &[u8]) -> Option<usize>
     text.iter().position(|byte| is_blank(*byte))
 }
 
-/// Returns the first word and the rest of the line.
+/// Returns the first word and the rest of the line, or `None` if there is no word.
 pub fn first_word(line: &[u8]) -> Option<(&[u8], &[u8])>
     ensures { MatchOption result (words_of line.now ≡ [])
         (λ first. words_of line.now ≡ first.0.now ∷ words_of first.1.now) }

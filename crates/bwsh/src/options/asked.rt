@@ -1,19 +1,19 @@
-//! What the command line asks for.
+//! The options of the command line.
 use engine::Crew;
 use keys::Settings;
 
 /// The values of all options.
 #[derive(Drop)]
 pub struct Options {
-    /// The settings of a store that is created.
+    /// The settings of a new store or of the copy.
     pub settings: Settings,
-    /// Workers and grain, which change no answer.
+    /// Workers and grain, which do not affect the answers.
     pub crew: Crew,
     /// The file of the store, or `None` for a store in memory.
     pub disk: Option<String>,
-    /// Whether the file is created anew and loses what it held.
+    /// Whether a new store is created in the file, whose old contents are lost.
     pub create: bool,
-    /// The file into which the store is copied at the end.
+    /// The file to which the store is copied after all orders.
     pub copy_to: Option<String>,
     pub mode: Mode,
 }
@@ -25,13 +25,13 @@ pub struct Mode {
     pub version: bool,
     /// Explain an error on a second line of standard error.
     pub explain: bool,
-    /// Print the statistics of the store at the end.
+    /// Print the statistics of the store after all orders.
     pub stat: bool,
-    /// Print statistics at the end.
+    /// If the log is full for a flush, clean it and flush again.
     pub clean_when_full: bool,
     /// Read line by line, and answer each batch before reading on.
     pub stream: bool,
-    /// How many emptied leaves to merge after each flush.
+    /// Merge up to this many emptied leaves after each flush.
     pub tidy: u32,
     /// Show progress on standard error once a second.
     pub progress: bool,
