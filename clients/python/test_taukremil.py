@@ -401,7 +401,7 @@ class Faults(StoreTest):
         with self.assertRaises(Refused) as caught:
             store.batch([Put(b"c", b"3"), Put(b"much too long", b"4")])
         self.assertEqual((caught.exception.number, caught.exception.fault), (2, "fault 2 KeyTooLong 1"))
-        self.assertIn("a key that is too long", caught.exception.why)
+        self.assertIn("a key that is longer than max-key", caught.exception.why)
         self.assertEqual(caught.exception.unflushed, 1)
         self.assertIn("batches since the last flush that are gone: 1", str(caught.exception))
         self.assertIsNone(store.pid)

@@ -3,12 +3,9 @@ use Rattle.std.proofs.lemmas.Result.{err_from_is_err_and}
 use Rattle.crew.specs.Crew.{is_crew}
 use Rattle.bwsh.specs.Options.{request_of}
 use Rattle.bwsh.specs.declared.session.SessionError.TheVariants.{Device}
-use Rattle.bwsh.proofs.EndLemmas.{Answers-asked, Answers-no_crew, Answers-unread, in_range, out_of_range}
+use Rattle.bwsh.proofs.EndLemmas.{Answers-asked, Answers-no_crew, Answers-unread, out_of_range}
 use Rattle.bwsh.proofs.ProgressLemmas.{Shows-same}
 use Rattle.bwsh.proofs.session.run_file.Goals as goal
-
-pub run_request-requires : goal.run_request-requires
-run_request-requires g c = in_range (is_crew c.args.request.now.crew) c.in_ok-check.ensures
 
 pub returns-in_err-orders-clause-runs : goal.returns-in_err-orders-clause-runs
 returns-in_err-orders-clause-runs g c =
