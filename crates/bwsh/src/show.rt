@@ -16,7 +16,8 @@ pub struct StoreNumbers {
     pub sequence: u64,
     /// The number of the log's first segment.
     pub head: u64,
-    /// The offset at which the log ends.
+    /// The position at which the log ends (`Store::tail`): byte `offset` of segment n has the position
+    /// `n * seg_size + offset`.
     pub tail: u64,
     /// How many segments of the log are in use.
     pub in_use: u64,

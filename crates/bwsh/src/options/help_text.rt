@@ -33,7 +33,7 @@ pub const EXPLAIN: &str = "Explains an error on a second line of standard error"
 
 pub const STAT: &str = "Prints statistics of the store at the end";
 
-pub const CLEAN_WHEN_FULL: &str = "Cleans the log if it is full for a flush";
+pub const CLEAN_WHEN_FULL: &str = "If the log has no room for a flush, cleans it and flushes again";
 
 pub const STREAM: &str =
     "Answers each batch before it reads on; without it, all input is read first";
@@ -48,7 +48,7 @@ Lines of a batch file:
   del K             Deletes K
   scan LO HI LIMIT  Reads at most LIMIT pairs from LO up to, but not including, HI; * is no bound
   wipe LO HI        Deletes the keys from LO up to, but not including, HI
-  go                Runs the commands since the last batch as one batch, as do the next four
+  go                Runs the commands since the last batch as one batch; the next four do so first
   flush             Writes all changes to the log; only flushed changes survive the program
   clean             Frees the first segment of the log
   upgrade           Flushes, and upgrades the log to version 2 (compressed keys); irreversible
@@ -57,8 +57,8 @@ Lines of a batch file:
 Keys and values are words of printable ASCII; %XX is a byte in hexadecimal, and % alone is the empty string.
 
 Exit status:
-  0  All orders are done, or the help or the version was printed
+  0  Everything is done, or the help or the version was printed
   2  The command line is refused; nothing was read
-  3  A line is bad; nothing was run, or with --stream only what precedes the line
+  3  A line is bad; nothing was run, or with --stream only the batches that were complete before it
   4  A fault, which standard error names; --explain tells what to do\
 ";
