@@ -1,4 +1,4 @@
-"""Tests of the client on the program: that of the variable BWSH, or else the one that the gate has built."""
+"""Tests the client on the program at the path in BWSH, by default the one that `check` builds."""
 
 from __future__ import annotations
 
@@ -27,8 +27,8 @@ SMALL = {
     "max_key": 16,
     "max_value": 64,
     "seg_size": 1024,
-}  # small pages, cut and merged all the time
-MEMORY = Path("/dev/shm")  # where a sync takes no time, so that a kill falls anywhere
+}  # pages that split and merge often
+MEMORY = Path("/dev/shm")  # syncs take no time there, so that kills hit all parts of a flush
 
 
 def new_folder() -> tempfile.TemporaryDirectory[str]:
@@ -36,14 +36,13 @@ def new_folder() -> tempfile.TemporaryDirectory[str]:
 
 
 def kill(store: Store) -> None:
-    """Kills the program of a store."""
     assert store.pid is not None
     os.kill(store.pid, signal.SIGKILL)
 
 
 @dataclass
 class Model:
-    """The expected replies of a store: a dict, and its keys in order."""
+    """Models a store as a dict and its sorted keys."""
 
     values: dict[bytes, bytes] = field(default_factory=dict)
     keys: list[bytes] = field(default_factory=list)
@@ -93,7 +92,7 @@ class Model:
 
 
 class Chance:
-    """Random commands on few keys, some with bytes that are written with escapes."""
+    """Generates random commands on about 600 keys, some of which need escapes."""
 
     def __init__(self, seed: int) -> None:
         self.source = random.Random(seed)
@@ -112,7 +111,7 @@ class Chance:
         return lo, None if self.source.random() < 0.05 else hi
 
     def range(self) -> tuple[bytes, bytes]:
-        """Returns a range of few keys."""
+        """Returns the bounds of a range with few keys."""
         at = self.source.randrange(400)
         return b"k%d" % at, b"k%d~" % at
 
@@ -132,8 +131,6 @@ class Chance:
 
 
 class StoreTest(unittest.TestCase):
-    """Each test has a folder of its own, with the file of a store."""
-
     def setUp(self) -> None:
         folder = new_folder()
         self.addCleanup(folder.cleanup)
@@ -165,8 +162,8 @@ class Replies(StoreTest):
             Wipe(),
         ]
         rows = [(b"a", b"2"), (b"b", b"4")]
-        due: list[Reply] = [None, True, False, b"2", False, True, rows, rows[:1], [], True, False, 1, 0]
-        self.assertEqual(store.batch(batch), due)
+        expected: list[Reply] = [None, True, False, b"2", False, True, rows, rows[:1], [], True, False, 1, 0]
+        self.assertEqual(store.batch(batch), expected)
         self.assertEqual(store.batch([]), [])
 
     def test_calls_of_one_command(self) -> None:
@@ -182,7 +179,7 @@ class Replies(StoreTest):
         self.assertTrue(store.delete(b"a"))
         self.assertFalse(store.delete(b"a"))
         self.assertEqual(store.wipe(), 1)
-        self.assertEqual(store.unflushed, 7)  # those that write
+        self.assertEqual(store.unflushed, 7)
 
     def test_all_bytes_are_keys_and_values(self) -> None:
         store = self.store(create=True)
@@ -212,14 +209,14 @@ class Replies(StoreTest):
         with self.assertRaises(ValueError):
             store.scan(limit=-1)
         for wrong in ("a", memoryview(b"a"), 1, None):
-            with self.assertRaisesRegex(TypeError, f"are bytes, and not {type(wrong).__name__}$"):
+            with self.assertRaisesRegex(TypeError, f"keys and values must be bytes, not {type(wrong).__name__}$"):
                 store.put(wrong, b"1")  # type: ignore[arg-type]
-            with self.assertRaisesRegex(TypeError, f"are bytes, and not {type(wrong).__name__}$"):
+            with self.assertRaisesRegex(TypeError, f"keys and values must be bytes, not {type(wrong).__name__}$"):
                 store.put(b"a", wrong)  # type: ignore[arg-type]
-        with self.assertRaisesRegex(TypeError, "are bytes, and not str$"):
+        with self.assertRaisesRegex(TypeError, "keys and values must be bytes, not str$"):
             store.wipe(b"a", "b")  # type: ignore[arg-type]
         for limit in (1.9, "1"):
-            with self.assertRaisesRegex(TypeError, f"a whole number, and not {type(limit).__name__}$"):
+            with self.assertRaisesRegex(TypeError, f"a limit must be an integer, not {type(limit).__name__}$"):
                 store.scan(limit=limit)  # type: ignore[arg-type]
         self.assertEqual(store.unflushed, 1)
         self.assertEqual(store.get(bytearray(b"a")), b"1")
@@ -227,7 +224,7 @@ class Replies(StoreTest):
     def test_a_batch_and_its_replies_may_be_longer_than_pipes_hold(self) -> None:
         store = self.store(create=True, max_value=1024, seg_size=1_048_576)
         keys = [b"%064d" % number for number in range(20_000)]
-        value = b"\xff" * 300  # written as 900 bytes
+        value = b"\xff" * 300  # sent as 900 bytes
         self.assertEqual(store.batch([Put(key, value) for key in keys]), [True] * len(keys))
         self.assertEqual(store.batch([Get(key) for key in keys]), [value] * len(keys))
         self.assertEqual(store.verify().pairs, len(keys))
@@ -259,7 +256,7 @@ class Replies(StoreTest):
 
         @dataclass(frozen=True)
         class Meddle:
-            """A command whose reply is read only after another call was tried."""
+            """Is a `get` that makes `call` before it reads the reply."""
 
             call: Callable[[], object]
 
@@ -273,9 +270,9 @@ class Replies(StoreTest):
                     return b"%b, %b" % (str(error).encode(), line())
                 return b"was not refused"
 
-        due = b"a call of this store is under way in this thread, value 1"
+        expected = b"another call of this store is in progress in this thread, value 1"
         for call in calls:
-            self.assertEqual(store.batch([Meddle(call), Get(b"b")]), [due, b"2"])
+            self.assertEqual(store.batch([Meddle(call), Get(b"b")]), [expected, b"2"])
 
     def test_a_handler_of_a_signal_takes_no_answer_of_a_call(self) -> None:
         store = self.store(create=True)
@@ -345,7 +342,7 @@ class Lasting(StoreTest):
             kill(store)
             with self.assertRaises(Killed):
                 store.flush()
-            self.assertEqual(store.scan(), [])  # it was made once, and is opened since
+            self.assertEqual(store.scan(), [])  # the restarted program opened the file and did not create it again
 
     def test_a_log_that_is_full_is_cleaned(self) -> None:
         store = self.store(create=True, **SMALL, segments=8)
@@ -379,17 +376,17 @@ class Lasting(StoreTest):
     def test_the_numbers_are_those_that_the_program_prints(self) -> None:
         source, number, at = random.Random(1), 0, 1
         with self.store(create=True, **SMALL, segments=8) as store:
-            while number < 500 or at:  # until a flush ends just where its segment does
+            while number < 500 or at:  # until a flush ends exactly at the end of a segment
                 number += 1
                 store.put(b"k%d" % (number % 40), b"v" * source.randrange(64))
                 store.flush()
                 at = store.stat().tail % SMALL["seg_size"]
             stat, report = store.stat(), store.verify()
         ran = subprocess.run([PROGRAM, "--stat", "--disk", self.path], stdin=subprocess.DEVNULL, capture_output=True)
-        due = (
+        expected = (
             f"stat sequence {stat.sequence} head {stat.head} tail {stat.tail} segments {stat.in_use} of {stat.segments}"
         )
-        self.assertEqual(ran.stdout.decode(), f"{due} pages {report.pages} pairs {report.pairs}\n")
+        self.assertEqual(ran.stdout.decode(), f"{expected} pages {report.pages} pairs {report.pairs}\n")
 
 
 class Faults(StoreTest):
@@ -403,16 +400,16 @@ class Faults(StoreTest):
         self.assertEqual((caught.exception.number, caught.exception.fault), (2, "fault 2 KeyTooLong 1"))
         self.assertIn("a key that is longer than max-key", caught.exception.why)
         self.assertEqual(caught.exception.unflushed, 1)
-        self.assertIn("batches since the last flush that are gone: 1", str(caught.exception))
+        self.assertIn("batches lost since the last flush: 1", str(caught.exception))
         self.assertIsNone(store.pid)
-        self.assertEqual(store.scan(), [(b"a", b"1")])  # the next call goes on with the store of the last flush
+        self.assertEqual(store.scan(), [(b"a", b"1")])
 
     def test_batches_before_one_that_is_refused_in_the_same_call_are_not_counted(self) -> None:
         store = self.store(create=True, max_key=4)
         store.put(b"a", b"1")
         with self.assertRaises(Refused) as caught:
             store.batches([[Put(b"b", b"2")], [Put(b"c", b"3")], [Put(b"much too long", b"4")]])
-        self.assertEqual(caught.exception.unflushed, 1)  # that of the call which returned
+        self.assertEqual(caught.exception.unflushed, 1)
         self.assertEqual(store.scan(), [])
 
     def test_exceptions_are_the_same_in_another_process(self) -> None:
@@ -432,8 +429,8 @@ class Faults(StoreTest):
     def test_what_is_gone_may_be_flushed_where_a_flush_may_be_done(self) -> None:
         refused = [Refused("fault 6 NoMemory", "", 1), Refused("fault 9 Device", "", 1)]
         for error in (Killed(signal.SIGKILL, 1), *refused):
-            self.assertIn("that are gone, unless a flush was under way: 1", str(error))
-        self.assertIn("that are gone: 1", str(Refused("fault 10 Full", "", 1)))
+            self.assertIn("batches lost since the last flush, unless a flush was in progress: 1", str(error))
+        self.assertIn("batches lost since the last flush: 1", str(Refused("fault 10 Full", "", 1)))
 
     def test_a_batch_that_is_too_long_is_refused(self) -> None:
         store = self.store(create=True)
@@ -503,12 +500,12 @@ class Faults(StoreTest):
                 store.get(b"a")
             except StoreError as error:
                 is_refused = "closed" in str(error)
-            os.read(read, 1)  # until the other process has closed its store
+            os.read(read, 1)  # returns after the parent has closed its store
             os._exit(0 if is_refused and store.pid is None else 1)
         self.assertEqual(store.get(b"a"), b"1")
         self.assertEqual(store.flush(), 2)
         began = time.monotonic()
-        store.close()  # which waits for the end of the program, and so for nobody else to hold its pipe
+        store.close()  # returns only after no other process holds the pipe
         self.assertLess(time.monotonic() - began, taukremil.PATIENCE / 2)
         os.close(write)
         os.close(read)
@@ -562,7 +559,7 @@ class Kills(StoreTest):
         store.put(b"a", b"1")
         store.flush()
         assert store.pid is not None
-        os.kill(store.pid, signal.SIGSTOP)  # so that the pipe fills
+        os.kill(store.pid, signal.SIGSTOP)
         timer = threading.Timer(0.1, kill, (store,))
         timer.start()
         with self.assertRaises(Killed):
@@ -585,7 +582,7 @@ class Kills(StoreTest):
         before = signal.signal(signal.SIGALRM, interrupt)
         self.addCleanup(signal.signal, signal.SIGALRM, before)
         assert pid is not None
-        os.kill(pid, signal.SIGSTOP)  # so that it answers nothing
+        os.kill(pid, signal.SIGSTOP)
         signal.setitimer(signal.ITIMER_REAL, 0.3)
         with self.assertRaises(Interrupt):
             store.put(b"b", b"2")
@@ -593,22 +590,22 @@ class Kills(StoreTest):
         self.assertEqual(store.scan(), [(b"a", b"1")])
 
     def play(self, path: Path, seed: int, commands: int, kills: int) -> None:
-        """Runs commands by chance beside the model, until `kills` of them, at moments by chance, have met a call."""
-        chance, met = Chance(seed), 0
+        """Compares random commands with the model until random kills have interrupted `kills` calls."""
+        chance, killed = Chance(seed), 0
         store = Store(path, create=True, program=PROGRAM, **SMALL, segments=128)
         self.addCleanup(store.close)
         now, flushed = Model(), Model()
         killer = Killer(store, seed)
         self.addCleanup(killer.stop)
         done = 0
-        while done < commands or met < kills:
-            killer.is_due = met < kills
+        while done < commands or killed < kills:
+            killer.is_due = killed < kills
             batch = chance.batch()
             try:
                 replies = store.batch(batch)
             except Killed:
-                met, now = met + 1, flushed.copy()
-                self.assertEqual(store_again(store), now.rows())
+                killed, now = killed + 1, flushed.copy()
+                self.assertEqual(scan_despite_kills(store), now.rows())
                 continue
             self.assertEqual(replies, [now.reply(command) for command in batch])
             done += len(batch)
@@ -617,25 +614,25 @@ class Kills(StoreTest):
                     killer.hurry()
                 try:
                     store.flush()
-                except Killed:  # either of both came back
-                    met, rows = met + 1, store_again(store)
+                except Killed:  # the flush is durable or had no effect
+                    killed, rows = killed + 1, scan_despite_kills(store)
                     self.assertIn(rows, (now.rows(), flushed.rows()))
                     flushed, now = (now.copy(), now) if rows == now.rows() else (flushed, flushed.copy())
                     continue
                 flushed = now.copy()
         killer.stop()
-        self.assertEqual(store_again(store), now.rows())
+        self.assertEqual(scan_despite_kills(store), now.rows())
         self.assertEqual(store.verify().pairs, len(now.keys))
 
     def test_a_hundred_thousand_commands_beside_a_model_with_kills(self) -> None:
-        with tempfile.TemporaryDirectory() as disk:  # where syncs take time, in which a kill finds a flush that is done
+        with tempfile.TemporaryDirectory() as disk:  # with slow syncs, kills also hit flushes that are already durable
             for seed in range(1, 5):
                 folder = self.folder if seed % 2 else Path(disk)
                 self.play(folder / f"store {seed}", seed, commands=25_000, kills=10)
 
 
-def store_again(store: Store) -> list[Row]:
-    """Returns all pairs of a store whose program may be killed meanwhile, again and again."""
+def scan_despite_kills(store: Store) -> list[Row]:
+    """Returns all pairs of `store`, and tries again after each kill."""
     while True:
         try:
             return store.scan()
@@ -644,7 +641,7 @@ def store_again(store: Store) -> list[Row]:
 
 
 class Killer:
-    """A thread that kills the program of a store at moments by chance, where a kill is due."""
+    """Kills the program of a store at random times in a thread, while `is_due` is set."""
 
     def __init__(self, store: Store, seed: int) -> None:
         self.store, self.source = store, random.Random(seed)
@@ -662,7 +659,7 @@ class Killer:
                 kill_process(pid)
 
     def hurry(self) -> None:
-        """Has it kill within the time that a flush takes, so that this meets some flushes before they are done, and some after."""
+        """Makes the next kill come within 2 ms, about the time of a flush."""
         self.is_hurried.set()
 
     def stop(self) -> None:
@@ -674,7 +671,7 @@ class Killer:
 def kill_process(pid: int) -> None:
     try:
         os.kill(pid, signal.SIGKILL)
-    except ProcessLookupError:  # it was killed before, and is gone
+    except ProcessLookupError:  # it has ended already
         pass
 
 
@@ -690,7 +687,7 @@ for line in sys.stdin.buffer:
 
 
 class Pipes(unittest.TestCase):
-    """Programs that behave otherwise than the real one: does the client wait for ever, or take any answer?"""
+    """Tests the client on programs that break the protocol."""
 
     def setUp(self) -> None:
         folder = new_folder()
@@ -709,7 +706,7 @@ class Pipes(unittest.TestCase):
 
     def test_answers_that_are_none_end_the_program(self) -> None:
         store = Store(self.folder / "none", program=self.program(ANSWERS_EACH_LINE))
-        with self.assertRaisesRegex(StoreError, "no answer to what it was asked"):
+        with self.assertRaisesRegex(StoreError, "unexpected answer from the program"):
             store.put(b"a", b"1")
         self.assertIsNone(store.pid)
         store.close()
@@ -719,7 +716,7 @@ class Pipes(unittest.TestCase):
             Store(self.folder / "none", program=self.program("pass"))
 
     def test_more_answers_than_were_asked_for(self) -> None:
-        with self.assertRaisesRegex(StoreError, "no answer to what it was asked"):
+        with self.assertRaisesRegex(StoreError, "unexpected answer from the program"):
             Store(self.folder / "none", program=self.program("print('rows 0\\nnew', flush=True); input(); input()"))
 
 

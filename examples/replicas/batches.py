@@ -1,4 +1,4 @@
-"""What stands in etcd: batches, each under a key of its own; and what they make of an ordered map."""
+"""Encodes the batches that etcd stores, each under its own key, and applies them to a dict."""
 
 from __future__ import annotations
 
@@ -12,8 +12,8 @@ sys.path.insert(0, str(Path(__file__).resolve().parents[2] / "clients/python"))
 from taukremil import Add, Command, Del, Put, Reply, Wipe  # noqa: E402
 
 PREFIX = b"batches/"
-REVISION = b"\x00revision"  # the key under which a store has the revision that it has played
-MARK = b"mark/"  # begins the keys that batches add, each its own: so one that is played twice is seen
+REVISION = b"\x00revision"  # the key under which a store keeps the last revision that it applied
+MARK = b"mark/"  # prefix of the key that each batch adds, to detect a batch applied twice
 
 KINDS: dict[str, type[Put] | type[Add] | type[Del] | type[Wipe]] = {"put": Put, "add": Add, "del": Del, "wipe": Wipe}
 
@@ -24,7 +24,7 @@ def name_of(writer: str, number: int) -> str:
 
 @dataclass(frozen=True)
 class Batch:
-    """Commands of a writer, each its name and its words; when they were sent; whether a flush and a look follow."""
+    """Holds commands, each a kind and its arguments. If `flush` is set, replicas flush and report after them."""
 
     name: str
     sent: float
@@ -48,7 +48,7 @@ class Batch:
         return [KINDS[kind](*(word.encode() for word in words)) for kind, *words in self.commands]
 
     def play(self, contents: dict[bytes, bytes]) -> None:
-        """Adds its mark to a dict, and runs its commands on it, as an ordered map would."""
+        """Adds the batch's mark to `contents`, and applies its commands."""
         contents[self.mark()] = b""
         for command in self.for_store():
             if isinstance(command, Put):

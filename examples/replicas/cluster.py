@@ -1,4 +1,4 @@
-"""A cluster of etcd on the loopback address, whose members may be killed and started again."""
+"""Runs an etcd cluster on the loopback address. Its members can be killed and started again."""
 
 from __future__ import annotations
 
@@ -15,18 +15,18 @@ from pathlib import Path
 
 from gateway import FAILURES, Gateway
 
-PATIENCE = 60  # seconds until a cluster answers
+PATIENCE = 60  # seconds to wait for a leader
 C = ctypes.CDLL(None)
 END_WITH_PARENT = 1  # PR_SET_PDEATHSIG of prctl
 
 
 def end_with_parent() -> None:
-    """Has the system kill this child once its parent has ended, however that was."""
+    """Makes the kernel kill this child process when its parent ends."""
     C.prctl(END_WITH_PARENT, signal.SIGKILL)
 
 
 def free_ports(count: int) -> list[int]:
-    """Returns ports of the loopback address that nobody has now."""
+    """Returns `count` free ports of the loopback address."""
     sockets = [socket.create_server(("127.0.0.1", 0)) for _ in range(count)]
     ports: list[int] = [each.getsockname()[1] for each in sockets]
     for each in sockets:
@@ -36,8 +36,6 @@ def free_ports(count: int) -> list[int]:
 
 @dataclass
 class Member:
-    """A member: its command, and its process where it runs."""
-
     name: str
     port: int
     command: list[str]
@@ -45,7 +43,7 @@ class Member:
     process: subprocess.Popen[bytes] | None = None
 
     def start(self) -> None:
-        # Without what a surrounding etcd or its users may have set for theirs.
+        # Variables that configure another etcd on this machine must not reach this one.
         environment = {name: value for name, value in os.environ.items() if not name.startswith(("ETCD", "ETCDCTL"))}
         with open(self.log, "ab") as log:
             quiet = subprocess.DEVNULL
@@ -62,8 +60,6 @@ class Member:
 
 @dataclass
 class Cluster:
-    """All members, each with a folder of its own."""
-
     members: list[Member] = field(default_factory=list)
 
     @property
@@ -71,7 +67,6 @@ class Cluster:
         return [member.port for member in self.members]
 
     def leader(self) -> Member | None:
-        """Returns the member that leads, as one of those that run says."""
         for member in self.members:
             if member.process is None:
                 continue
@@ -114,7 +109,7 @@ def members_in(folder: Path, etcd: str, count: int) -> list[Member]:
 
 @contextmanager
 def running(folder: Path, etcd: str, count: int = 3) -> Iterator[Cluster]:
-    """Starts a cluster, and ends its members, and no other process, when it is left."""
+    """Starts a cluster of `count` members, and kills them at the end of the `with` block."""
     cluster = Cluster(members_in(folder, etcd, count))
     try:
         for member in cluster.members:

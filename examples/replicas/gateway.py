@@ -1,4 +1,4 @@
-"""Speaks with etcd over its JSON gateway, by what Python has of its own."""
+"""Talks to etcd over its JSON gateway, with the standard library only."""
 
 from __future__ import annotations
 
@@ -11,14 +11,14 @@ from collections.abc import Iterator
 from dataclasses import dataclass, field
 from typing import Any
 
-PATIENCE = 2.0  # seconds that a request may take, and that a watch may be silent, before another member is asked
-PAUSE = 0.05  # seconds before it is asked
-FAILURES = (OSError, http.client.HTTPException, json.JSONDecodeError)  # of a member that is dead, or dies
+PATIENCE = 2.0  # seconds until a request or a silent watch times out
+PAUSE = 0.05  # seconds before the next member is tried
+FAILURES = (OSError, http.client.HTTPException, json.JSONDecodeError)  # what a dead or dying member causes
 Json = dict[str, Any]
 
 
 class Compacted(Exception):
-    """What a watch asks for is gone from etcd, from all members alike."""
+    """Reports that etcd has compacted the revisions that a watch asked for."""
 
 
 def encode(data: bytes) -> str:
@@ -26,14 +26,12 @@ def encode(data: bytes) -> str:
 
 
 def end_of(prefix: bytes) -> bytes:
-    """Returns the least key above all that begin with the prefix."""
+    """Returns the upper bound of the keys with this prefix."""
     return prefix[:-1] + bytes([prefix[-1] + 1])
 
 
 @dataclass(frozen=True)
 class Event:
-    """A key that was put, its value, and the revision that this has made."""
-
     key: bytes
     value: bytes
     revision: int
@@ -46,7 +44,7 @@ class Event:
 
 @dataclass
 class Gateway:
-    """The members of a cluster, by their ports on the loopback address. One is asked until it fails, then the next."""
+    """Sends requests to one member of a cluster on the loopback address, and after a failure to the next."""
 
     ports: list[int]
     at: int = 0
@@ -63,8 +61,7 @@ class Gateway:
             self.connection.close()
         self.connection = None
 
-    def turn(self) -> None:
-        """Goes on to the next member."""
+    def go_to_next_member(self) -> None:
         self.close()
         self.at += 1
         time.sleep(PAUSE)
@@ -78,20 +75,20 @@ class Gateway:
         return response
 
     def ask_once(self, path: str, body: Json) -> Json:
-        """Asks the present member. After one of the failures what was asked may be done or not."""
+        """Sends a request to the current member. After a failure, the request may have been executed."""
         answer: Json = json.loads(self._post(path, body).read())
         return answer
 
     def ask(self, path: str, body: Json) -> Json:
-        """Asks one member after the other until one answers. So what is asked may be done more than once."""
+        """Sends a request until a member answers. The request may be executed more than once."""
         while True:
             try:
                 return self.ask_once(path, body)
             except FAILURES:
-                self.turn()
+                self.go_to_next_member()
 
     def put_once(self, key: bytes, value: bytes) -> int:
-        """Puts a key that nobody else puts, and returns the revision. It is put once, however often that is asked."""
+        """Puts `key`, which no other client puts, exactly once, and returns the revision."""
         body = {
             "compare": [{"key": encode(key), "target": "CREATE", "create_revision": "0", "result": "EQUAL"}],
             "success": [{"request_put": {"key": encode(key), "value": encode(value)}}],
@@ -100,25 +97,27 @@ class Gateway:
         answer = self.ask("/v3/kv/txn", body)
         if answer.get("succeeded"):
             return int(answer["header"]["revision"])
-        (pair,) = answer["responses"][0]["response_range"]["kvs"]  # an attempt before was done, and its answer lost
+        (pair,) = answer["responses"][0]["response_range"]["kvs"]  # an earlier attempt succeeded
         return int(pair["create_revision"])
 
     def all_of(self, prefix: bytes) -> list[Event]:
-        """Returns all keys that begin with the prefix, in the order of their revisions."""
+        """Returns an event for each key with this prefix, ordered by revision."""
         bounds = {"key": encode(prefix), "range_end": encode(end_of(prefix))}
         answer = self.ask("/v3/kv/range", {**bounds, "sort_order": "ASCEND", "sort_target": "MOD"})
         return [Event.of(pair) for pair in answer.get("kvs", [])]
 
     def watch(self, prefix: bytes, first: int) -> Iterator[list[list[Event]]]:
-        """Yields lists of revisions, each with its events, as the present member sends them, until that fails. Raises
-        `Compacted` where the first ones are gone."""
+        """Yields lists of revisions, each a list of events, from revision `first` on, until the current member fails.
+
+        Raises `Compacted` if etcd no longer has revision `first`.
+        """
         bounds = {"key": encode(prefix), "range_end": encode(end_of(prefix))}
         response = self._post("/v3/watch", {"create_request": {**bounds, "start_revision": str(first)}})
         while line := response.readline():
             answer = json.loads(line)
             result = answer.get("result", {})
             if compacted := int(result.get("compact_revision", 0)):
-                raise Compacted(f"etcd has nothing before revision {compacted}, where {first} was asked for")
+                raise Compacted(f"etcd has no revision before {compacted}, and {first} was requested")
             if "error" in answer or result.get("canceled"):
                 raise ConnectionError(f"the watch has ended: {answer}")
             events = [Event.of(event["kv"]) for event in result.get("events", [])]
@@ -126,8 +125,7 @@ class Gateway:
                 yield [list(same) for _, same in itertools.groupby(events, lambda event: event.revision)]
 
     def follow(self, prefix: bytes, first: int) -> Iterator[list[list[Event]]]:
-        """Yields lists of revisions, each with its events and once, from one member or the other, for ever. Raises
-        `Compacted` where the next ones are gone."""
+        """Yields each revision once, like `watch`, and continues with another member after a failure."""
         while True:
             try:
                 for revisions in self.watch(prefix, first):
@@ -135,4 +133,4 @@ class Gateway:
                     yield revisions
             except FAILURES:
                 pass
-            self.turn()
+            self.go_to_next_member()

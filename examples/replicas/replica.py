@@ -1,5 +1,5 @@
 #!/usr/bin/env python3
-"""Plays the batches that stand in etcd, in the order of their revisions, on a store of its own; README.md says how."""
+"""Applies the batches in etcd, in the order of their revisions, to a store."""
 
 from __future__ import annotations
 
@@ -20,14 +20,12 @@ from gateway import Event, Gateway
 from taukremil import Add, Command, Killed, Put, Refused, Reply, Store
 
 SETTINGS = {"fan": 32, "chain": 8, "max_key": 32, "max_value": 128, "seg_size": 65_536, "segments": 96}
-PATIENCE = 20  # seconds until the program of a replica that was killed has ended, and its file is free
-DEVICE = 9  # the fault of a file that another program holds
+PATIENCE = 20  # seconds to wait for the program of a killed replica to unlock the file
+DEVICE = 9  # the fault if another program has locked the file
 
 
 @dataclass(frozen=True)
 class Revision:
-    """What a revision has put."""
-
     number: int
     batches: list[Batch]
 
@@ -36,7 +34,7 @@ class Revision:
         return Revision(events[0].revision, [Batch.read(event.value) for event in events])
 
     def commands(self) -> list[Command[Reply]]:
-        """Returns its commands as one batch, with the revision itself in it; the marks come first."""
+        """Returns one batch of the marks, the commands and a put of the revision."""
         commands: list[Command[Reply]] = [Add(batch.mark(), b"") for batch in self.batches]
         commands += [command for batch in self.batches for command in batch.for_store()]
         return [*commands, Put(REVISION, b"%d" % self.number)]
@@ -47,45 +45,42 @@ class Revision:
 
 @dataclass
 class Replica:
-    """A store, and where it stands.
-
-    When it flushes is decided by the revisions alone, so that its bytes are those of the others.
-    """
+    """Applies revisions to a store. Only revisions determine when it flushes, so all replicas have equal bytes."""
 
     store: Store
     log: TextIO
-    every: int  # revisions from a flush to the next
-    looks: int  # flushes from a look at the store and its bytes to the next, by their numbers
+    every: int  # revisions between flushes
+    looks: int  # flushes between reports of the store's bytes
     played: int = 0
     flushed: int = 0
-    lags: dict[int, float] = field(default_factory=dict)  # by revision, of those since the last flush
+    lags: dict[int, float] = field(default_factory=dict)  # seconds, by revision since the last flush
 
     def say(self, event: str, **more: object) -> None:
         self.log.write(json.dumps({"event": event, "time": time.time(), **more}) + "\n")
         self.log.flush()
 
     def recover(self) -> None:
-        """Reads how far the store has come: all of that is on its disk, since it was just opened."""
+        """Reads the last applied revision of a store that was just opened."""
         self.played = self.flushed = int(self.store.get(REVISION) or b"0")
         self.say("started", revision=self.played)
 
     def play(self, revisions: list[Revision]) -> None:
-        """Plays revisions, and flushes where that is due among them."""
-        unplayed: list[Revision] = []
+        """Applies revisions, and flushes when due."""
+        pending: list[Revision] = []
         for revision in revisions:
-            unplayed.append(revision)
+            pending.append(revision)
             is_asked = revision.asks_to_flush()
             if is_asked or revision.number - self.flushed >= self.every:
-                self.run(unplayed)
-                unplayed = []
+                self.run(pending)
+                pending = []
                 self.flush(is_asked)
-        self.run(unplayed)
+        self.run(pending)
 
     def run(self, revisions: list[Revision]) -> None:
-        """Plays each of the revisions as a batch of its own, all of them in one exchange with the program."""
+        """Applies each revision as one batch, and sends all of them at once."""
         for revision, replies in zip(revisions, self.store.batches(revision.commands() for revision in revisions)):
             if not all(replies[: len(revision.batches)]):
-                raise SystemExit(f"a batch of revision {revision.number} was played before")
+                raise SystemExit(f"a batch of revision {revision.number} was applied twice")
             self.played = revision.number
             self.lags[revision.number] = round(time.time() - min(batch.sent for batch in revision.batches), 4)
 
@@ -95,17 +90,17 @@ class Replica:
         self.say("flushed", revision=self.played, number=number, lags=self.lags)
         self.lags.clear()
         if is_asked or number % self.looks == 0:
-            self.look(number)
+            self.report_contents(number)
 
-    def look(self, number: int) -> None:
-        """Says what the store looks like, for a comparison with others at the same revision."""
+    def report_contents(self, number: int) -> None:
+        """Logs the store's size and hash, to compare with other replicas at this revision."""
         report, stat = self.store.verify(), self.store.stat()
         numbers = f"number {number}, ok {report.pages} {report.height} {report.pairs}, {stat.head} segments cleaned"
         digest = hashlib.sha256(self.store.path.read_bytes()).hexdigest()
         self.say("looked", revision=self.played, store=numbers, bytes=digest)
 
     def follow(self, gateway: Gateway) -> None:
-        """Plays batches for ever. Where its program was killed it goes on where its disk stands."""
+        """Applies batches forever. After its program is killed, continues with the last flushed store."""
         while True:
             try:
                 self.recover()
@@ -119,7 +114,7 @@ class Replica:
 
 
 def open_store(path: Path, program: Path) -> Store:
-    """Opens the store, or makes a new one. The program of a killed replica may hold the file for a moment yet."""
+    """Opens or creates the store, and waits while a killed replica's program locks the file."""
     end = time.monotonic() + PATIENCE
     while True:
         try:
@@ -133,13 +128,13 @@ def open_store(path: Path, program: Path) -> Store:
 def main() -> None:
     parser = argparse.ArgumentParser(description=__doc__)
     parser.add_argument("store", type=Path, help="the file")
-    parser.add_argument("log", type=Path, help="where it says what it does")
+    parser.add_argument("log", type=Path, help="the file to which it appends its log")
     parser.add_argument(
-        "ports", type=int, nargs="+", help="those of etcd, on the loopback address; the first is asked first"
+        "ports", type=int, nargs="+", help="ports of etcd on the loopback address; the first is tried first"
     )
     parser.add_argument("--program", type=Path, required=True)
-    parser.add_argument("--every", type=int, default=128, help="revisions from a flush to the next")
-    parser.add_argument("--looks", type=int, default=8, help="flushes from a look to the next")
+    parser.add_argument("--every", type=int, default=128, help="revisions between flushes")
+    parser.add_argument("--looks", type=int, default=8, help="flushes between reports of the store's bytes")
     options = parser.parse_args()
     signal.signal(signal.SIGTERM, lambda *_: sys.exit(0))
     with open(options.log, "a") as log, open_store(options.store, options.program) as store:
@@ -149,7 +144,7 @@ def main() -> None:
 
 
 def kill_program(store: Store) -> None:
-    """Kills the replica's program, wherever it is, as a lack of memory would: for the tests of `run.py`."""
+    """Kills the replica's program, as the kernel does when memory is short."""
     if store.pid is not None:
         os.kill(store.pid, signal.SIGKILL)
 

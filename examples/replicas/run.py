@@ -1,9 +1,8 @@
 #!/usr/bin/env python3
-"""Makes one store many: three replicas play what two writers put into a cluster of etcd.
+"""Replicates a store: three replicas apply the batches that two writers put into an etcd cluster.
 
-At random moments replicas and the leader of the cluster are killed. It starts all of them, on the loopback address, and
-ends them and nothing else. Its status is 0 where at the end all replicas have equal bytes, and no batch is lost that
-etcd had acknowledged. README.md says what it shows.
+Replicas, their programs and the etcd leader are killed at random times. The status is 0 if at the end all replicas have
+equal bytes and no acknowledged batch is lost. README.md describes the example.
 """
 
 from __future__ import annotations
@@ -33,12 +32,12 @@ from taukremil import Row, Store
 
 HERE = Path(__file__).resolve().parent
 PROGRAM = HERE.parents[1] / "crates/bwsh/out/bwsh"
-PATIENCE = 120  # seconds that replicas get to come to the end of the log
+PATIENCE = 120  # seconds for replicas to apply the rest of the log
 Line = dict[str, Any]
 
 
 def lines_of(log: Path) -> list[Line]:
-    """Returns what a process has said so far; a line that its end has cut off is left out."""
+    """Returns the complete lines of a log."""
     if not log.exists():
         return []
     return [json.loads(line) for line in log.read_text().splitlines(keepends=True) if line.endswith("\n")]
@@ -46,8 +45,7 @@ def lines_of(log: Path) -> list[Line]:
 
 @dataclass
 class Process:
-    """A replica or a writer: its command, its output, and its process if it runs. It is not one of tools/processes.py: this example is copied and run
-    alone, and its processes are services that signals end."""
+    """Runs a replica or a writer, without tools/processes.py, so that the example can be copied alone."""
 
     name: str
     command: list[str]
@@ -55,9 +53,9 @@ class Process:
     running: subprocess.Popen[bytes] | None = None
 
     def start(self) -> None:
-        with open(self.log.with_suffix(".err"), "ab") as said:
+        with open(self.log.with_suffix(".err"), "ab") as errors:
             quiet, last = subprocess.DEVNULL, cluster.end_with_parent
-            self.running = subprocess.Popen(self.command, stdin=quiet, stdout=said, stderr=said, preexec_fn=last)
+            self.running = subprocess.Popen(self.command, stdin=quiet, stdout=errors, stderr=errors, preexec_fn=last)
 
     def send(self, number: signal.Signals) -> None:
         if self.running:
@@ -70,31 +68,29 @@ class Process:
         self.running = None
 
     def end(self) -> None:
-        """Asks it to end, and sees that it ends well."""
+        """Sends SIGTERM, and checks the status."""
         if self.running:
             self.running.terminate()
-            if self.running.wait(PATIENCE) not in (0, -signal.SIGTERM):  # the latter before it has begun
-                raise SystemExit(f"{self.name} ended with {self.running.returncode}: {self.said()}")
+            if self.running.wait(PATIENCE) not in (0, -signal.SIGTERM):  # the signal came before its handler was set
+                raise SystemExit(f"{self.name} ended with {self.running.returncode}: {self.errors()}")
         self.running = None
 
-    def see_that_it_runs(self) -> None:
+    def check_running(self) -> None:
         if self.running and self.running.poll() is not None:
-            raise SystemExit(f"{self.name} has ended with {self.running.returncode}: {self.said()}")
+            raise SystemExit(f"{self.name} has ended with {self.running.returncode}: {self.errors()}")
 
-    def said(self) -> str:
+    def errors(self) -> str:
         return self.log.with_suffix(".err").read_text().strip()
 
 
 @dataclass
 class ReplicaProcess(Process):
-    """A replica, with its store."""
-
     store: Path = Path()
 
     def lines(self, event: str) -> list[Line]:
         return [line for line in lines_of(self.log) if line["event"] == event]
 
-    def has_looked_at(self, revision: int) -> bool:
+    def has_reported(self, revision: int) -> bool:
         return any(line["revision"] >= revision for line in self.lines("looked"))
 
 
@@ -103,8 +99,8 @@ def replicas_in(folder: Path, ports: list[int], options: argparse.Namespace) -> 
     for number in range(3):
         name = f"r{number + 1}"
         store, log = folder / f"{name}.store", folder / f"{name}.log"
-        turned = ports[number:] + ports[:number]  # each asks another member first
-        words = [HERE / "replica.py", store, log, *turned, "--program", options.program, "--every", options.every]
+        rotated = ports[number:] + ports[:number]  # each replica tries another member first
+        words = [HERE / "replica.py", store, log, *rotated, "--program", options.program, "--every", options.every]
         found.append(ReplicaProcess(name, [sys.executable, *map(str, words)], log, store=store))
     return found
 
@@ -119,25 +115,23 @@ def writers_in(folder: Path, ports: list[int], seed: int) -> list[Process]:
 
 
 class Chaos:
-    """Kills one or the other thing at a moment by chance, and starts it again."""
+    """Kills processes at random times, and starts them again."""
 
     def __init__(self, source: random.Random, members: cluster.Cluster, replicas: list[ReplicaProcess]) -> None:
         self.source, self.members, self.replicas = source, members, replicas
         self.done: dict[str, int] = {}
 
     def replica(self) -> None:
-        """Kills a replica. Its program ends by itself, since its input ends."""
+        # The program ends because its input ends.
         replica = self.source.choice(self.replicas)
         replica.kill()
         time.sleep(self.source.uniform(0, 1))
         replica.start()
 
     def program(self) -> None:
-        """Kills the program of a replica, which starts it again."""
         self.source.choice(self.replicas).send(signal.SIGUSR1)
 
     def both(self) -> None:
-        """Kills the program of a replica, and the replica."""
         replica = self.source.choice(self.replicas)
         replica.send(signal.SIGUSR1)
         time.sleep(self.source.uniform(0, 0.01))
@@ -146,7 +140,6 @@ class Chaos:
         replica.start()
 
     def leader(self) -> None:
-        """Kills the leader of the cluster, which comes back from its folder."""
         member = self.members.leader()
         if member:
             member.kill()
@@ -155,7 +148,7 @@ class Chaos:
             self.members.await_leader()
 
     def disk(self) -> None:
-        """Takes a replica and its disk away. A new one begins with a copy of another's file, once that has ended."""
+        """Replaces a replica by one that starts with a copy of another's file."""
         lost, other = self.source.sample(self.replicas, 2)
         lost.kill()
         lost.store.unlink()
@@ -165,7 +158,7 @@ class Chaos:
         lost.start()
 
     def newcomer(self) -> None:
-        """Takes a replica and its disk away. A new one begins with nothing, and plays all."""
+        """Replaces a replica by one that starts empty."""
         lost = self.source.choice(self.replicas)
         lost.kill()
         lost.store.unlink()
@@ -180,45 +173,45 @@ class Chaos:
             kill()
             self.done[kill.__name__] = self.done.get(kill.__name__, 0) + 1
             for replica in self.replicas:
-                replica.see_that_it_runs()
+                replica.check_running()
 
 
-def audit(events: list[Event], acknowledged: list[Line], rows: list[Row]) -> None:
-    """Sees that a store has what the batches of the log make of an ordered map, and that none is lost."""
+def check_contents(events: list[Event], acknowledged: list[Line], rows: list[Row]) -> None:
+    """Compares `rows` with a dict to which `events` are applied, and checks that no acknowledged batch is lost."""
     contents: dict[bytes, bytes] = {}
     for event in events:
         Batch.read(event.value).play(contents)
     contents[REVISION] = b"%d" % events[-1].revision
     if dict(rows) != contents or [key for key, _ in rows] != sorted(contents):
-        raise SystemExit("a store has other pairs than the batches of the log make")
+        raise SystemExit("a store differs from a dict to which the batches of the log were applied")
     revisions = {event.key: event.revision for event in events}
     for line in acknowledged:
         name = line["name"].encode()
         if revisions.get(PREFIX + name) != line["revision"] or MARK + name not in contents:
-            raise SystemExit(f"batch {name.decode()} was acknowledged, and is lost")
+            raise SystemExit(f"batch {name.decode()} was acknowledged and is lost, or has another revision")
 
 
-def see_equal(replicas: list[ReplicaProcess]) -> tuple[int, str]:
-    """Sees that what replicas have said at one revision is equal; at how many revisions, and the last of it."""
+def check_reports(replicas: list[ReplicaProcess]) -> tuple[int, str]:
+    """Checks that reports are equal, and returns how many revisions were compared and the last report."""
     seen: dict[int, set[tuple[str, str]]] = {}
     by: dict[int, set[str]] = {}
     for replica in replicas:
         for line in replica.lines("looked"):
             seen.setdefault(line["revision"], set()).add((line["store"], line["bytes"]))
             by.setdefault(line["revision"], set()).add(replica.name)
-    for revision, said in sorted(seen.items()):
-        if len(said) > 1:
-            raise SystemExit(f"at revision {revision} replicas differ: {sorted(said)}")
+    for revision, reports in sorted(seen.items()):
+        if len(reports) > 1:
+            raise SystemExit(f"at revision {revision} replicas differ: {sorted(reports)}")
     last = max(seen)
     ((report, digest),) = seen[last]
     if by[last] != {replica.name for replica in replicas}:
-        raise SystemExit(f"at revision {last} only {sorted(by[last])} have looked")
+        raise SystemExit(f"at revision {last} only {sorted(by[last])} reported their contents")
     shared = sum(len(names) > 1 for names in by.values())
     return shared, f"revision {last}: {report}, {digest[:16]}.."
 
 
-def see_files(replicas: list[ReplicaProcess], program: Path) -> list[Row]:
-    """Sees that the files have equal bytes, now that all have ended, and returns the pairs of one."""
+def check_files(replicas: list[ReplicaProcess], program: Path) -> list[Row]:
+    """Checks that the files of stopped replicas are equal, and returns their pairs."""
     digests = {hashlib.sha256(replica.store.read_bytes()).hexdigest() for replica in replicas}
     if len(digests) > 1:
         raise SystemExit(f"the files differ: {sorted(digests)}")
@@ -227,7 +220,7 @@ def see_files(replicas: list[ReplicaProcess], program: Path) -> list[Row]:
 
 
 def lags_of(replica: ReplicaProcess) -> list[float]:
-    """Returns how late it was with each revision, when it first came to flush that."""
+    """Returns the seconds until each revision was first flushed."""
     first: dict[str, float] = {}
     for line in replica.lines("flushed"):
         for revision, lag in line["lags"].items():
@@ -235,33 +228,33 @@ def lags_of(replica: ReplicaProcess) -> list[float]:
     return list(first.values())
 
 
-def of_times(times: list[float]) -> str:
+def summary(times: list[float]) -> str:
     times = sorted(times)
     median, most = 1_000 * statistics.median(times), 1_000 * times[len(times) * 95 // 100]
     return f"median {median:,.0f} ms, 95 of 100 within {most:,.0f} ms, longest {times[-1]:,.1f} s"
 
 
 def await_all(replicas: list[ReplicaProcess], has_come: Callable[[ReplicaProcess], bool]) -> None:
-    """Waits until each replica has come so far, while all of them run."""
+    """Waits until `has_come` is true of each replica."""
     end = time.monotonic() + PATIENCE
     while not all(map(has_come, replicas)):
         for replica in replicas:
-            replica.see_that_it_runs()
+            replica.check_running()
         if time.monotonic() > end:
-            raise SystemExit(f"replicas haven't come so far in {PATIENCE} s")
+            raise SystemExit(f"the replicas are not ready after {PATIENCE} s")
         time.sleep(0.1)
 
 
 def drain(members: cluster.Cluster, replicas: list[ReplicaProcess]) -> None:
-    """Puts a last batch, after which replicas flush and look, and waits for them."""
+    """Puts a last batch, and waits until all replicas have reported after it."""
     last = Batch("end", time.time(), [], flush=True)
     revision = Gateway(members.ports).put_once(last.key(), last.text())
-    await_all(replicas, lambda replica: replica.has_looked_at(revision))
+    await_all(replicas, lambda replica: replica.has_reported(revision))
 
 
 @contextlib.contextmanager
-def ended(processes: list[Process]) -> Iterator[None]:
-    """Ends these processes, whatever happens."""
+def started(processes: list[Process]) -> Iterator[None]:
+    """Starts `processes`, and kills them at the end of the `with` block."""
     try:
         for process in processes:
             process.start()
@@ -276,7 +269,7 @@ def play(folder: Path, options: argparse.Namespace) -> None:
     with cluster.running(folder, options.etcd) as members:
         replicas, writers = replicas_in(folder, members.ports, options), writers_in(folder, members.ports, options.seed)
         chaos = Chaos(source, members, replicas)
-        with ended([*replicas, *writers]):
+        with started([*replicas, *writers]):
             await_all(replicas, lambda replica: bool(replica.lines("started")))
             start = time.monotonic()
             if options.calm:
@@ -301,38 +294,37 @@ def report(
     seconds: float,
     options: argparse.Namespace,
 ) -> None:
-    """Compares all with all, and prints what was seen."""
     acknowledged = [line for writer in writers for line in lines_of(writer.log)]
-    shared, last = see_equal(replicas)
-    audit(events, acknowledged, see_files(replicas, options.program))
+    shared, last = check_reports(replicas)
+    check_contents(events, acknowledged, check_files(replicas, options.program))
     print(f"killed: {', '.join(f'{name} {count} times' for name, count in sorted(chaos.done.items())) or 'nothing'}")
     rate = len(acknowledged) / seconds
     print(f"batches: {len(acknowledged):,} acknowledged in {seconds:.0f} s, {rate:,.0f} a second; none is lost")
-    print(f"stores: equal at {shared} revisions at which more than one looked, and as the log says at the end")
+    print(f"stores: equal at {shared} revisions that more than one reported; at the end equal to a dict")
     print(f"  {last}")
     print(f"files: equal, {replicas[0].store.stat().st_size:,} bytes")
-    print(f"an acknowledgement: {of_times([line['took'] for line in acknowledged])}")
-    print(f"a replica's lag:    {of_times([lag for replica in replicas for lag in lags_of(replica)])}")
+    print(f"an acknowledgement: {summary([line['took'] for line in acknowledged])}")
+    print(f"a replica's lag:    {summary([lag for replica in replicas for lag in lags_of(replica)])}")
 
 
 def main() -> None:
     parser = argparse.ArgumentParser(description=__doc__)
     parser.add_argument("--program", type=Path, default=PROGRAM, help="the built program")
-    parser.add_argument("--etcd", default="etcd", help="the program of etcd, where it isn't in PATH")
+    parser.add_argument("--etcd", default="etcd", help="the etcd program: a path or a name in PATH")
     parser.add_argument("--seconds", type=float, default=60)
     parser.add_argument("--seed", type=int, default=1)
-    parser.add_argument("--every", type=int, default=128, help="revisions from a flush to the next")
-    parser.add_argument("--calm", action="store_true", help="kills nothing")
-    parser.add_argument("--folder", type=Path, help="where all files stand, in a new folder that is removed at the end")
+    parser.add_argument("--every", type=int, default=128, help="revisions between flushes")
+    parser.add_argument("--calm", action="store_true", help="kill nothing")
+    parser.add_argument("--folder", type=Path, help="where to create a folder for all files, deleted at the end")
     options = parser.parse_args()
     options.program = options.program.resolve()
     if shutil.which(options.etcd) is None:
-        sys.exit("etcd isn't installed: the package etcd-server of Debian has it; or name its program with --etcd")
+        sys.exit("etcd is not installed: install Debian's package etcd-server, or give a path with --etcd")
     if not options.program.exists():
         sys.exit(f"{options.program} is missing: `rt run` in crates/bwsh builds it")
     for number in (signal.SIGTERM, signal.SIGHUP):
-        signal.signal(number, lambda *_: sys.exit("a signal has ended it"))  # by way of all that is to be ended
-    signal.signal(signal.SIGUSR1, signal.SIG_IGN)  # which replicas inherit, so that none is killed before it heeds it
+        signal.signal(number, lambda *_: sys.exit("ended by a signal"))  # exits through every `finally`
+    signal.signal(signal.SIGUSR1, signal.SIG_IGN)  # inherited, so that it cannot kill a starting replica
     with tempfile.TemporaryDirectory(dir=options.folder, prefix="replicas-") as folder:
         play(Path(folder), options)
 

@@ -1,5 +1,5 @@
 #!/usr/bin/env python3
-"""Puts batches by chance into etcd, each once, and says which were acknowledged, until SIGTERM ends it."""
+"""Puts random batches into etcd, each once, and logs the acknowledged ones, until SIGTERM."""
 
 from __future__ import annotations
 
@@ -15,7 +15,7 @@ from batches import Batch, name_of
 from gateway import Gateway
 
 KEYS = 4_000
-WIDTH = 10  # keys that a wipe takes at the most
+WIDTH = 10  # most keys of a wipe
 
 
 def command(source: random.Random) -> list[str]:
@@ -30,7 +30,7 @@ def command(source: random.Random) -> list[str]:
 def main() -> None:
     parser = argparse.ArgumentParser(description=__doc__)
     parser.add_argument("name")
-    parser.add_argument("log", type=Path, help="where a line is written for each batch that was acknowledged")
+    parser.add_argument("log", type=Path, help="the file to which it appends a line for each acknowledged batch")
     parser.add_argument("ports", type=int, nargs="+")
     parser.add_argument("--seed", type=int, default=1)
     options = parser.parse_args()

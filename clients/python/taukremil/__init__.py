@@ -1,4 +1,4 @@
-"""Keeps an ordered map of byte strings in a file, through the program `bwsh` at the other end of two pipes.
+"""Provides `Store`, an ordered map from byte strings to byte strings in a file.
 
     from taukremil import Get, Put, Scan, Store
 
@@ -6,9 +6,8 @@
         store.batch([Put(b"a", b"1"), Get(b"a"), Scan(b"", None, 10)])  # [True, b"1", [(b"a", b"1")]]
         store.flush()
 
-Nothing lasts but what a flush has answered: what came after the last one is gone once the program has ended, whatever
-ended it. A batch is done whole or not at all. A program that refuses something ends, and so does one that is killed:
-both are exceptions, and the next call starts the program again from its file, with the store of the last flush.
+Only flushed batches are durable, and closing a store does not flush it. A batch is executed completely or not at all.
+The module runs the program `bwsh` and talks to it over pipes.
 """
 
 from __future__ import annotations
@@ -48,54 +47,52 @@ __all__ = [
 ]
 
 SETTINGS = ("fan", "chain", "max_key", "max_value", "seg_size", "segments", "workers", "grain")
-MOST_ROWS = 4_294_967_295  # that a scan may ask for
-NO_MEMORY, DEVICE = 6, 9  # faults that may come of a flush which is done
-PIECE = 1 << 18  # bytes of the answers that are read at a time
-PATIENCE = 60  # seconds that a program gets to end by itself
+MOST_ROWS = 4_294_967_295  # the largest limit of a scan
+NO_MEMORY, DEVICE = 6, 9  # faults after which a flush may be durable
+READ_SIZE = 1 << 18  # bytes
+PATIENCE = 60  # seconds until a program that does not end is killed
 
 Row = tuple[bytes, bytes]
-Reply = Union[bytes, None, int, list[Row]]  # a bool is an int
+Reply = Union[bytes, None, int, list[Row]]  # bool is a subclass of int
 T = TypeVar("T")
 T_co = TypeVar("T_co", covariant=True)
-NextLine = Callable[[], bytes]  # gives the next line of the answers, without its line feed
+NextLine = Callable[[], bytes]  # returns a line of the answer without its line feed
 
 
-UNDER_WAY = ", unless a flush was under way"
+IF_NOT_FLUSHING = ", unless a flush was in progress"
 
 
 class StoreError(Exception):
-    """The program has ended. The next call starts it again from its file.
+    """Reports that the program has ended, or that the store is closed.
 
-    `unflushed` says how many batches that write were answered by calls that returned, since the last flush. They are
-    gone, and so is all of the call that has raised, unless a flush was under way.
+    `unflushed` is how many batches with writes earlier calls executed since the last flush. Those batches and all
+    batches of the call that raised are lost. If that call was `flush` or `upgrade`, they may be durable instead.
     """
 
     unless = ""
 
     def __init__(self, text: str, unflushed: int = 0) -> None:
-        lost = f"; batches since the last flush that are gone{self.unless}: {unflushed}" if unflushed else ""
+        lost = f"; batches lost since the last flush{self.unless}: {unflushed}" if unflushed else ""
         super().__init__(f"{text}{lost}")
         self.unflushed = unflushed
         self._text = text
 
     def __reduce__(self) -> tuple[type[StoreError], tuple[object, ...]]:
-        """Returns what another process makes the same exception of."""
         return type(self), (self._text, self.unflushed)
 
 
 class Refused(StoreError):
-    """The program has answered with a fault: it refused a batch, a flush or a clean, say, or couldn't open its file.
+    """Reports that the program refused a request, or could not open the file, and has ended.
 
-    `number` is that of the fault, `fault` its line, as docs/RULES.md lists them, and `why` says where it came from and
-    what to do. What was refused did nothing, but for a flush that failed on its device (9), or for whose answer there
-    was no memory (6): that one may be done.
+    `number` is the fault's number in docs/RULES.md, `fault` the program's line, and `why` the cause and what to do.
+    The request had no effect, except that after faults 6 (out of memory) and 9 (device) a flush may be durable.
     """
 
     def __init__(self, fault: str, why: str, unflushed: int = 0) -> None:
         self.fault = fault
         self.number = int(fault.split()[1])
         self.why = why
-        self.unless = UNDER_WAY if self.number in (NO_MEMORY, DEVICE) else ""
+        self.unless = IF_NOT_FLUSHING if self.number in (NO_MEMORY, DEVICE) else ""
         super().__init__(f"{fault}: {why}" if why else fault, unflushed)
 
     def __reduce__(self) -> tuple[type[StoreError], tuple[object, ...]]:
@@ -103,12 +100,12 @@ class Refused(StoreError):
 
 
 class Killed(StoreError):
-    """A signal has ended the program. What was flushed is safe.
+    """Reports that the signal with the number `signal` ended the program.
 
-    What was under way is not done; but a flush, a clean or an upgrade may be, and then what it flushed isn't gone.
+    A flush, clean or upgrade that was in progress may be durable; any other request had no effect.
     """
 
-    unless = UNDER_WAY
+    unless = IF_NOT_FLUSHING
 
     def __init__(self, number: int, unflushed: int = 0) -> None:
         name = signal.Signals(number).name if number in set(signal.Signals) else f"signal {number}"
@@ -120,77 +117,69 @@ class Killed(StoreError):
 
 
 class _Ended(Exception):
-    """The answers have ended where more were due."""
+    """Signals that the output ended too early."""
 
 
 class _Unexpected(Exception):
-    """An answer is none to what was asked."""
-
     def __init__(self, line: bytes) -> None:
-        super().__init__(f"the program answers {line[:100]!r}, which is no answer to what it was asked")
+        super().__init__(f"unexpected answer from the program: {line[:100]!r}")
 
 
-PLAIN = bytes(range(0x21, 0x7F)).replace(b"%", b"")  # bytes that stand for themselves
+PLAIN = bytes(range(0x21, 0x7F)).replace(b"%", b"")
 
 
-def _token(data: bytes) -> bytes:
-    """Writes a byte string as a word of a batch file: as it is, or else each byte as %XX; the empty one as %."""
+def _encode(data: bytes) -> bytes:
+    """Encodes `data` unchanged if all bytes are plain, else with each byte as %XX."""
     if not isinstance(data, (bytes, bytearray)):
-        raise TypeError(f"keys and values are bytes, and not {type(data).__name__}")
+        raise TypeError(f"keys and values must be bytes, not {type(data).__name__}")
     is_plain = data and not data.translate(None, PLAIN)
     return data if is_plain else b"%" + data.hex("%").encode()
 
 
-def _bound(data: bytes | None) -> bytes:
-    """Writes an upper bound as a word of a batch file. The star stands for none."""
+def _encode_bound(data: bytes | None) -> bytes:
     if data is None:
         return b"*"
-    return b"%2A" if data == b"*" else _token(data)
+    return b"%2A" if data == b"*" else _encode(data)
 
 
-def _whole(number: int) -> int:
-    """Returns a whole number as it is."""
+def _integer(number: int) -> int:
     try:
         return operator.index(number)
     except TypeError:
-        raise TypeError(f"a limit is a whole number, and not {type(number).__name__}") from None
+        raise TypeError(f"a limit must be an integer, not {type(number).__name__}") from None
 
 
-def _untoken(token: bytes) -> bytes:
-    """Reads the byte string that a word of the answers stands for."""
+def _decode(token: bytes) -> bytes:
     if b"%" not in token:
         return token
     if token == b"%":
         return b""
-    # A percent sign begins an escape and nothing else, as it is itself written %25: so this is read at the speed of C.
+    # Every percent sign begins an escape, so the library's fast codec can decode them.
     return token.replace(b"\\", rb"\\").replace(b"%", rb"\x").decode("unicode_escape").encode("latin-1")
 
 
-def _choice(line: bytes, yes: bytes, no: bytes) -> bool:
-    """Reads an answer that is one of two words."""
+def _parse_choice(line: bytes, yes: bytes, no: bytes) -> bool:
     if line not in (yes, no):
         raise _Unexpected(line)
     return line == yes
 
 
-def _numbers(line: bytes, word: bytes, count: int = 1) -> list[int]:
-    """Reads an answer that is a word and `count` numbers."""
+def _parse_numbers(line: bytes, word: bytes, count: int = 1) -> list[int]:
     first, *numbers = line.split(b" ")
     if first != word or len(numbers) != count or not all(number.isdigit() for number in numbers):
         raise _Unexpected(line)
     return [int(number) for number in numbers]
 
 
-def _row(line: bytes) -> Row:
-    """Reads a row of a scan."""
+def _parse_row(line: bytes) -> Row:
     key, space, value = line.partition(b" ")
     if not (key and space and value):
         raise _Unexpected(line)
-    return _untoken(key), _untoken(value)
+    return _decode(key), _decode(value)
 
 
 class Command(Protocol[T_co]):
-    """A command of a batch: its line of a batch file, and the value that its reply is."""
+    """Describes a command: `text` returns its line of a batch file, and `reply` parses its answer."""
 
     def text(self) -> bytes:
         ...
@@ -201,45 +190,45 @@ class Command(Protocol[T_co]):
 
 @dataclass(frozen=True, slots=True)
 class Put:
-    """Stores a value under a key. The reply is whether the key is new."""
+    """Stores `value` under `key`. The reply is whether the key is new."""
 
     key: bytes
     value: bytes
 
     def text(self) -> bytes:
-        return b"put %b %b\n" % (_token(self.key), _token(self.value))
+        return b"put %b %b\n" % (_encode(self.key), _encode(self.value))
 
     def reply(self, line: NextLine) -> bool:
-        return _choice(line(), b"new", b"replaced")
+        return _parse_choice(line(), b"new", b"replaced")
 
 
 @dataclass(frozen=True, slots=True)
 class Add:
-    """Stores a value under a key where nothing stands. The reply is whether it was stored."""
+    """Stores `value` under `key` if the key is absent. The reply is whether it was stored."""
 
     key: bytes
     value: bytes
 
     def text(self) -> bytes:
-        return b"add %b %b\n" % (_token(self.key), _token(self.value))
+        return b"add %b %b\n" % (_encode(self.key), _encode(self.value))
 
     def reply(self, line: NextLine) -> bool:
-        return _choice(line(), b"added", b"exists")
+        return _parse_choice(line(), b"added", b"exists")
 
 
 @dataclass(frozen=True, slots=True)
 class Get:
-    """Looks a key up. The reply is its value, or None where there is none."""
+    """Reads `key`. The reply is its value, or None if the key is absent."""
 
     key: bytes
 
     def text(self) -> bytes:
-        return b"get %b\n" % _token(self.key)
+        return b"get %b\n" % _encode(self.key)
 
     def reply(self, line: NextLine) -> bytes | None:
         answer = line()
         if answer.startswith(b"value "):
-            return _untoken(answer[6:])
+            return _decode(answer[6:])
         if answer == b"missing":
             return None
         raise _Unexpected(answer)
@@ -247,62 +236,61 @@ class Get:
 
 @dataclass(frozen=True, slots=True)
 class Del:
-    """Deletes a key and its value. The reply is whether it was there."""
+    """Deletes `key`. The reply is whether the key was present."""
 
     key: bytes
 
     def text(self) -> bytes:
-        return b"del %b\n" % _token(self.key)
+        return b"del %b\n" % _encode(self.key)
 
     def reply(self, line: NextLine) -> bool:
-        return _choice(line(), b"deleted", b"missing")
+        return _parse_choice(line(), b"deleted", b"missing")
 
 
 @dataclass(frozen=True, slots=True)
 class Scan:
-    """Reads the first pairs from `lo` on, below `hi` where that isn't None. The reply is their list, in key order."""
+    """Reads the first `limit` pairs with lo <= key < hi (None: no bound). The reply is their list in key order."""
 
     lo: bytes = b""
     hi: bytes | None = None
     limit: int = MOST_ROWS
 
     def text(self) -> bytes:
-        limit = _whole(self.limit)
+        limit = _integer(self.limit)
         if not 0 <= limit <= MOST_ROWS:
-            raise ValueError(f"a scan gives 0 to {MOST_ROWS} rows, and not {limit}")
-        return b"scan %b %b %d\n" % (_token(self.lo), _bound(self.hi), limit)
+            raise ValueError(f"a limit must be 0 to {MOST_ROWS}, not {limit}")
+        return b"scan %b %b %d\n" % (_encode(self.lo), _encode_bound(self.hi), limit)
 
     def reply(self, line: NextLine) -> list[Row]:
-        (count,) = _numbers(line(), b"rows")
-        return [_row(line()) for _ in range(count)]
+        (count,) = _parse_numbers(line(), b"rows")
+        return [_parse_row(line()) for _ in range(count)]
 
 
 @dataclass(frozen=True, slots=True)
 class Wipe:
-    """Deletes all keys from `lo` on, below `hi` where that isn't None. The reply is how many there were."""
+    """Deletes all keys with lo <= key < hi (None: no bound). The reply is how many keys were deleted."""
 
     lo: bytes = b""
     hi: bytes | None = None
 
     def text(self) -> bytes:
-        return b"wipe %b %b\n" % (_token(self.lo), _bound(self.hi))
+        return b"wipe %b %b\n" % (_encode(self.lo), _encode_bound(self.hi))
 
     def reply(self, line: NextLine) -> int:
-        (count,) = _numbers(line(), b"wiped")
+        (count,) = _parse_numbers(line(), b"wiped")
         return count
 
 
-NOTHING = Scan(limit=0)  # a look that is answered at once by a program that has opened its file
+EMPTY_SCAN = Scan(limit=0)  # its answer shows that the program has opened its file
 
 
-def _writes(command: object) -> bool:
-    """Returns whether a command may change the store."""
+def _may_write(command: object) -> bool:
     return not isinstance(command, (Get, Scan))
 
 
 @dataclass(frozen=True, slots=True)
 class Report:
-    """What a verify has found sound: how many pages, levels and pairs."""
+    """Gives the size of a verified store in pages, levels (`height`) and pairs."""
 
     pages: int
     height: int
@@ -311,10 +299,11 @@ class Report:
 
 @dataclass(frozen=True, slots=True)
 class Stat:
-    """The numbers of a store's log.
+    """Describes the log of a store.
 
-    The sequence number of the last flush, clean or upgrade; the first segment, and the position where the log ends; how
-    many segments are in use, and how many there may be. A flush leaves one free.
+    `sequence` is the sequence number of the last flush, clean or upgrade. `head` is the number of the first segment,
+    and `tail` the position in bytes where the log ends. `in_use` of the `segments` segments are in use; a flush leaves
+    one free.
     """
 
     sequence: int
@@ -324,15 +313,15 @@ class Stat:
     segments: int
 
 
-SLOTS_END = 256  # bytes in front of the segments that say where the log is
-SLOT = struct.Struct(">B7xQQQ")  # the gate, the sequence number, the head, the tail
+HEADER_SIZE = 256  # bytes
+SLOT = struct.Struct(">B7xQQQ")  # gate, sequence number, head, tail
 SLOTS_AT = (128, 192)
 SIZES = struct.Struct(">II")  # seg_size and segments
 SIZES_AT = 16
 
 
-def _stat(front: bytes) -> Stat:
-    """Reads the numbers from the front of a file, as docs/FORMAT.md has it."""
+def _parse_stat(front: bytes) -> Stat:
+    # docs/FORMAT.md defines the header.
     seg_size, segments = SIZES.unpack_from(front, SIZES_AT)
     slots = [SLOT.unpack_from(front, at) for at in SLOTS_AT]
     sequence, head, tail = max(numbers for gate, *numbers in slots if gate == 1)
@@ -340,19 +329,17 @@ def _stat(front: bytes) -> Stat:
 
 
 class _Program:
-    """A program that runs, and the pipes to it and from it."""
-
     def __init__(self, command: list[str]) -> None:
-        # What it says goes to a file, so that it never waits for somebody to read that. A session of its own keeps a
-        # terminal's interrupt, which is meant for the caller, away from it.
-        self._said = tempfile.TemporaryFile()
+        # A full pipe for standard error would block the program. In a session of its own, the program does not get a
+        # terminal's interrupt.
+        self._stderr = tempfile.TemporaryFile()
         pipe = subprocess.PIPE
         try:
             self.process = subprocess.Popen(
-                command, bufsize=0, stdin=pipe, stdout=pipe, stderr=self._said, start_new_session=True
+                command, bufsize=0, stdin=pipe, stdout=pipe, stderr=self._stderr, start_new_session=True
             )
         except BaseException:
-            self._said.close()
+            self._stderr.close()
             raise
         assert self.process.stdin and self.process.stdout
         self._pipes = (self.process.stdin, self.process.stdout)
@@ -360,10 +347,9 @@ class _Program:
         os.set_blocking(self._input, False)
         self._unsent = memoryview(b"")
         self._lines: deque[bytes] = deque()
-        self._begun = b""  # a line whose end wasn't read yet
+        self._partial_line = b""
 
     def send(self, text: bytes) -> None:
-        """Begins to send a text. What the pipe doesn't take goes out while answers are awaited."""
         self._unsent = memoryview(text)
         self._write()
 
@@ -372,11 +358,11 @@ class _Program:
             self._unsent = self._unsent[os.write(self._input, self._unsent) :]
         except BlockingIOError:
             pass
-        except BrokenPipeError:  # the program ends: what it has answered before that is still to be read
+        except BrokenPipeError:  # the program has ended, but its answers can still be read
             self._unsent = memoryview(b"")
 
     def _await_answers(self) -> None:
-        """Waits until there is something to read, and sends meanwhile what is unsent."""
+        """Sends the rest of the request until an answer can be read."""
         with selectors.DefaultSelector() as selector:
             selector.register(self._output, selectors.EVENT_READ)
             selector.register(self._input, selectors.EVENT_WRITE)
@@ -388,24 +374,22 @@ class _Program:
                     return
 
     def line(self) -> bytes:
-        """Returns the next line of the answers."""
         while not self._lines:
             if self._unsent:
                 self._await_answers()
-            piece = os.read(self._output, PIECE)
+            piece = os.read(self._output, READ_SIZE)
             if not piece:
                 raise _Ended
-            *lines, self._begun = (self._begun + piece).split(b"\n")
+            *lines, self._partial_line = (self._partial_line + piece).split(b"\n")
             self._lines.extend(lines)
         return self._lines.popleft()
 
-    def settle(self) -> None:
-        """Sees that no answer is left."""
-        if self._lines or self._begun:
-            raise _Unexpected(self._lines[0] if self._lines else self._begun)
+    def check_nothing_left(self) -> None:
+        if self._lines or self._partial_line:
+            raise _Unexpected(self._lines[0] if self._lines else self._partial_line)
 
     def end(self) -> tuple[int, list[str]]:
-        """Closes the pipes, by which the program ends. Returns its status, negative for a signal, and what it said."""
+        """Closes the pipes and returns the program's status, negative for a signal, and its messages."""
         for pipe in self._pipes:
             pipe.close()
         try:
@@ -413,40 +397,39 @@ class _Program:
         except subprocess.TimeoutExpired:
             self.process.kill()
         status = self.process.wait()
-        with self._said as said:
+        with self._stderr as said:
             said.seek(0)
             return status, said.read().decode(errors="replace").splitlines()
 
     def kill(self) -> None:
-        """Ends the program at once."""
         self.process.kill()
         self.end()
 
-    def leave(self) -> None:
-        """Closes the pipes, and leaves the program to the process that has started it."""
-        self.process.returncode = 0  # since this process is a fork of that one, and has nothing to wait for
-        for pipe in (*self._pipes, self._said):
+    def abandon(self) -> None:
+        self.process.returncode = 0  # a forked child cannot wait for the program
+        for pipe in (*self._pipes, self._stderr):
             pipe.close()
 
 
 def _error(status: int, said: list[str], unflushed: int) -> StoreError:
-    """Returns what is to be raised for a program that has ended so. Its status is 0 too where somebody else took it."""
+    """Returns the exception to raise. Python reports status 0 if SIGCHLD is ignored."""
     if status < 0:
         return Killed(-status, unflushed)
     if status in (0, 4) and said and said[0].startswith("fault "):
         return Refused(said[0], " ".join(said[1:]), unflushed)
-    lost = ", or with one that is lost, as where SIGCHLD is ignored" if status == 0 else ""
+    lost = ", or its status is unknown because SIGCHLD is ignored" if status == 0 else ""
     return StoreError("\n".join([f"the program has ended with status {status}{lost}", *said]), unflushed)
 
 
 class Store:
-    """An ordered map of byte strings in a file, which the program holds for itself while it runs.
+    """Represents an ordered map in a file, which the program locks while it runs.
 
-    Calls may come from several threads: they are done one after the other. Any call may raise `Refused`, `Killed`, or
-    `StoreError` where the program has ended otherwise; then the next call starts it again from its file. An exception
-    that comes in the midst of a call, as KeyboardInterrupt does, ends the program too. A call in the midst of another
-    one of the same thread, as a signal's handler makes it, is refused with RuntimeError. In a fork of the process the
-    store is closed, and stays open in the process itself.
+    If the program ends, the call raises `Refused`, `Killed` or `StoreError`. The batches since the last flush are then
+    lost, and the next call starts the program again. An exception that interrupts a call, such as KeyboardInterrupt,
+    has the same effect. A wrong argument raises TypeError or ValueError, and nothing is sent.
+
+    Threads may share a store; one call runs at a time. A signal handler that interrupts a call and uses the same store
+    gets a RuntimeError. After a fork the store is closed in the child process.
     """
 
     def __init__(
@@ -457,15 +440,15 @@ class Store:
         program: str | os.PathLike[str] = "bwsh",
         **settings: int,
     ) -> None:
-        """Starts the program on the store that the file holds; with `create` on a new one: what stood there is lost.
+        """Starts `program`, a path or a name in PATH, on the store in the file `path`.
 
-        The settings are those of the program: `fan`, `chain`, `max_key`, `max_value`, `seg_size` and `segments`, which
-        a file keeps from its making on, so that they are for a new one alone; and `workers` and `grain`. `program` is a
-        path, or a name that is looked for in PATH.
+        If `create` is true, creates a new store and overwrites the file. The settings are options of the program:
+        `fan`, `chain`, `max_key` (bytes), `max_value` (bytes), `seg_size` (bytes) and `segments` for a new store, and
+        `workers` and `grain` for any store. Raises OSError if the program cannot be started.
         """
         unknown = settings.keys() - set(SETTINGS)
         if unknown:
-            raise TypeError(f"{min(unknown)} is none of the settings: {', '.join(SETTINGS)}")
+            raise TypeError(f"unknown setting {min(unknown)}; the settings are {', '.join(SETTINGS)}")
         self.path = Path(path).absolute()
         self._command = [os.fspath(program), "--stream", "--clean-when-full", "--explain", f"--disk={self.path}"]
         self._command += [f"--{name.replace('_', '-')}={number}" for name, number in settings.items()]
@@ -475,7 +458,7 @@ class Store:
         self._is_closed = False
         self._is_busy = False
         _stores.add(self)
-        self._alone(lambda: self._start(["--create"] if create else []))
+        self._run_alone(lambda: self._start(["--create"] if create else []))
 
     def __enter__(self) -> Store:
         return self
@@ -487,178 +470,170 @@ class Store:
 
     @property
     def pid(self) -> int | None:
-        """The id of the program's process, where it runs."""
-        program = self._program  # which a call of another thread may take away
+        """Returns the program's process id, or None if the program does not run."""
+        program = self._program  # another thread may clear the attribute
         return program.process.pid if program else None
 
     @property
     def unflushed(self) -> int:
-        """How many batches that write were answered since the last flush: they are gone if the program ends now."""
+        """Returns how many batches with writes were executed since the last flush."""
         return self._unflushed
 
     def batch(self, commands: Iterable[Command[Reply]]) -> list[Reply]:
-        """Runs up to 65,535 commands as one batch, whole or not at all, and returns the reply to each."""
+        """Executes up to 65,535 `commands` as one batch, completely or not at all, and returns their replies."""
         return self.batches([commands])[0]
 
     def batches(self, batches: Iterable[Iterable[Command[Reply]]]) -> list[list[Reply]]:
-        """Runs batches one after the other, and returns the replies to each.
+        """Executes `batches` in order, and returns a list of replies for each.
 
-        All are sent at once, so that the program doesn't wait for each until the replies to the one before are read.
+        All are sent at once, which saves waiting for each reply; they remain separate batches.
         """
         listed = [list(batch) for batch in batches]
         if not any(listed):
             return [[] for _ in listed]
         text = b"".join([b"".join([*(command.text() for command in batch), b"go\n"]) for batch in listed])
-        writing = sum(any(map(_writes, batch)) for batch in listed)
-        return self._ask(text, lambda line: [[command.reply(line) for command in batch] for batch in listed], writing)
+        writing = sum(any(map(_may_write, batch)) for batch in listed)
+        return self._query(text, lambda line: [[command.reply(line) for command in batch] for batch in listed], writing)
 
     def get(self, key: bytes) -> bytes | None:
-        """Returns the value of a key, or None."""
-        return self._one(Get(key))
+        """Returns the value of `key`, or None if the key is absent."""
+        return self._run_one(Get(key))
 
     def put(self, key: bytes, value: bytes) -> bool:
-        """Stores a value under a key, and returns whether the key is new."""
-        return self._one(Put(key, value))
+        """Stores `value` under `key`, and returns whether the key is new."""
+        return self._run_one(Put(key, value))
 
     def add(self, key: bytes, value: bytes) -> bool:
-        """Stores a value under a key where nothing stands, and returns whether it was stored."""
-        return self._one(Add(key, value))
+        """Stores `value` under `key` if the key is absent, and returns whether it was stored."""
+        return self._run_one(Add(key, value))
 
     def delete(self, key: bytes) -> bool:
-        """Deletes a key, and returns whether it was there."""
-        return self._one(Del(key))
+        """Deletes `key`, and returns whether the key was present."""
+        return self._run_one(Del(key))
 
     def scan(self, lo: bytes = b"", hi: bytes | None = None, limit: int = MOST_ROWS) -> list[Row]:
-        """Returns the first pairs from `lo` on, below `hi` where that isn't None, in key order."""
-        return self._one(Scan(lo, hi, limit))
+        """Returns the first `limit` pairs with lo <= key < hi (None: no bound), in key order."""
+        return self._run_one(Scan(lo, hi, limit))
 
     def wipe(self, lo: bytes = b"", hi: bytes | None = None) -> int:
-        """Deletes all keys from `lo` on, below `hi` where that isn't None, and returns how many there were."""
-        return self._one(Wipe(lo, hi))
+        """Deletes all keys with lo <= key < hi (None: no bound), and returns how many."""
+        return self._run_one(Wipe(lo, hi))
 
     def flush(self) -> int:
-        """Makes all batches so far last, and returns the sequence number. A log that is full is cleaned first."""
+        """Makes all batches so far durable, and returns the commit's sequence number. Cleans the log if it is full."""
 
         def sequence(line: NextLine) -> int:
             answer = line()
             while answer.startswith(b"cleaned "):
                 answer = line()
-            return self._lasts(answer, b"flushed")
+            return self._record_commit(answer, b"flushed")
 
-        return self._ask(b"flush\n", sequence)
+        return self._query(b"flush\n", sequence)
 
     def clean(self) -> int:
-        """Frees the first segment of the log, and returns the number of the one that is first then. It is no flush."""
-        return self._ask(b"clean\n", lambda line: _numbers(line(), b"cleaned")[0])
+        """Frees the first segment of the log, and returns the number of the new first segment. Does not flush."""
+        return self._query(b"clean\n", lambda line: _parse_numbers(line(), b"cleaned")[0])
 
     def upgrade(self) -> int:
-        """Brings the log to version 2, once and for all, which is a flush too, and returns the sequence number."""
-        return self._ask(b"upgrade\n", lambda line: self._lasts(line(), b"upgraded"))
+        """Flushes, upgrades the log to version 2 irreversibly, and returns the commit's sequence number."""
+        return self._query(b"upgrade\n", lambda line: self._record_commit(line(), b"upgraded"))
 
     def verify(self) -> Report:
-        """Checks the whole tree, and returns how large it is."""
-        return self._ask(b"verify\n", lambda line: Report(*_numbers(line(), b"ok", 3)))
+        """Checks the whole tree, and returns its size."""
+        return self._query(b"verify\n", lambda line: Report(*_parse_numbers(line(), b"ok", 3)))
 
     def stat(self) -> Stat:
-        """Returns the numbers of the log, from the front of the file."""
-        return _stat(self._alone(self._front))  # while no flush is under way
+        """Returns the state of the log, which it reads from the file's header."""
+        return _parse_stat(self._run_alone(self._read_header))  # not during a flush
 
     def reopen(self) -> None:
-        """Ends the program, where it runs, and starts it again from its file: what was not flushed is gone."""
-        self._alone(self._restart)
+        """Ends the program without a flush, and starts it again with the last flushed store."""
+        self._run_alone(self._restart)
 
     def close(self) -> None:
-        """Ends the program. What was not flushed is gone."""
-        self._alone(self._end)
+        """Ends the program without a flush. Later requests raise `StoreError` until `reopen`."""
+        self._run_alone(self._end)
 
-    def _alone(self, call: Callable[[], T]) -> T:
-        """Makes a call, alone. One in the midst of it, by the handler of a signal, say, would take its answers."""
+    def _run_alone(self, call: Callable[[], T]) -> T:
+        """Runs `call` alone. A nested call, from a signal handler, would read its answers."""
         with self._lock:
             if self._is_busy:
-                raise RuntimeError("a call of this store is under way in this thread")
+                raise RuntimeError("another call of this store is in progress in this thread")
             try:
                 self._is_busy = True
                 return call()
             finally:
                 self._is_busy = False
 
-    def _front(self) -> bytes:
-        """Reads the front of the file."""
+    def _read_header(self) -> bytes:
         with open(self.path, "rb") as file:
-            return file.read(SLOTS_END)
+            return file.read(HEADER_SIZE)
 
     def _end(self) -> None:
-        """Ends the program, where it runs."""
         self._is_closed = True
         program = self._program
-        self._forget()
+        self._drop_program()
         if program:
             program.end()
 
     def _restart(self) -> None:
-        """Ends the program, where it runs, and starts it again."""
         self._end()
         self._is_closed = False
         self._start()
 
-    def _leave(self) -> None:
-        """Closes the store in a fork, in which another thread's lock would be held for ever."""
+    def _abandon(self) -> None:
+        """Closes the store in a forked child, in which no thread would release the lock."""
         self._lock = threading.RLock()
         self._is_closed = True
         self._is_busy = False
         program = self._program
-        self._forget()
+        self._drop_program()
         if program:
-            program.leave()
+            program.abandon()
 
     def _start(self, more: list[str] | None = None) -> _Program:
-        """Starts the program, and waits until it has opened its file."""
         program = self._program = _Program(self._command + (more or []))
-        self._ask_program(program, NOTHING.text() + b"go\n", NOTHING.reply, 0)
+        self._query_program(program, EMPTY_SCAN.text() + b"go\n", EMPTY_SCAN.reply, 0)
         return program
 
-    def _running(self) -> _Program:
-        """Returns the program, which is started where it doesn't run."""
+    def _running_program(self) -> _Program:
         if self._is_closed:
             raise StoreError("the store is closed")
         return self._program or self._start()
 
-    def _one(self, command: Command[T]) -> T:
-        """Runs a command as a batch of its own."""
-        return self._ask(command.text() + b"go\n", command.reply, _writes(command))
+    def _run_one(self, command: Command[T]) -> T:
+        return self._query(command.text() + b"go\n", command.reply, _may_write(command))
 
-    def _lasts(self, answer: bytes, word: bytes) -> int:
-        """Reads the sequence number with which all batches so far were made to last."""
-        (sequence,) = _numbers(answer, word)
+    def _record_commit(self, answer: bytes, word: bytes) -> int:
+        (sequence,) = _parse_numbers(answer, word)
         self._unflushed = 0
         return sequence
 
-    def _forget(self) -> int:
-        """Forgets the program, with what is only in its memory; returns how many batches that are."""
+    def _drop_program(self) -> int:
+        """Returns how many unflushed batches are lost."""
         unflushed, self._unflushed, self._program = self._unflushed, 0, None
         return unflushed
 
-    def _ask(self, text: bytes, read: Callable[[NextLine], T], writing: int = 0) -> T:
-        """Sends a text with `writing` batches that write to the program, and returns what is read from its answers."""
-        return self._alone(lambda: self._ask_program(self._running(), text, read, writing))
+    def _query(self, text: bytes, read: Callable[[NextLine], T], writing: int = 0) -> T:
+        """Sends `text`, in which `writing` batches write, and parses the answer with `read`."""
+        return self._run_alone(lambda: self._query_program(self._running_program(), text, read, writing))
 
-    def _ask_program(self, program: _Program, text: bytes, read: Callable[[NextLine], T], writing: int) -> T:
-        """Sends a text to a program, and reads all of its answers: none is left for a later call."""
+    def _query_program(self, program: _Program, text: bytes, read: Callable[[NextLine], T], writing: int) -> T:
         try:
             program.send(text)
             found = read(program.line)
-            program.settle()
+            program.check_nothing_left()
             self._unflushed += writing
             return found
         except _Ended:
-            unflushed = self._forget()
+            unflushed = self._drop_program()
             raise _error(*program.end(), unflushed) from None
         except _Unexpected as error:
-            unflushed = self._forget()
+            unflushed = self._drop_program()
             program.kill()
             raise StoreError(str(error), unflushed) from None
         except BaseException:
-            self._forget()
+            self._drop_program()
             program.kill()
             raise
 
@@ -666,10 +641,10 @@ class Store:
 _stores: weakref.WeakSet[Store] = weakref.WeakSet()
 
 
-def _leave_all() -> None:
-    """Closes all stores in a fork. Else their programs wouldn't end with the process, and two would speak with one."""
+def _abandon_all() -> None:
+    """Closes all stores in a forked child, so that two processes do not use one program."""
     for store in list(_stores):
-        store._leave()
+        store._abandon()
 
 
-os.register_at_fork(after_in_child=_leave_all)
+os.register_at_fork(after_in_child=_abandon_all)
