@@ -1,5 +1,6 @@
 #!/usr/bin/env python3
-"""Kills the program with a store in a file, in and between its flushes, and compares what is recovered with what was answered; README.md says how."""
+"""Kills sessions of the program on a store in a file, during and between flushes, and compares the recovered pairs with the answers. README.md
+describes the test."""
 
 import argparse
 import shutil

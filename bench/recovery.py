@@ -1,5 +1,5 @@
 #!/usr/bin/env python3
-"""Measures how long the program takes to recover the store from its file, and to write it; README.md says what is measured, and how."""
+"""Measures how long the program takes to write a store to its file and to recover it. README.md describes the measurement."""
 
 import argparse
 import sys
@@ -23,7 +23,7 @@ Times = dict[str, Seconds]  # by program
 
 
 def recovered_stores(work: Workload) -> list[StoreText]:
-    """Returns the stores whose recovery is measured beside a load in key order."""
+    """Returns the stores whose recovery is compared with a load in key order."""
     load, half = Puts(work.keys, AT_END), work.shuffled[: len(work.keys) // 2]
     return [
         StoreText("flushed at once", [load]),
@@ -33,14 +33,14 @@ def recovered_stores(work: Workload) -> list[StoreText]:
 
 
 def written_stores(work: Workload) -> list[StoreText]:
-    """Returns the stores that are measured beside the peer's."""
+    """Returns the stores that are compared with the peer's."""
     orders = [work.keys, *(work.random.sample(work.keys, len(work.keys)) for _ in range(3))]
     four_times = [key for keys in orders for key in keys]
     return [StoreText("each key put once", [Puts(work.keys, 10)]), StoreText("each key put four times", [Puts(four_times, 10)])]
 
 
 def read_alone(path: Path) -> Seconds:
-    """Times a plain read of the written part of the file."""
+    """Times a plain read of the file's written part."""
     buffer, rest = bytearray(1 << 20), written_bytes(path)
     start = time.process_time(), time.monotonic()
     with open(path, "rb", buffering=0) as file:
@@ -51,7 +51,7 @@ def read_alone(path: Path) -> Seconds:
 
 @dataclass
 class Recovery:
-    """The recovery of a store: the bytes of its file, the times to read the file and to recover the store, and bytes of memory."""
+    """The recovery of a store: file size in bytes, seconds to read the file and to recover the store, and memory in bytes."""
 
     length: int
     read: Seconds
@@ -61,7 +61,7 @@ class Recovery:
 
 
 def measure_load(program: StoreProgram, work: Workload, repeats: int, text: Path) -> tuple[float, int]:
-    """Returns what the load in key order takes in memory, as `run.py` measures it: processor seconds, and bytes."""
+    """Returns the processor seconds and bytes of a load in key order in memory, as `run.py` measures them."""
     phase = Phase("load in key order", len(work.keys), LONG, lambda: work.puts(sorted(work.keys)))
     write_phases(text, [phase])
     runs = [run_phases([*program.command, *program.settings], text, [phase]) for _ in range(repeats)]
@@ -77,7 +77,7 @@ def measure_recovery(program: StoreProgram, store: StoreText, work: Workload, re
 
 
 def measure_writing(programs: Programs, store: StoreText, work: Workload, repeats: int, text: Path) -> tuple[Times, Times]:
-    """Returns what each program takes to write the store, and to recover it. The programs run in turn, and all must print the same."""
+    """Measures how long each program takes to write and to recover the store. The programs run in turn, and must print the same."""
     store.write(work, text)
     writes: dict[str, list[Timed]] = {}
     recoveries: dict[str, list[Timed]] = {}
@@ -123,7 +123,7 @@ def print_writings(found: dict[str, Times], names: Sequence[str]) -> None:
 
 
 def speeds(took: Times, name: str) -> list[float]:
-    """Returns how fast the program is, where the peer is 1: by the processor's time and by the clock. Returns nothing if there is no peer."""
+    """Returns the program's speed relative to the peer, by processor time and by the clock; empty if there is no peer."""
     if name == PEER or PEER not in took:
         return []
     return [took[PEER].cpu / took[name].cpu, took[PEER].wall / took[name].wall]
@@ -161,7 +161,6 @@ def arguments() -> argparse.Namespace:
 
 
 def measure_recoveries(programs: Programs, work: Workload, repeats: int, text: Path) -> Recoveries:
-    """Returns what the programs take to recover each store."""
     found: Recoveries = {}
     for store in recovered_stores(work):
         for kind, program in programs.items():
@@ -171,7 +170,6 @@ def measure_recoveries(programs: Programs, work: Workload, repeats: int, text: P
 
 
 def measure_writings(programs: Programs, work: Workload, repeats: int, text: Path) -> dict[str, Times]:
-    """Returns what writing and recovering take, by store and program."""
     found: dict[str, Times] = {}
     for store in written_stores(work):
         writes, recoveries = measure_writing(programs, store, work, repeats, text)

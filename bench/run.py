@@ -1,5 +1,5 @@
 #!/usr/bin/env python3
-"""Measures the built program beside std's BTreeMap; README.md says what is measured, and how."""
+"""Measures the program against std's BTreeMap. README.md describes the measurement."""
 
 import argparse
 import sys
@@ -20,7 +20,7 @@ HERE = Path(__file__).resolve().parent
 
 
 def sessions(work: Workload) -> list[list[Phase]]:
-    """Returns the sessions, each as the phases of one batch file. The least time counts for a phase that is in several."""
+    """Returns the sessions, each the phases of one batch file. For a phase in several sessions the least time counts."""
     pairs = len(work.keys)
     few = work.shuffled[: pairs // 5]
     starts = work.shuffled[: pairs // 50]
@@ -61,7 +61,6 @@ def sessions(work: Workload) -> list[list[Phase]]:
 
 
 def commands_of(peer: Command | None, program: Path) -> dict[str, Command]:
-    """Returns the commands that are measured, by name."""
     all_programs: dict[str, Command] = {PEER: peer} if peer else {}
     for fan in 32, 64:
         all_programs[f"fan {fan}, chain 16"] = [program, "--fan", str(fan), "--chain", "16"]
@@ -82,7 +81,7 @@ def measure(work: Workload, commands: dict[str, Command], repeats: int, folder: 
 
 
 def measure_verify(work: Workload, program: Path, folder: Path) -> dict[str, Sample]:
-    """Returns what `verify` of all pairs takes, in one thread and in as many as there are processors."""
+    """Times `verify` of all pairs, in one thread and in as many as there are processors."""
     load = Phase(LOAD, len(work.keys), LONG, lambda: work.puts(work.keys))
     text = folder / "verify"
     write_phases(text, [load])
@@ -107,7 +106,7 @@ def print_verify(samples: dict[str, Sample]) -> None:
 
 
 def cell(results: Results, phase: Phase, program: str) -> str:
-    """Returns seconds, nanoseconds a command, and the speed."""
+    """Formats seconds, nanoseconds per command and relative speed."""
     sample = results.best[phase, program]
     speed = results.speed(phase, program)
     shown = "" if program == PEER or speed is None else f" | {speed:.2f}"
@@ -132,7 +131,7 @@ def print_memory(results: Results, names: Sequence[str], raw: int) -> None:
 
 
 def print_scan_memory(results: Results, names: Sequence[str]) -> None:
-    """Prints how much memory is in use after each phase of scans. What the largest batch before took remains in use."""
+    """Prints the memory in use after each phase of scans. Memory of an earlier, larger batch remains in use."""
     print(f"\n| memory after, MB | {' | '.join(names)} |\n|---|{'---|' * len(names)}")
     for phase in results.phases():
         if "scan" in phase.name:
@@ -141,7 +140,7 @@ def print_scan_memory(results: Results, names: Sequence[str]) -> None:
 
 
 def print_growth(results: Results, names: Sequence[str]) -> None:
-    """Prints nanoseconds a command in the second, the middle and the last full batch of each phase in long batches."""
+    """Prints nanoseconds per command in the second, the middle and the last full batch of each phase with long batches."""
     print(f"\n| batch by batch, ns a command | {' | '.join(names)} |\n|---|{'---|' * len(names)}")
     for phase in results.phases():
         full = phase.count // LONG

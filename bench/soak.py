@@ -1,8 +1,8 @@
 #!/usr/bin/env python3
-"""Runs random sessions on stores in files without end, and compares each with a model, up to the first difference.
+"""Runs random sessions on stores in files, endlessly, and compares each with a model, up to the first difference.
 
-There are kills, crashes, failing calls and refused allocations in them. All is drawn from the seed, and nothing depends on the clock. README.md says
-how.
+Sessions have kills, crashes, failing calls and refused allocations. All are derived from the seed and not from the clock. README.md describes the
+test.
 """
 
 import argparse
@@ -23,7 +23,7 @@ MINUTE = 60
 
 
 def run_stores(soak: Soak, options: argparse.Namespace) -> str:
-    """Runs stores until the time is over; prints the counts each minute, and returns the last ones. Raises Difference at the first difference."""
+    """Runs stores until the time is over. Prints counts each minute, and returns the last counts. Raises Difference at the first difference."""
     start = last = time.monotonic()
     try:
         for number in itertools.count(options.first) if options.last is None else range(options.first, options.last + 1):
