@@ -81,8 +81,8 @@ HEAD += "longest batch ms,longest flush ms,longest clean ms,longest round ms".sp
 
 def main() -> None:
     parser = argparse.ArgumentParser(description=__doc__)
-    parser.add_argument("program", help="the built program of cleaning/main.rt.in")
-    parser.add_argument("--repeats", type=int, default=1, help="how often each policy is run; the shortest counts")
+    parser.add_argument("program", help="path of the program built from cleaning/main.rt.in")
+    parser.add_argument("--repeats", type=int, default=1, help="runs of each policy; the shortest is reported")
     options = parser.parse_args()
     print("| " + " | ".join(HEAD) + " |")
     print("|" + "---|" * len(HEAD))

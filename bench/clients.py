@@ -233,11 +233,11 @@ def show(figures: dict[str, dict[str, list[float]]]) -> None:
 
 def main() -> None:
     parser = argparse.ArgumentParser(description=__doc__)
-    parser.add_argument("--program", type=Path, default=PROGRAM, help="the built program")
-    parser.add_argument("--pairs", type=int, default=PAIRS, help=f"with batches of one {CALLS} at the most")
-    parser.add_argument("--repeats", type=int, default=3, help="each figure is their median")
-    parser.add_argument("--folder", type=Path, help="where the stores are made: on the disk that is to be measured")
-    parser.add_argument("--figures", type=Path, help="where the figures are written too, as JSON")
+    parser.add_argument("--program", type=Path, default=PROGRAM, help="path of bwsh")
+    parser.add_argument("--pairs", type=int, default=PAIRS, help=f"number of pairs; at most {CALLS} with batches of one command")
+    parser.add_argument("--repeats", type=int, default=3, help="runs; the median is reported")
+    parser.add_argument("--folder", type=Path, help="folder for the stores, on the disk to be measured")
+    parser.add_argument("--figures", type=Path, help="also write the figures to this file, as JSON")
     options = parser.parse_args()
     options.program = options.program.resolve()
     exit_if_missing(options.program)

@@ -76,11 +76,11 @@ def show(name: str, counted: Counted, first: Counted, commands: Mapping[str, int
 
 def main() -> None:
     parser = argparse.ArgumentParser(description=(__doc__ or "").splitlines()[0])
-    parser.add_argument("trees", nargs="*", type=Path, default=[HERE.parent], help="checkouts to be compared; this one where none is given")
+    parser.add_argument("trees", nargs="*", type=Path, default=[HERE.parent], help="checkouts to compare (default: this one)")
     parser.add_argument("--pairs", type=int, default=60_000)
     parser.add_argument("--batch", type=int, default=4_000, help="commands in a batch")
-    parser.add_argument("--value", type=int, default=100, help="bytes of a value, 200 at the most")
-    parser.add_argument("--singles", type=int, default=2_000, help="puts of one in a batch")
+    parser.add_argument("--value", type=int, default=100, help="bytes of a value, at most 200")
+    parser.add_argument("--singles", type=int, default=2_000, help="number of puts in batches of one command")
     parser.add_argument("--settings", nargs="*", choices=SETTINGS, default=list(SETTINGS))
     options = parser.parse_args()
     commands = dict.fromkeys(PHASES, options.pairs) | {"singles": options.singles}

@@ -134,10 +134,10 @@ def draw(clock: Clock, crews: Sequence[Crew], path: Path) -> None:
 
 def main() -> None:
     parser = argparse.ArgumentParser(description=__doc__)
-    parser.add_argument("calls", help="the built program of crew/main.rt.in")
-    parser.add_argument("--repeats", type=int, default=2, help="how often each is run; the least time counts")
+    parser.add_argument("calls", help="path of the program built from crew/main.rt.in")
+    parser.add_argument("--repeats", type=int, default=2, help="runs of each measurement; the least time is reported")
     parser.add_argument("--program", type=Path, default=PROGRAM)
-    parser.add_argument("--plot", type=Path, default=HERE / "crew.svg", help="where the plot is drawn: crew.svg")
+    parser.add_argument("--plot", type=Path, default=HERE / "crew.svg", help="file for the plot (default: crew.svg)")
     options = parser.parse_args()
     exit_if_missing(options.program)
     work, clock = Workload(1_000_000), Clock()

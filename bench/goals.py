@@ -375,18 +375,18 @@ def write_readme(shown: Mapping[str, str]) -> None:
 
 def arguments() -> argparse.Namespace:
     parser = argparse.ArgumentParser(description=__doc__)
-    parser.add_argument("--pairs", type=int, default=1_000_000, help="of the usual rows; there are rows of four times, and stores of half as many")
-    parser.add_argument("--repeats", type=int, default=3, help="how often each is run; the least counts")
+    parser.add_argument("--pairs", type=int, default=1_000_000, help="pairs in most rows; some rows use four times as many, and the stores in files half as many")
+    parser.add_argument("--repeats", type=int, default=3, help="runs of each measurement; the least is reported")
     parser.add_argument("--only", nargs="+", choices=PARTS, default=PARTS, metavar="PART", help=", ".join(PARTS))
     parser.add_argument("--program", type=Path, default=PROGRAM)
-    parser.add_argument("--library", type=Path, default=building.BUILT, help="where range_bench and crew_bench are, and are built if they are missing")
-    parser.add_argument("--unproved", action="store_true", help="notes that the programs are built without proofs, and builds so what is missing")
-    parser.add_argument("--folder", default="/var/tmp", help="where the stores are made: on the disk that is to be measured (/var/tmp)")
-    parser.add_argument("--figures", type=Path, default=HERE / "goals.json", help="where the figures are written")
-    parser.add_argument("--plot", type=Path, default=HERE / "goals.svg", help="where the plot is drawn")
-    parser.add_argument("--note", default="", help="a remark on this run, which is printed with the figures")
-    parser.add_argument("--readme", action="store_true", help="puts the tables into README.md too")
-    parser.add_argument("--show", action="store_true", help="measures nothing: prints and draws the figures that are there")
+    parser.add_argument("--library", type=Path, default=building.BUILT, help="folder of range_bench and crew_bench, which are built if they are missing")
+    parser.add_argument("--unproved", action="store_true", help="record that the programs are built without proofs, and build missing ones without proofs")
+    parser.add_argument("--folder", default="/var/tmp", help="folder for the stores, on the disk to be measured (default: /var/tmp)")
+    parser.add_argument("--figures", type=Path, default=HERE / "goals.json", help="file for the figures")
+    parser.add_argument("--plot", type=Path, default=HERE / "goals.svg", help="file for the plot")
+    parser.add_argument("--note", default="", help="a remark that is printed with the figures")
+    parser.add_argument("--readme", action="store_true", help="also update the tables in README.md")
+    parser.add_argument("--show", action="store_true", help="do not measure; print and draw the existing figures")
     return parser.parse_args()
 
 

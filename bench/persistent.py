@@ -356,10 +356,10 @@ def show_beside(figures: Figures) -> None:
 def main() -> None:
     parser = argparse.ArgumentParser(description=__doc__)
     parser.add_argument("--pairs", type=int, default=PAIRS)
-    parser.add_argument("--repeats", type=int, default=3, help="how often each store is made; the least time counts")
+    parser.add_argument("--repeats", type=int, default=3, help="runs of each store; the least time is reported")
     parser.add_argument("--program", type=Path, default=PROGRAM)
-    parser.add_argument("--folder", default="/var/tmp", help="where the files are made: on the disk that is to be measured (/var/tmp)")
-    parser.add_argument("--figures", type=Path, help="where the figures are written too, as JSON")
+    parser.add_argument("--folder", default="/var/tmp", help="folder for the stores, on the disk to be measured (default: /var/tmp)")
+    parser.add_argument("--figures", type=Path, help="also write the figures to this file, as JSON")
     options = parser.parse_args()
     exit_if_missing(options.program)
     figures = measure(options.program, options.pairs, options.repeats, options.folder)

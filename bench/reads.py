@@ -35,8 +35,8 @@ def seconds(command: Sequence[str | Path]) -> tuple[float, bytes]:
 
 def main() -> None:
     parser = argparse.ArgumentParser(description=(__doc__ or "").splitlines()[0])
-    parser.add_argument("--library", type=Path, default=building.BUILT, help="where range_bench is, and is built if it is missing")
-    parser.add_argument("--repeats", type=int, default=3, help="and the least is taken")
+    parser.add_argument("--library", type=Path, default=building.BUILT, help="folder of range_bench, which is built if it is missing")
+    parser.add_argument("--repeats", type=int, default=3, help="runs of each measurement; the least time is reported")
     parser.add_argument("--reads", nargs="*", default=list(READS), choices=list(READS))
     options = parser.parse_args()
     program = options.library / "range_bench"

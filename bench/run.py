@@ -163,13 +163,13 @@ def draw(results: Results, names: Sequence[str], path: Path) -> None:
 
 def arguments() -> argparse.Namespace:
     parser = argparse.ArgumentParser(description=__doc__)
-    parser.add_argument("--quick", action="store_true", help="a fifth of the pairs, each session once: about a minute")
+    parser.add_argument("--quick", action="store_true", help="use a fifth of the pairs, and run each session once (about a minute)")
     parser.add_argument("--pairs", type=int, default=1_000_000)
-    parser.add_argument("--key-bytes", type=int, default=KEY, help="up to 64")
-    parser.add_argument("--value-bytes", type=int, default=VALUE, help="up to 256")
-    parser.add_argument("--repeats", type=int, default=2, help="how often each session is run; the least time counts")
+    parser.add_argument("--key-bytes", type=int, default=KEY, help="bytes of a key, at most 64")
+    parser.add_argument("--value-bytes", type=int, default=VALUE, help="bytes of a value, at most 256")
+    parser.add_argument("--repeats", type=int, default=2, help="runs of each session; the least time is reported")
     parser.add_argument("--program", type=Path, default=PROGRAM)
-    parser.add_argument("--plot", type=Path, help="where the plot is drawn: speed.svg, but with --quick nowhere")
+    parser.add_argument("--plot", type=Path, help="file for the plot (default: speed.svg, or none with --quick)")
     options = parser.parse_args()
     if options.quick:
         options.pairs, options.repeats = options.pairs // 5, 1

@@ -191,11 +191,11 @@ def print_verdicts(measured: Measurements) -> None:
 
 def arguments() -> argparse.Namespace:
     parser = argparse.ArgumentParser(description=__doc__)
-    parser.add_argument("--quick", action="store_true", help="a fifth of the pairs, each once")
+    parser.add_argument("--quick", action="store_true", help="use a fifth of the pairs, and run each measurement once")
     parser.add_argument("--pairs", type=int, default=1_000_000)
-    parser.add_argument("--repeats", type=int, default=3, help="how often each is run; the least time counts")
+    parser.add_argument("--repeats", type=int, default=3, help="runs of each measurement; the least time is reported")
     parser.add_argument("--program", type=Path, default=PROGRAM)
-    parser.add_argument("--folder", type=Path, help="where the files are made: on the disk that is to be measured")
+    parser.add_argument("--folder", type=Path, help="folder for the files, on the disk to be measured")
     options = parser.parse_args()
     exit_if_missing(options.program)
     if options.quick:

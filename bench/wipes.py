@@ -237,10 +237,10 @@ def print_quotients(results: Results, names: Sequence[str]) -> None:
 
 def arguments() -> argparse.Namespace:
     parser = argparse.ArgumentParser(description=__doc__)
-    parser.add_argument("--quick", action="store_true", help="a fifth of the pairs, each once")
+    parser.add_argument("--quick", action="store_true", help="use a fifth of the pairs, and run each session once")
     parser.add_argument("--pairs", type=int, default=1_000_000)
-    parser.add_argument("--repeats", type=int, default=5, help="how often each session is run; the least counts")
-    parser.add_argument("--only", default="", help="the sessions that have a phase with this in its name")
+    parser.add_argument("--repeats", type=int, default=5, help="runs of each session; the least is reported")
+    parser.add_argument("--only", default="", help="run only sessions with a phase whose name contains this text")
     parser.add_argument("--program", type=Path, default=PROGRAM)
     options = parser.parse_args()
     exit_if_missing(options.program)

@@ -36,8 +36,8 @@ def show(name: str) -> None:
 
 def main() -> None:
     parser = argparse.ArgumentParser(description=__doc__)
-    parser.add_argument("names", nargs="*", metavar="NAME", help=f"of {', '.join(SESSIONS)}; all if none is named")
-    parser.add_argument("--proved", action="store_true", help="prove the examples, and all that they use, before they are built")
+    parser.add_argument("names", nargs="*", metavar="NAME", help=f"any of {', '.join(SESSIONS)} (default: all)")
+    parser.add_argument("--proved", action="store_true", help="prove the examples and the crates that they use before building them")
     options = parser.parse_args()
     unknown = set(options.names) - set(SESSIONS)
     if unknown:
