@@ -12,8 +12,6 @@ POLICIES = ["never", "full", "early"]
 
 @dataclass
 class PolicyRun:
-    """One run, by step: seconds by the clock, and bytes written to the disk."""
-
     policy: str
     steps: dict[str, list[float]] = field(default_factory=dict)  # seconds of each step of this kind
     written: dict[str, int] = field(default_factory=dict)  # total bytes of the steps of this kind

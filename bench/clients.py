@@ -73,8 +73,6 @@ class ClientStore(PythonStore):
 
 
 class SqliteStore(PythonStore):
-    """SQLite in WAL mode, with one transaction per batch."""
-
     def __init__(self, folder: Path, each: bool) -> None:
         self.database = sqlite3.connect(folder / "pairs.db", isolation_level=None)
         self.database.execute("PRAGMA journal_mode = WAL")
@@ -148,7 +146,6 @@ Open = Callable[[Path, bool], PythonStore]
 
 
 def measured_stores(program: Path) -> dict[str, Open]:
-    """Returns the measured stores by name, except those whose package is not installed."""
     found: dict[str, Open] = {
         "bwsh, by its client": lambda folder, each: ClientStore(program, folder, each),
         "sqlite3, WAL": SqliteStore,
@@ -166,8 +163,6 @@ def measured_stores(program: Path) -> dict[str, Open]:
 
 @dataclass(frozen=True)
 class Rates:
-    """Commands per second by the clock: puts until all are durable, and gets of the same keys in another order."""
-
     puts: float
     gets: float
 

@@ -27,7 +27,6 @@ CACHE = ["--cache-sim=yes", "--LL=2097152,16,64"]
 
 
 def build_counter(folder: Path) -> Path:
-    """Builds the library by which the program starts and stops callgrind's counters."""
     counter = folder / "counted.so"
     compiler = shutil.which("gcc") or shutil.which("cc") or sys.exit("there is no C compiler")
     subprocess.run([compiler, "-O2", "-shared", "-fPIC", "-o", counter, HERE / "crew" / "counted.c"], check=True)
@@ -41,7 +40,6 @@ def build_program(tree: Path, folder: Path) -> Path:
 
 
 def fields(text: str, name: str) -> list[str]:
-    """Returns the words of the line with this name in a callgrind dump."""
     found = re.search(rf"^{name}: (.*)$", text, re.M)
     return found[1].split() if found else []
 

@@ -31,8 +31,6 @@ Crew = tuple[int, int]  # workers and grain
 
 
 class Clock:
-    """The least time of each phase by the clock, in seconds, by settings and crew."""
-
     def __init__(self) -> None:
         self.wall: dict[tuple[str, Crew, str], float] = {}
 
@@ -60,7 +58,6 @@ def time_long_batches(command: Command) -> dict[str, float]:
 
 
 def measure_long(clock: Clock, program: str, crews: Sequence[Crew], repeats: int) -> None:
-    """Runs all phases with each crew in turn, `repeats` times."""
     for _, kind, (workers, grain) in itertools.product(range(repeats), SETTINGS, crews):
         print(f"  long batches: {kind}, {workers} workers, grain {grain}", file=sys.stderr)
         numbers = map(str, (*SETTINGS[kind], workers, grain))
@@ -80,7 +77,6 @@ def short_phases(work: Workload) -> list[Phase]:
 
 
 def measure_short(clock: Clock, program: Path, crews: Sequence[Crew], phases: Sequence[Phase], repeats: int, text: Path) -> None:
-    """Runs the batch file with each crew in turn, `repeats` times. All crews must print the same."""
     write_phases(text, phases)
     digests: dict[tuple[str, str], str] = {}
     for _, kind, (workers, grain) in itertools.product(range(repeats), stores.SETTINGS, crews):
@@ -93,7 +89,6 @@ def measure_short(clock: Clock, program: Path, crews: Sequence[Crew], phases: Se
 
 
 def measure_recovery(clock: Clock, work: Workload, program: Path, repeats: int, folder: Path) -> None:
-    """Times the recovery of a store whose pairs were all written by one flush."""
     store = StoreText("flushed at once", [Puts(work.keys, AT_END)])
     text = folder / "session"
     store.write(work, text)
@@ -105,7 +100,6 @@ def measure_recovery(clock: Clock, work: Workload, program: Path, repeats: int, 
 
 
 def print_workers(clock: Clock, phases: dict[str, str], crews: Sequence[Crew]) -> None:
-    """Prints seconds by the clock, and in brackets the speedup over the first crew."""
     for kind in SETTINGS:
         rows = []
         for phase, name in phases.items():
@@ -121,7 +115,6 @@ def print_grains(clock: Clock, crews: Sequence[Crew]) -> None:
 
 
 def draw(clock: Clock, crews: Sequence[Crew], path: Path) -> None:
-    """Draws each phase's speedup over one worker, for up to four workers."""
     few = [crew for crew in crews if crew[0] <= 4]
     panels: dict[str, dict[str, list[tuple[int, float]]]] = {}
     for kind in SETTINGS:

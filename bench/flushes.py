@@ -21,7 +21,6 @@ AGAIN = 20  # flushes that follow one put each
 
 
 def write_text(path: Path, work: Workload, again: int = AGAIN) -> None:
-    """Writes a load in long batches and a flush, and then several times a put and a flush."""
     with open(path, "w") as file:
         file.write(MARK)
         for start in range(0, len(work.keys), LONG):
@@ -34,7 +33,6 @@ def write_text(path: Path, work: Workload, again: int = AGAIN) -> None:
 
 
 def fits(program: Path, path: Path, segments: int) -> bool:
-    """Returns whether the first flush fits in a log of `segments` segments, of which one must remain free."""
     settings = f"--fan 32 --chain 16 --seg-size {SEGMENT} --segments {segments}".split()
     with open(path, "rb") as file:
         ended = subprocess.run([program, *settings], stdin=file, stdout=subprocess.DEVNULL, stderr=subprocess.PIPE)
@@ -44,7 +42,6 @@ def fits(program: Path, path: Path, segments: int) -> bool:
 
 
 def flushed_bytes(program: Path, path: Path, pairs: int) -> int:
-    """Returns the length of the first flush in bytes, rounded up to segments."""
     low, high = 0, 2 + 400 * pairs // SEGMENT
     while high - low > 1:
         middle = (low + high) // 2

@@ -42,7 +42,6 @@ Row = dict[str, Any]
 
 
 def goals(big: float, small: float | None = None) -> Goals:
-    """Returns the goals by settings, omitting None."""
     return {name: number for name, number in ((BIG, big), (SMALL, small)) if number is not None}
 
 
@@ -62,7 +61,6 @@ GoalSession = list[tuple[Phase, Goals]]  # the phases of one batch file
 
 
 def speed_sessions(work: Workload) -> list[GoalSession]:
-    """Returns the sessions with pairs of the usual lengths."""
     few, starts = work.shuffled[: len(work.keys) // 5], work.shuffled[: len(work.keys) // 50]
     loaded = load(work), goals(1.0, 0.6)
 
@@ -127,8 +125,6 @@ def row(
 
 
 class GoalBench:
-    """The programs, and the folder of the batch files."""
-
     def __init__(self, options: argparse.Namespace, folder: Path) -> None:
         self.options, self.folder, self.text = options, folder, folder / "session"
         self.peer = build_rust_peer(folder)
@@ -136,7 +132,6 @@ class GoalBench:
         self.commands |= {name: [options.program, "--fan", str(fan), "--chain", str(chain)] for name, (fan, chain) in SETTINGS.items()}
 
     def in_turn(self, names: Iterable[str]) -> Iterator[str]:
-        """Yields the programs in turn, `repeats` times."""
         return (name for _ in range(self.options.repeats) for name in names)
 
     def run(self, sessions: Sequence[GoalSession], names: Sequence[str]) -> tuple[Results, dict[Phase, Goals]]:
@@ -154,7 +149,6 @@ class GoalBench:
         return results, wanted
 
     def speeds(self, results: Results, wanted: dict[Phase, Goals]) -> list[Row]:
-        """Returns a row per phase, by processor time."""
         rows = []
         for phase, goal in wanted.items():
             runs = {name: times for (of, name), times in results.seconds.items() if of == phase}
@@ -173,7 +167,6 @@ class GoalBench:
         return rows
 
     def usual(self) -> tuple[list[Row], Mapping[str, Any]]:
-        """Returns the rows for pairs of the usual lengths, with memory, and the load batch by batch."""
         work = Workload(self.options.pairs)
         results, wanted = self.run(speed_sessions(work), list(self.commands))
         return self.speeds(results, wanted) + self.memory(results, work), results.growth(list(self.commands))
@@ -190,7 +183,6 @@ class GoalBench:
         return self.speeds(*self.run(many_sessions(work), [name for name in self.commands if name != SMALL]))
 
     def ranges(self) -> list[Row]:
-        """Measures ranges of 100 rows by `Store::range`, by processor time."""
         peer = build_rust_peer(self.folder, "range/peer.rs") if self.peer else None
         commands: dict[str, list[str | Path]] = {PEER: [*peer]} if peer else {}
         commands |= {name: [self.options.library / "range_bench", str(fan), str(chain)] for name, (fan, chain) in SETTINGS.items()}
@@ -211,7 +203,6 @@ class GoalBench:
         return [row("ranges of 100 rows, by `Store::range`", RANGES, UNIT, figures, reached, goal, runs)]
 
     def workers(self) -> list[Row]:
-        """Measures four workers against one by the clock; only the calls are timed."""
         runs: dict[tuple[str, str, int], list[float]] = {}
         for name, workers in itertools.product(self.in_turn(SETTINGS), (1, WORKERS)):
             print(f"  {workers} workers: {name}", file=sys.stderr)
@@ -230,7 +221,6 @@ class GoalBench:
 
 
 def row_of_flushes(figures: Figures) -> Row:
-    """Compares a flush per 1,000 commands with one per 65,535, on a file, by the clock."""
     few, many, goal = persistent.FEW, persistent.MANY, goals(0.7, 0.6)
     names = [name for name in (persistent.LOGGED, *goal) if name in figures["stores"]]
     shown = {f"{name}, {commits.name()}": persistent.rate(figures, name, commits) for name in names for commits in (many, few)}
@@ -239,7 +229,6 @@ def row_of_flushes(figures: Figures) -> Row:
 
 
 def machine() -> Figures:
-    """Returns the machine and the commit of the measurement."""
     model = next((line.split(":")[1].strip() for line in Path("/proc/cpuinfo").read_text().splitlines() if line.startswith("model name")), "unknown")
     commit = subprocess.run(["git", "-C", HERE, "describe", "--always", "--dirty", "--abbrev=9"], capture_output=True, text=True).stdout.strip()
     now = datetime.datetime.now(datetime.timezone.utc).strftime("%Y-%m-%d %H:%M UTC")
@@ -301,7 +290,6 @@ def number(value: float, unit: str) -> str:
 
 
 def verdict(each: Row, name: str) -> str:
-    """Formats the ratio to the goal, in bold if the goal is met."""
     if name not in each["wanted"]:
         return "–"
     if name not in each["is"]:
@@ -313,7 +301,6 @@ def verdict(each: Row, name: str) -> str:
 
 
 def title(each: Row) -> str:
-    """Returns the name of a row, with its unit if it is not the usual one."""
     return str(each["name"]) if each["unit"] == UNIT else f"{each['name']}, {each['unit']}"
 
 
@@ -324,7 +311,6 @@ def cell_of(each: Row, name: str) -> str:
 
 
 def print_goals(figures: Figures) -> None:
-    """Prints the date and the machine, and the table of the goals."""
     proved = "unproved builds" if figures["unproved"] else "the proved programs"
     runs = f"the least of {figures['repeats']} runs in turn" if figures["repeats"] > 1 else "one run"
     minutes = ", ".join(f"{part} {taken:.1f}" for part, taken in figures["minutes"].items())
@@ -342,7 +328,6 @@ def print_goals(figures: Figures) -> None:
 
 
 def shown_tables(figures: Figures) -> dict[str, str]:
-    """Returns the printed tables by the names of their places in the README."""
     tables: dict[str, tuple[Callable[[Figures], None], Figures]] = {"goals": (print_goals, figures)}
     if "persistent" in figures:
         tables["stores"] = persistent.show_stores, figures["persistent"]
@@ -356,7 +341,6 @@ def shown_tables(figures: Figures) -> dict[str, str]:
 
 
 def as_in_readme(line: str) -> str:
-    """Formats a table line as in the documents, without outer bars."""
     return line.removeprefix("| ").removesuffix(" |").removeprefix("|").removesuffix("|") if line.startswith("|") else line
 
 
@@ -375,12 +359,12 @@ def write_readme(shown: Mapping[str, str]) -> None:
 
 def arguments() -> argparse.Namespace:
     parser = argparse.ArgumentParser(description=__doc__)
-    parser.add_argument("--pairs", type=int, default=1_000_000, help="pairs in most rows; some rows use four times as many, and the stores in files half as many")
+    parser.add_argument("--pairs", type=int, default=1_000_000, help="pairs in most rows; some use four times as many, stores in files half")
     parser.add_argument("--repeats", type=int, default=3, help="runs of each measurement; the least is reported")
     parser.add_argument("--only", nargs="+", choices=PARTS, default=PARTS, metavar="PART", help=", ".join(PARTS))
     parser.add_argument("--program", type=Path, default=PROGRAM)
-    parser.add_argument("--library", type=Path, default=building.BUILT, help="folder of range_bench and crew_bench, which are built if they are missing")
-    parser.add_argument("--unproved", action="store_true", help="record that the programs are built without proofs, and build missing ones without proofs")
+    parser.add_argument("--library", type=Path, default=building.BUILT, help="folder of range_bench and crew_bench, which are built if missing")
+    parser.add_argument("--unproved", action="store_true", help="record that the programs are unproved, and build missing ones without proofs")
     parser.add_argument("--folder", default="/var/tmp", help="folder for the stores, on the disk to be measured (default: /var/tmp)")
     parser.add_argument("--figures", type=Path, default=HERE / "goals.json", help="file for the figures")
     parser.add_argument("--plot", type=Path, default=HERE / "goals.svg", help="file for the plot")

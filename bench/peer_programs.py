@@ -17,7 +17,6 @@ NATIVE_PEERS = {  # the source in peers/, the compiler's arguments, and the pack
 
 
 def build_rust_peer(folder: Path, source: str = "peer.rs") -> list[Path] | None:
-    """Builds a peer in Rust. Returns its command, or None if this machine has no rustc."""
     if shutil.which("rustc") is None:
         print("There is no rustc on this machine: the program is measured alone.")
         return None
@@ -27,7 +26,6 @@ def build_rust_peer(folder: Path, source: str = "peer.rs") -> list[Path] | None:
 
 
 def build_native_peer(name: str, folder: Path) -> Path | None:
-    """Builds a peer in C or C++. Returns its path, or None if its package is not installed."""
     source, compiler, package = NATIVE_PEERS[name]
     program = folder / source.split(".")[0]
     command: Command = [*compiler, "-o", program, HERE / "peers" / source, f"-l{program.name}"]

@@ -42,8 +42,6 @@ Figures = dict[str, Any]  # in the JSON file
 
 @dataclass(frozen=True)
 class Commits:
-    """The number of pairs per batch, and of batches per durable commit."""
-
     batch: int
     batches: int = 1
 
@@ -129,20 +127,16 @@ class NativeStore:
         return StoreTimes(ready - start, done - ready, taken - before)
 
     def until(self, child: subprocess.Popen[bytes], line: bytes) -> tuple[float, float]:
-        """Waits for this line of output. Returns the clock's time and the program's processor seconds."""
         printed = pipe_of(child.stdout).readline()
         if printed != line:
             sys.exit(f"{child.args!r}: the output has {printed!r}, where {line!r} was expected")
         return time.monotonic(), processor_seconds(child.pid)
 
     def question(self, key: str) -> tuple[Command, bytes]:
-        """Returns the command that gets this key, and its standard input."""
         return [*self.command, "get", self.folder, key], b""
 
 
 class BatchFileStore:
-    """A program that reads a batch file: `bwsh`, or the peer with a log of commands."""
-
     def __init__(self, program: StoreProgram) -> None:
         self.program, self.folder = program, program.disk.parent
 
@@ -162,8 +156,6 @@ class BatchFileStore:
 
 
 class StoreTexts:
-    """The input of the programs: the pairs, and a batch file for each kind of commit, with its answers."""
-
     def __init__(self, pairs: RandomPairs, folder: Path) -> None:
         self.pairs, self.count = folder / "pairs", len(pairs.keys)
         self.batch_files: dict[Commits, Path] = {}
@@ -198,7 +190,6 @@ def measured_stores(program: Path, programs: Path, disks: Path) -> dict[str, Mea
 
 
 def drop_from_memory(folder: Path) -> None:
-    """Syncs the files of this folder, and drops them from the page cache."""
     os.sync()
     for path in folder.iterdir():
         with open(path, "rb") as file:
@@ -222,7 +213,6 @@ def time_recovery(store: MeasuredStore, key: str, value: str) -> tuple[float, fl
 
 
 def run_once(store: MeasuredStore, texts: StoreTexts, commits: Commits, pairs: RandomPairs) -> StoreTimes:
-    """Makes a new store, drops it from the page cache, and recovers it to get the last pair."""
     shutil.rmtree(store.folder, ignore_errors=True)
     store.folder.mkdir(parents=True)
     os.sync()
@@ -262,7 +252,6 @@ def file_system(folder: Path) -> str:
 
 
 def summary(runs: Sequence[StoreTimes]) -> Figures:
-    """Returns one store's figures: the least of each time, and all load and recovery times."""
     least: Figures = {each.name: min(getattr(took, each.name) for took in runs) for each in fields(StoreTimes)}
     return least | {"loads": [took.load for took in runs], "recoveries": [took.recovery for took in runs]}
 
@@ -305,7 +294,6 @@ def print_rates(figures: Figures) -> None:
 
 
 def by_length(cells: Iterable[str]) -> str:
-    """Returns a cell with the figures for both commit lengths."""
     return " · ".join(cells)
 
 
@@ -314,7 +302,6 @@ def title(name: str) -> str:
 
 
 def print_beside(figures: Figures) -> None:
-    """Prints the speed as a multiple of each peer's."""
     rows = []
     for peer, by in figures["stores"].items():
         if peer in SETTINGS:
@@ -339,7 +326,6 @@ def print_text(figures: Figures) -> None:
 
 
 def show_stores(figures: Figures) -> None:
-    """Prints each store's figures, and batches without a flush."""
     print(f"\n{figures['pairs']:,} pairs of 16 and 100 bytes, {figures['file system']}, the least of {figures['repeats']}")
     print_rates(figures)
     print(f"\nPython's start, which is in SQLite's recovery: {figures[PYTHON_START]:.3f} s")
@@ -348,7 +334,6 @@ def show_stores(figures: Figures) -> None:
 
 
 def show_beside(figures: Figures) -> None:
-    """Prints the comparison of the stores, and the times that do not belong to a store."""
     print_beside(figures)
     print_text(figures)
 

@@ -30,7 +30,6 @@ def legend(y: float) -> list[str]:
 
 
 def bars(speeds: Mapping[str, Sequence[float]], top: float, height: float) -> list[str]:
-    """Draws each phase's speed relative to the peer, for each of the settings."""
     most = max(1.0, *(speed for row in speeds.values() for speed in row))
     scale = (RIGHT - LEFT) / most
     parts = [text(LEFT, top - 8, "speed, where the BTreeMap is 1")]
@@ -52,7 +51,6 @@ def bars(speeds: Mapping[str, Sequence[float]], top: float, height: float) -> li
 
 
 def lines(curves: Mapping[str, Curve], top: float, height: float) -> list[str]:
-    """Draws each program's time per put over the number of pairs in the store."""
     points = [point for curve in curves.values() for point in curve]
     most_x = max(x for x, _ in points)
     most_y = max(y for _, y in points) * 1.05
@@ -71,7 +69,6 @@ def lines(curves: Mapping[str, Curve], top: float, height: float) -> list[str]:
 
 
 def page(speeds: Mapping[str, Sequence[float]], curves: Mapping[str, Curve]) -> str:
-    """Returns a page with the speeds and the load. Without a peer there are no bars."""
     parts = legend(24)
     if speeds:
         parts += bars(speeds, 60, 300)
@@ -123,7 +120,6 @@ def bar(x: float, y: float, width: float, height: float, colour: str) -> str:
 
 
 def goal_rows(rows: Sequence[Mapping[str, Any]], settings: Sequence[str], top: float, left: float) -> list[str]:
-    """Draws each row's results as bars, and the goal as a mark across the bar."""
     most = max(number for row in rows for numbers in (row["is"], row["wanted"]) for number in numbers.values())
     scale, thick = (RIGHT - left) / most, STEP * 0.38
     parts: list[str] = []
@@ -143,7 +139,6 @@ def goal_rows(rows: Sequence[Mapping[str, Any]], settings: Sequence[str], top: f
 
 
 def store_rows(persistent: Mapping[str, Any], settings: Sequence[str], top: float, left: float) -> list[str]:
-    """Draws each store's committed pairs per second, for both commit lengths."""
     rates: dict[str, list[float]] = {}
     for name, by in persistent["stores"].items():
         rates[name] = [persistent["pairs"] / by[commits]["load"] for commits in list(by)[:2]]

@@ -23,7 +23,6 @@ Times = dict[str, Seconds]  # by program
 
 
 def recovered_stores(work: Workload) -> list[StoreText]:
-    """Returns the stores whose recovery is compared with a load in key order."""
     load, half = Puts(work.keys, AT_END), work.shuffled[: len(work.keys) // 2]
     return [
         StoreText("flushed at once", [load]),
@@ -33,14 +32,12 @@ def recovered_stores(work: Workload) -> list[StoreText]:
 
 
 def written_stores(work: Workload) -> list[StoreText]:
-    """Returns the stores that are compared with the peer's."""
     orders = [work.keys, *(work.random.sample(work.keys, len(work.keys)) for _ in range(3))]
     four_times = [key for keys in orders for key in keys]
     return [StoreText("each key put once", [Puts(work.keys, 10)]), StoreText("each key put four times", [Puts(four_times, 10)])]
 
 
 def read_alone(path: Path) -> Seconds:
-    """Times a plain read of the file's written part."""
     buffer, rest = bytearray(1 << 20), written_bytes(path)
     start = time.process_time(), time.monotonic()
     with open(path, "rb", buffering=0) as file:
@@ -51,8 +48,6 @@ def read_alone(path: Path) -> Seconds:
 
 @dataclass
 class Recovery:
-    """The recovery of a store: file size in bytes, seconds to read the file and to recover the store, and memory in bytes."""
-
     length: int
     read: Seconds
     recovery: Seconds
@@ -61,7 +56,6 @@ class Recovery:
 
 
 def measure_load(program: StoreProgram, work: Workload, repeats: int, text: Path) -> tuple[float, int]:
-    """Returns the processor seconds and bytes of a load in key order in memory, as `run.py` measures them."""
     phase = Phase("load in key order", len(work.keys), LONG, lambda: work.puts(sorted(work.keys)))
     write_phases(text, [phase])
     runs = [run_phases([*program.command, *program.settings], text, [phase]) for _ in range(repeats)]

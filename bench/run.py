@@ -20,7 +20,6 @@ HERE = Path(__file__).resolve().parent
 
 
 def sessions(work: Workload) -> list[list[Phase]]:
-    """Returns the sessions, each the phases of one batch file. For a phase in several sessions the least time counts."""
     pairs = len(work.keys)
     few = work.shuffled[: pairs // 5]
     starts = work.shuffled[: pairs // 50]
@@ -106,7 +105,6 @@ def print_verify(samples: dict[str, Sample]) -> None:
 
 
 def cell(results: Results, phase: Phase, program: str) -> str:
-    """Formats seconds, nanoseconds per command and relative speed."""
     sample = results.best[phase, program]
     speed = results.speed(phase, program)
     shown = "" if program == PEER or speed is None else f" | {speed:.2f}"

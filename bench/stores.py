@@ -25,8 +25,6 @@ PIPE = 4_096  # bytes
 
 
 class Timed(Protocol):
-    """Processor seconds and clock seconds."""
-
     @property
     def cpu(self) -> float:
         ...
@@ -38,8 +36,6 @@ class Timed(Protocol):
 
 @dataclass
 class Seconds:
-    """Processor seconds (user and system) and clock seconds."""
-
     cpu: float
     wall: float
 
@@ -64,7 +60,6 @@ class Puts:
         return number % self.every == 0 or number == len(self.lengths())
 
     def lines(self) -> int:
-        """Returns the number of output lines."""
         return len(self.keys) + sum(self.is_flushed(number) for number in range(1, 1 + len(self.lengths())))
 
     def write(self, work: Workload, file: TextIO) -> None:
@@ -76,8 +71,6 @@ class Puts:
 
 @dataclass
 class StoreText:
-    """A batch file that makes a store in a file."""
-
     name: str
     puts: list[Puts]
 
@@ -91,7 +84,6 @@ class StoreText:
                 puts.write(work, file)
 
     def rows(self, work: Workload) -> str:
-        """Returns the digest of a later scan of all pairs."""
         contents = {key: work.value(at + puts.salt) for puts in self.puts for at, key in enumerate(puts.keys)}
         digest = hashlib.blake2b(f"rows {len(contents)}\n".encode())
         for key in sorted(contents):
@@ -101,8 +93,6 @@ class StoreText:
 
 @dataclass
 class StoreProgram:
-    """A program with its options, and its store's file."""
-
     command: Sequence[str | Path]
     settings: Sequence[str]
     seg_size: int

@@ -26,18 +26,15 @@ Figures = dict[str, Any]
 
 
 def row_of(figures: Figures, name: str) -> dict[str, float]:
-    """Returns the row's figures by program; empty if it was not measured."""
     return next((row["figures"] for row in figures["rows"] if row["name"] == name), {})
 
 
 def durable(figures: Figures, store: str, commits: str, of: str) -> float | None:
-    """Returns the seconds of this store's load or recovery, with commits of this size."""
     taken = figures.get("persistent", {}).get("stores", {}).get(store, {}).get(commits)
     return taken[of] if taken else None
 
 
 def rate(figures: Figures, store: str, commits: str) -> float | None:
-    """Returns the store's durable puts per second."""
     seconds = durable(figures, store, commits, "load")
     return figures["persistent"]["pairs"] / seconds if seconds else None
 
@@ -74,7 +71,6 @@ def bar(x: float, y: float, width: float, label: str, colour: str, opacity: floa
 
 
 def speeds(figures: Figures) -> list[str]:
-    """Draws on the left the program's speeds as multiples of the map's."""
     left, unit = 150, 250
     parts = [text(left, TOP - 14, "speed, where BTreeMap is 1")]
     parts.append(f'<line x1="{left + unit}" y1="{TOP - 8}" x2="{left + unit}" y2="{TOP + STEP * len(SPEEDS)}" stroke="{GREY}"/>')
@@ -89,7 +85,6 @@ def speeds(figures: Figures) -> list[str]:
 
 
 def rates(figures: Figures) -> list[str]:
-    """Draws on the right each store's durable puts per second, for both commit sizes."""
     left, room = 640, 240
     names = {BIG: f"Taukremil, {BIG}", SMALL: f"Taukremil, {SMALL}", LOGGED: "BTreeMap and a log"} | OTHERS
     found = {store: [rate(figures, store, commits) or 0.0 for commits in (MANY, FEW)] for store in names}

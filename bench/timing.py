@@ -16,8 +16,6 @@ from tools.processes import Command, pipe_of, processor_seconds, resident_memory
 
 @dataclass
 class Sample:
-    """The measurement of one phase in one run."""
-
     cpu: float  # user and system seconds
     wall: float
     digest: str  # of the output lines
@@ -36,7 +34,6 @@ class TimedProgram:
         self.unread = b""  # read from the pipe; belongs to later lines
 
     def read_lines(self, count: int, digest: "hashlib.blake2b") -> None:
-        """Reads `count` lines, and adds them to the digest."""
         while count:
             chunk = self.unread or self.output.read(1 << 16)
             if not chunk:
@@ -69,7 +66,6 @@ class TimedProgram:
         self.child.wait()
 
     def finish_successfully(self) -> None:
-        """Waits for the program's end. Exits unless its status is 0."""
         self.finish()
         if self.child.returncode:
             sys.exit(f"{self.command}: ended with status {self.child.returncode}")
@@ -107,7 +103,6 @@ class Results:
                 self.memory[phase.name, program] = min(taken, self.memory.get((phase.name, program), taken))
 
     def compare(self, program: str, phase: Phase, sample: Sample) -> None:
-        """Exits unless all programs print the same lines."""
         for (other_phase, other), known in self.best.items():
             if other_phase == phase and known.digest != sample.digest:
                 sys.exit(f"{phase.name}: {program} and {other} print different lines")
@@ -116,13 +111,11 @@ class Results:
         return list(dict.fromkeys(phase for phase, _ in self.best))
 
     def speed(self, phase: Phase, program: str) -> float | None:
-        """Returns the program's speed relative to the peer, or None if there is no peer."""
         if (phase, PEER) not in self.best:
             return None
         return self.best[phase, PEER].cpu / self.best[phase, program].cpu
 
     def growth(self, programs: Sequence[str]) -> dict[str, list[tuple[int, float]]]:
-        """Returns for each program the load batch by batch: the pairs after the batch, and nanoseconds per command."""
         load = next(phase for phase in self.phases() if phase.name == LOAD)
         lengths = load.batches()
         ends = list(itertools.accumulate(lengths))

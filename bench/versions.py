@@ -30,12 +30,10 @@ SECTIONS = "articles", "reviews", "users/profile", "documents/public"
 
 
 def random_keys(chance: random.Random, pairs: int) -> list[str]:
-    """Returns random keys of 16 bytes."""
     return ["".join(f"%{byte:02X}" for byte in chance.randbytes(16)) for _ in range(pairs)]
 
 
 def named_keys(chance: random.Random, pairs: int) -> list[str]:
-    """Returns keys such as `user:000001:name`, in random order."""
     return chance.sample([f"user:{at // len(FIELDS):06}:{FIELDS[at % len(FIELDS)]}" for at in range(pairs)], pairs)
 
 
@@ -61,14 +59,11 @@ ORDERS: dict[str, Callable[[list[str]], list[str]]] = {"in no order": list, "in 
 
 
 def length_of(key: str) -> int:
-    """Returns the length of an escaped key in bytes."""
     return len(key) - 2 * key.count("%")
 
 
 @dataclass
 class VersionTimes:
-    """The measurements of one kind of keys in one log version."""
-
     flush: list[Sample] = field(default_factory=list)
     recovery: list[Seconds] = field(default_factory=list)
     clean: list[Sample] = field(default_factory=list)
@@ -88,7 +83,6 @@ def log_ends(path: Path) -> tuple[int, int]:
 
 
 def write_load(work: Workload, keys: list[str], version: int, text: Path) -> None:
-    """Writes a load in long batches, in this log version, and a flush."""
     with open(text, "w") as file:
         file.write(MARK + "upgrade\n" * (version == 2))
         for start in range(0, len(keys), LONG):
@@ -98,7 +92,6 @@ def write_load(work: Workload, keys: list[str], version: int, text: Path) -> Non
 
 
 def time_flush(program: StoreProgram, keys: list[str], version: int, text: Path) -> Sample:
-    """Makes the store, and times its flush alone."""
     running = TimedProgram(program.create_command(len(keys)), text)
     for lines in (version, len(keys), 1):
         running.phase([lines])
@@ -108,7 +101,6 @@ def time_flush(program: StoreProgram, keys: list[str], version: int, text: Path)
 
 
 def time_orders(program: StoreProgram, order: str, count: int, text: Path) -> Sample:
-    """Times `count` such orders on the store after recovery."""
     text.write_text(MARK + f"{order}\n" * count)
     running = TimedProgram(program.open_command(), text)
     running.phase([1])
@@ -118,7 +110,6 @@ def time_orders(program: StoreProgram, order: str, count: int, text: Path) -> Sa
 
 
 def rows_digest(program: StoreProgram, text: Path) -> str:
-    """Returns the digest of all recovered pairs."""
     text.write_text("scan % * 4294967295\n")
     with open(text, "rb") as file:
         return hashlib.blake2b(subprocess.run(program.open_command(), stdin=file, stdout=subprocess.PIPE, check=True).stdout).hexdigest()
@@ -142,7 +133,6 @@ def measure_once(program: StoreProgram, work: Workload, keys: list[str], version
 
 
 def measure(program: StoreProgram, work: Workload, name: str, keys: list[str], repeats: int, text: Path) -> dict[int, VersionTimes]:
-    """Measures both versions in turn. Both must recover the same pairs."""
     found, digests = {version: VersionTimes() for version in VERSIONS}, set()
     for _ in range(repeats):
         for version in VERSIONS:

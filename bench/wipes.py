@@ -167,7 +167,6 @@ def hold(running: TimedProgram) -> float:
 
 
 def run_session(command: Command, text: Path, session: WipeSession) -> tuple[list[Sample], list[int]]:
-    """Returns the phases' samples, and the peak memory of each above the memory in use before it, in bytes."""
     running = TimedProgram(command, text, PIPE)
     running.phase([1, *session.load.lines()])
     samples: list[Sample] = []
@@ -190,7 +189,6 @@ Memory = dict[tuple[Phase, str], int]  # by phase and program
 
 
 def measure(work: Workload, commands: dict[str, Command], options: argparse.Namespace, folder: Path) -> tuple[Results, Memory]:
-    """Returns the results, and each program's least memory in each phase, in bytes."""
     results, text = Results(), folder / "session"
     memory: Memory = {}
     for session in sessions(work):
@@ -219,14 +217,12 @@ def print_phases(results: Results, memory: Memory, names: Sequence[str]) -> None
 
 
 def print_others(results: Results, names: Sequence[str]) -> None:
-    """Prints the figures of the peers that visit all pairs."""
     for name in names:
         took = [f"{phase.name} {sample.cpu * 1000:,.1f} ms" for (phase, program), sample in results.best.items() if program == name]
         print(f"{name}: {', '.join(took)}")
 
 
 def print_quotients(results: Results, names: Sequence[str]) -> None:
-    """Prints the ratio of seconds for each pair of phases."""
     seconds = {(phase.name, name): sample.cpu for (phase, name), sample in results.best.items()}
     rows = []
     for part, whole in BY.items():

@@ -19,8 +19,6 @@ LOAD, HALF = "load", "half gets, half puts"  # memory is measured after these ph
 
 @dataclass(frozen=True)
 class Phase:
-    """Commands that are timed together, in batches of one length."""
-
     name: str
     count: int
     batch: int
@@ -69,7 +67,6 @@ class Workload:
         return (f"put {key} {self.value(at + salt)}" for at, key in enumerate(keys))
 
     def half(self, keys: Iterable[str], salt: int) -> Iterator[str]:
-        """Yields gets and puts alternately."""
         for at, key in enumerate(keys):
             yield f"put {key} {self.value(at + salt)}" if at % 2 else f"get {key}"
 
@@ -85,11 +82,9 @@ class Workload:
         return (f"scan {lo} {hi} {rows}" for lo, hi, _ in self.ranges(keys, rows))
 
     def open_scans(self, keys: Iterable[str], rows: int) -> Iterator[str]:
-        """Yields scans without an upper bound."""
         return (f"scan {key} * {rows}" for key in keys)
 
     def lines_of_scans(self, keys: Iterable[str], rows: int) -> list[int]:
-        """Returns the number of lines printed for each scan: the row count, and the rows."""
         return [1 + count for _, _, count in self.ranges(keys, rows)]
 
     def zipf(self) -> list[str]:

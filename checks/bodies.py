@@ -50,7 +50,6 @@ class Edit:
         return f"{self.crate}/{self.name}"
 
     def apply(self, folder: Path) -> str | None:
-        """Applies the edit to a copy of the crate. Returns an error text if it does not apply."""
         path = folder / self.file
         text = path.read_text()
         for old, new in self.changes:
@@ -128,8 +127,6 @@ def verdict_of(edit: Edit, status: int, printed: str) -> Verdict:
 
 
 def refusals_of(edit: Edit, line: str, printed: str) -> list[str]:
-    """Returns the goals that the prover could not prove, and those whose proof fails. Steps that cite a name which the edit removed do not count:
-    they say nothing about a contract."""
     found = re.search(r"did not prove ((?:`[^`]+`(?:, )?)+)", line)
     goals = re.findall(r"`([^`]+)`", found[1]) if found else []
     folder = f"proofs/{edit.function.replace('::', '/')}/"

@@ -134,7 +134,6 @@ EMPTIED = [FailingCalls("length"), FailingCalls("cut"), FailingCalls("cut", 2), 
 
 
 def stay_empty(programs: Programs, library: Path, name: str) -> Outcome:
-    """Runs an example on an empty file while calls fail. The file must remain empty."""
     program = programs.examples / name
     if not program.is_file():
         return Outcome(left_out="it is not built: python3 examples/run.py builds it")
@@ -181,7 +180,6 @@ ON_OLD_FILE = [
 
 
 def fail_on_old_file(programs: Programs, library: Path, fails: FailingCalls, text: bytes, out: bytes, err: bytes) -> Outcome:
-    """Fails calls on an old file, whose bytes must not change."""
     with failing_store(programs, library) as store:
         store.make(b"put a 1\nflush\n", b"new\nflushed 2\n")
         before = store.file.read_bytes()
@@ -235,7 +233,6 @@ SYNCS = [
 
 
 def count_syncs(programs: Programs, library: Path) -> Outcome:
-    """Fails the syncs from each number on, to count them: the session ends with a fault exactly if it makes that many."""
     with failing_store(programs, library) as store:
         for is_new, text, count in SYNCS:
             words = store.create_words() if is_new else store.open_words()

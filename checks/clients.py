@@ -17,7 +17,6 @@ SESSIONS = 40  # of the shell example, which fill such a log more than once
 
 
 def run_tests(programs: Programs, name: str) -> Outcome:
-    """Runs a test class. Warnings, such as an unclosed pipe, are errors."""
     command = [sys.executable, "-B", "-W", "error", "-m", "unittest", f"test_taukremil.{name}"]
     environment = {**os.environ, "BWSH": str(programs.store)}
     ran = subprocess.run(command, cwd=CLIENTS / "python", env=environment, capture_output=True, timeout=PATIENCE)

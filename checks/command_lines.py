@@ -112,7 +112,6 @@ def start(programs: Programs, folder: str, line: str, text: bytes = TEXT) -> Run
 
 
 def check_settings(programs: Programs) -> Outcome:
-    """Checks the settings in a new store's first bytes, in an empty and in a non-empty file."""
     for line, numbers in SETTINGS:
         with new_folder() as folder:
             path = Path(folder) / "store"
@@ -163,7 +162,6 @@ def find_file(programs: Programs, line: str, path: str | None, is_made: bool) ->
 
 
 def wrong_refusal(ran: RunResult, error: bytes) -> str | None:
-    """Checks that a session is refused with this error before it reads its input."""
     is_right = ran.status == 2 and not ran.out and ran.err.startswith(error) and not ran.read
     return None if is_right else f"{ran.describe()}, and read {ran.read} bytes, where {error!r} was expected"
 

@@ -28,7 +28,6 @@ REDIRECTED: list[tuple[str, tuple[str, ...], bytes]] = [
 
 
 def wrong_store(programs: Programs, path: Path, scanned: bytes = SCANNED, length: int | None = None) -> str | None:
-    """Compares the store in this file with the expected scan and, if given, the expected length."""
     ran = run([programs.store, "--disk", path], SCAN + b"verify\n")
     if ran.status or ran.err or not ran.out.startswith(scanned + b"ok "):
         return f"the copy has {ran.describe()}"
@@ -163,7 +162,6 @@ def copy_to_no_file(programs: Programs) -> Outcome:
 
 
 def copy_too_long(programs: Programs) -> Outcome:
-    """Copies to a file with a length limit. Nothing is run, and the file is empty."""
     with new_folder() as folder:
         copy = Path(folder) / "copy"
         ran = run([programs.store, *LARGE, "--copy-to", copy], PUTS, Limits(file_blocks=8))
@@ -171,7 +169,6 @@ def copy_too_long(programs: Programs) -> Outcome:
 
 
 def copy_over_locked(programs: Programs) -> Outcome:
-    """Copies to a file that another process has locked. Nothing is run."""
     with new_folder() as folder:
         copy = Path(folder) / "copy"
         copy.write_bytes(b"")
@@ -228,7 +225,6 @@ def end_early(programs: Programs, words: tuple[str, ...], text: bytes, status: i
 
 
 def refuse_before_copy(programs: Programs) -> Outcome:
-    """Runs sessions that are refused before they start. The copy's file is not created."""
     with new_folder() as folder:
         store, copy = Path(folder) / "store", Path(folder) / "copy"
         before = make(programs, store)
@@ -356,7 +352,6 @@ def close(programs: Programs, closed: str) -> Outcome:
 
 
 def closed_pipe(programs: Programs) -> Outcome:
-    """Closes the pipe of the answers. The session ends with that fault, and nothing is copied."""
     with new_folder() as folder:
         copy = Path(folder) / "copy"
         dialog = Dialog(programs.store, *SMALL_STORE, "--copy-to", copy)

@@ -25,7 +25,6 @@ TALK = [
 
 
 def check_answers(programs: Programs) -> Outcome:
-    """Sends lines, and expects exactly their answers before it sends more. The last line has no line feed."""
     dialog = Dialog(programs.store)
     for text, answers in TALK:
         dialog.send(text)
@@ -51,7 +50,6 @@ STOPS = [
 
 
 def stop(programs: Programs, number: int) -> Outcome:
-    """Checks that a bad line or a refused batch ends a session while its input is open."""
     words, text, out, ended = STOPS[number]
     dialog = Dialog(programs.store, *words)
     dialog.send(text)
@@ -61,7 +59,6 @@ def stop(programs: Programs, number: int) -> Outcome:
 
 
 def close_answers(programs: Programs) -> Outcome:
-    """Closes the answers' pipe while a session waits for a line."""
     dialog = Dialog(programs.store)
     dialog.send(b"put a 1\ngo\n")
     first = dialog.read_line()

@@ -20,8 +20,6 @@ Lines = list[str]
 
 @dataclass(frozen=True)
 class ExampleCommand:
-    """An input line, its answer, and whether it is flushed."""
-
     line: str
     answer: str
     is_durable: bool = True
@@ -29,8 +27,6 @@ class ExampleCommand:
 
 @dataclass(frozen=True)
 class ReadBack:
-    """The lines by which a new session reads the whole file, and their answers."""
-
     lines: Lines
     answers: Lines
 
@@ -148,8 +144,6 @@ def first_wrong_line(lines: Lines, expected: Lines) -> str:
 
 @dataclass
 class KilledExample:
-    """An example's file, how many commands it holds, and before which commands a session began."""
-
     name: str
     program: Path
     path: Path
@@ -247,7 +241,6 @@ STEPS = b"2 replies\nflushed %d\nget: 5 bytes\nrange: [107, 101, 121] [118, 97, 
 
 
 def run_first_steps(programs: Programs) -> Outcome:
-    """Runs the first program twice: it creates its store, and then opens it."""
     program = programs.examples / "first_steps"
     if why := why_left_out(program):
         return Outcome(left_out=why)
@@ -257,7 +250,6 @@ def run_first_steps(programs: Programs) -> Outcome:
 
 
 def put_then_get(programs: Programs) -> Outcome:
-    """Puts pairs, which the program reads back, and checks the file."""
     program = programs.examples / "put_then_get"
     if why := why_left_out(program):
         return Outcome(left_out=why)

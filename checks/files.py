@@ -24,7 +24,6 @@ Pairs = dict[bytes, bytes]
 
 
 def changes(writer: int, time: int) -> list[tuple[bytes, bytes]]:
-    """Returns puts of keys that no other session uses, each with a flush."""
     return [(b"w%d.%d" % (writer, number % KEYS), b"%d.%d" % (time, number)) for number in range(CHANGES)]
 
 
@@ -54,7 +53,6 @@ def after_writer(ran: RunResult, puts: list[tuple[bytes, bytes]], pairs: Pairs) 
 
 
 def after_readers(readers: list[RunResult], moments: list[Pairs]) -> str | None:
-    """Checks reading sessions. Each must print the pairs of one moment, or be refused and print nothing."""
     for ran in readers:
         is_refused = ran.is_fault(FAULT) and not ran.out
         is_right = ran.status == 0 and any(ran.out == rows(pairs) for pairs in moments)
@@ -64,7 +62,6 @@ def after_readers(readers: list[RunResult], moments: list[Pairs]) -> str | None:
 
 
 def run_together(programs: Programs, path: Path, time: int, pairs: Pairs) -> tuple[Pairs, int, str | None]:
-    """Starts two writers and two readers. Returns the pairs afterwards, the number of refused sessions, and an error."""
     first, second = changes(0, time), changes(1, time)
     texts = [batch_file(first), SCAN, batch_file(second), SCAN]
     with tempfile.TemporaryDirectory(dir=path.parent) as folder:
@@ -128,7 +125,6 @@ def as_nobody() -> list[str] | None:
 
 
 def read_only(programs: Programs) -> Outcome:
-    """Checks that a read-only file is read and verified, but not written."""
     user = as_nobody()
     if user is None:
         return Outcome(left_out="no program can be started as another user here")

@@ -84,7 +84,6 @@ def rising() -> bytes:
 
 
 def empty_leaves() -> bytes:
-    """Makes empty leaves that the tree does not reach."""
     return fitting_disk([ONE_PAIR, *[full_leaf(pid, b"", {}) for pid in range(1, LEAVES + 1)]])
 
 
@@ -112,7 +111,6 @@ def many_segments() -> bytes:
 
 
 def key_of(number: int, length: int) -> bytes:
-    """Returns a key of this length; keys differ only in the last byte."""
     return b"k" * (length - 1) + bytes([number])
 
 
@@ -139,7 +137,6 @@ def byte_short() -> bytes:
 
 
 def last_length() -> bytes:
-    """Makes a frame whose length field has the greatest value."""
     return disk_of(Settings(), [ONE_PAIR, b"\2" + b"\xff" * 16])
 
 
@@ -193,14 +190,12 @@ def wrong_cost(ran: RunResult, least: int, length: int) -> str | None:
 
 
 def read_file(command: Command, path: Path, disk: bytes, ending: Ending) -> tuple[RunResult, str | None]:
-    """Runs a session that reads the whole file. It must not write to the file."""
     ran = run([*command, "--disk", path], READ_ALL)
     wrong = differs(ran, *ending)
     return ran, wrong or (None if path.read_bytes() == disk else "the session wrote to the file that it only read")
 
 
 def write_file(command: Command, path: Path, line: bytes, answer: bytes, ending: Ending) -> tuple[RunResult, str | None]:
-    """Runs a session that writes, and checks what the next session reads."""
     ran = run([*command, "--disk", path], line)
     return ran, differs(ran, 0, answer) or differs(run([*command, "--disk", path], READ_ALL), *ending)
 
@@ -230,7 +225,6 @@ def check_disk(programs: Programs, number: int) -> Outcome:
 
 
 def climb(programs: Programs, workers: int) -> Outcome:
-    """Changes and empties both leaves of the tallest tree, and checks the answers and what the next session reads."""
     keys = [b"%c%d" % (first, number) for first in b"ac" for number in range(8)]
     put = b"".join(b"put %s 1\n" % key for key in keys) + b"go\nscan % * 100\nflush\n"
     rows = b"rows 18\n" + b"".join(b"%s %s\n" % pair for pair in sorted([(b"a", b"1"), (b"c", b"3"), *[(key, b"1") for key in keys]]))
@@ -247,7 +241,6 @@ def climb(programs: Programs, workers: int) -> Outcome:
 
 
 def compare_times(programs: Programs) -> Outcome:
-    """Compares the reading times of prefix-compressed keys and of whole keys of one byte."""
     with new_folder() as folder:
         seconds = []
         kinds: list[tuple[Callable[..., bytes], int]] = [(full_leaf, 1), (shared_leaf, 1), (shared_leaf, LONGEST)]

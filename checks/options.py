@@ -148,7 +148,6 @@ def explain(programs: Programs, words: tuple[str, ...], text: bytes, out: bytes 
 
 
 def explain_files(programs: Programs) -> Outcome:
-    """Explains a locked file, a folder, and a file without a store. Each line begins with the path."""
     with new_folder() as folder:
         path = Path(folder) / "store"
         path.write_bytes(b"0123456789")
@@ -171,7 +170,6 @@ def run_explained(programs: Programs, path: Path, text: bytes) -> RunResult:
 
 
 def wrong_explanation(ran: RunResult, first: bytes, path: Path, end: bytes) -> str | None:
-    """Compares the two lines of errors."""
     front = first + f"{path}: ".encode()
     is_right = ran.status == 4 and not ran.out and ran.err.startswith(front) and ran.err.endswith(end)
     return None if is_right else f"{ran.describe()}, where {front!r} .. {end!r} were expected"
@@ -236,7 +234,6 @@ def print_numbers_of_file(programs: Programs) -> Outcome:
 
 
 def clean_when_full(programs: Programs) -> Outcome:
-    """Checks --clean-when-full: one clean makes room, as an explicit `clean` does."""
     words: Command = [programs.store, *SMALL_STORE, "--clean-when-full"]
     out = b"new\nflushed 2\n" + b"".join(b"replaced\nflushed %d\n" % number for number in range(3, 19))
     out += b"replaced\ncleaned 1\nflushed 20\nvalue 0123456789abcdef\n"

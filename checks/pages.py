@@ -54,7 +54,6 @@ def commands(page: str) -> Iterator[Command]:
 
 
 def link_programs(programs: Programs, folder: Path) -> None:
-    """Links the built programs into `out`, where the pages expect them."""
     (folder / "out").mkdir()
     (folder / "out/bwsh").symlink_to(programs.store)
     for source in EXAMPLES.glob("*/src"):
@@ -63,7 +62,6 @@ def link_programs(programs: Programs, folder: Path) -> None:
 
 
 def run_command(command: Command, folder: Path) -> Outcome:
-    """Runs a command, which must succeed, and compares its output. Skips programs that are not built."""
     for name in re.findall(r"\bout/(\w+)", command.text):
         if not (folder / "out" / name).exists():
             return Outcome(left_out=f"{name} isn't built")
@@ -100,7 +98,6 @@ def run_client(programs: Programs) -> Outcome:
 
 
 def indented(text: str) -> list[str]:
-    """Returns a page's indented blocks, without the indentation."""
     blocks = re.findall(r"(?:^    .*\n(?:\n+(?=    ))?)+", text, re.MULTILINE)
     return [re.sub(r"^    ", "", block, flags=re.MULTILINE) for block in blocks]
 

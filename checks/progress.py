@@ -35,7 +35,6 @@ SESSIONS = [
 
 
 def progress_of(*texts: bytes) -> bytes:
-    """Returns the bytes that show these texts and erase the last one."""
     return b"".join([*(START + text + END for text in texts), ERASED])
 
 
@@ -46,7 +45,6 @@ def make(programs: Programs, path: Path) -> None:
 
 
 def compare_sessions(programs: Programs, number: int) -> Outcome:
-    """Runs a session with and without progress, and compares all but the progress."""
     words, text, status, out, err, is_opened = SESSIONS[number]
     with new_folder() as folder:
         path, other = Path(folder) / "file", Path(folder) / "other"
@@ -148,7 +146,6 @@ def kill(programs: Programs) -> Outcome:
 
 
 def make_copy(programs: Programs) -> Outcome:
-    """Checks that --copy-to shows progress after the answers, but not if the copy is refused."""
     with new_folder() as folder:
         path, first, second = (Path(folder) / name for name in ("file", "first", "second"))
         make(programs, path)
@@ -172,7 +169,6 @@ def wrong_segments(ran: RunResult, path: Path, first: bytes, done: bytes, segmen
 
 
 def run_slow(programs: Programs, library: Path, words: tuple[str, ...]) -> Outcome:
-    """Recovers and copies a store whose file is slow."""
     with new_folder() as folder:
         path, copy = Path(folder) / "file", Path(folder) / "copy"
         ran = run([programs.store, *WIDE, "--stat", "--create", "--disk", path], LOADED + b"flush\n")
@@ -189,7 +185,6 @@ def run_slow(programs: Programs, library: Path, words: tuple[str, ...]) -> Outco
 
 
 def full(programs: Programs) -> Outcome:
-    """Fills the log: the session ends as without progress."""
     words = ["--max-key=16", "--max-value=16", "--seg-size=512", "--segments=3", "--fan=4"]
     text = b"".join(b"put a %d\nflush\n" % number for number in range(200))
     plain = run([programs.store, *words], text)

@@ -33,8 +33,6 @@ FILE = re.compile(r"file (\S+) (\d+|none|kept)")
 
 @dataclass
 class Step:
-    """One run of the program: its preparation, options, input and expected results."""
-
     line: int
     changes: list[tuple[str, str, int]]
     words: list[list[str]] = field(default_factory=list)
@@ -55,7 +53,6 @@ class WrittenSession:
 
 
 def bytes_of(line: str) -> bytes:
-    """Decodes a line of the session file, with its line feed."""
     body = line.encode().removesuffix(b"\\")
     if b"\\" in ESCAPE.sub(b"", body):
         raise ValueError(f"an unknown escape: {line}")
@@ -72,8 +69,6 @@ def lines_of(found: re.Match[str]) -> bytes:
 
 
 class SessionFileReader:
-    """Reads a file of sessions."""
-
     def __init__(self, path: Path) -> None:
         self.sessions: list[WrittenSession] = []
         self.changes: list[tuple[str, str, int]] = []
@@ -119,7 +114,6 @@ def change_file(change: str, path: Path, length: int) -> None:
 
 
 def wrong_file(path: Path, expected: str, before: bytes | None) -> str | None:
-    """Compares a file with its expected length, or with its bytes before the step."""
     now = path.read_bytes() if path.exists() else None
     if expected == "kept":
         return None if now == before and now is not None else f"{path.name} has other bytes"
@@ -150,7 +144,6 @@ def run_session(programs: Programs, session: WrittenSession) -> Outcome:
 
 
 def read_sessions() -> list[tuple[str, WrittenSession]]:
-    """Returns the sessions of all files, with the file's name."""
     return [(path.stem, session) for path in sorted(FOLDER.glob("*.session")) for session in SessionFileReader(path).sessions]
 
 

@@ -63,7 +63,6 @@ def run_on(programs: Programs, session: StreamSession, path: Path, closed: str =
 
 
 def wrong_copy(session: StreamSession, path: Path, is_done: bool) -> str | None:
-    """Checks the copy: it has the store's pairs, or is empty or missing if the session failed."""
     copy = copy_of(path)
     made = copy.read_bytes() if copy.exists() else b""
     if session.copied is None or not is_done:

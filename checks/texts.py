@@ -14,8 +14,6 @@ SMALL_MEMORY = 100 * MEGABYTE
 
 @dataclass(frozen=True)
 class HostileText:
-    """A batch file, how its session must end, and limits of processor seconds and bytes of memory."""
-
     name: str
     make: Callable[[], bytes]
     ending: Ending
@@ -59,7 +57,6 @@ DELETES = 20_000  # each with a scan that passes over all leaves emptied so far
 
 
 def deletes_and_scans() -> bytes:
-    """Deletes all pairs in key order, and after each delete scans one row from the start."""
     return puts(DELETES) + b"".join(b"del %06d\nscan %% * 1\n" % number for number in range(DELETES))
 
 
@@ -123,7 +120,6 @@ def run_text(programs: Programs, number: int) -> Outcome:
 
 
 def ending_of_line(byte: int) -> Ending:
-    """Returns how a session ends whose input is a line of this byte."""
     return NOTHING if byte in b" \t\r\n#" else bad_line("unknown command")
 
 
@@ -145,7 +141,6 @@ def run_bytes(programs: Programs) -> Outcome:
 
 
 def run_escapes(programs: Programs) -> Outcome:
-    """Puts and reads back keys and values with all bytes."""
     puts = b"".join(b"put %%%02x %%%02X%%%02x\n" % (byte, byte, 255 - byte) for byte in range(256))
     rows = b"".join(token(bytes([byte])) + b" " + token(bytes([byte, 255 - byte])) + b"\n" for byte in range(256))
     ran = run([programs.store], puts + b"scan % * 4294967295\n")
@@ -159,7 +154,6 @@ def run_drawn(programs: Programs, workers: int) -> Outcome:
 
 
 def run_in_memory(programs: Programs) -> Outcome:
-    """Uses the greatest number of segments in memory."""
     ran = run([programs.store, "--segments", "65536"], b"put a 1\n")
     dear = None
     if ran.seconds > SLOW or ran.memory > SMALL_MEMORY:

@@ -21,7 +21,6 @@ def key(place: int) -> bytes:
 
 
 def queue_batch(number: int) -> bytes:
-    """Returns a batch that puts fifty keys and deletes the previous fifty."""
     lines = []
     for place in range(number * EACH, (number + 1) * EACH):
         lines.append(b"put %s %%\n" % key(place))
@@ -43,7 +42,6 @@ def bytes_of(token: bytes) -> bytes:
 
 
 def pages(out: bytes) -> list[int]:
-    """Returns the page counts of all verifies."""
     return [int(line.split()[1]) for line in out.splitlines() if line.startswith(b"ok ")]
 
 
@@ -126,7 +124,6 @@ def clean_often(programs: Programs) -> Outcome:
 
 
 def stops(programs: Programs) -> Outcome:
-    """Checks that a bad line, a full log and a closed output end a session as without --tidy."""
     text, out = queue(0, 6)
     words: Command = [programs.store, *QUEUE, "--tidy=99"]
     ran = run([*words, "--stream"], text + b"flush\nfrob\nget a\n")

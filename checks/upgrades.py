@@ -38,7 +38,6 @@ def answer_to_upgrade(slot: Slot) -> bytes:
 
 
 def make(programs: Programs, path: Path, text: bytes, *words: str) -> tuple[bytes, Slot, Ending]:
-    """Makes a store in a file. Returns the file, its slot, and how a session ends that reads all of it."""
     ran = run([programs.store, "--disk", path, "--create", *words], text + b"flush\n")
     if ran.status:
         raise ValueError(f"the file was not made: {ran.describe()}")

@@ -17,8 +17,6 @@ LONG = b"0123456789abcdef"
 
 @dataclass(frozen=True)
 class WorkedExample:
-    """A worked example: the old file's length, the lines, the session's ending, and the expected frames and slots."""
-
     number: str
     held: int
     text: bytes

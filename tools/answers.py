@@ -10,7 +10,6 @@ ENCODED_BYTES = [bytes([byte]) if 0x21 <= byte <= 0x7E and byte != 0x25 else b"%
 
 
 def token(text: bytes) -> bytes:
-    """Escapes a key or a value as the program prints it."""
     return b"".join([ENCODED_BYTES[byte] for byte in text]) or b"%"
 
 

@@ -14,8 +14,6 @@ SMALL_STORE = ("--fan=4", "--chain=2", "--max-key=16", "--max-value=16", "--seg-
 
 @dataclass(frozen=True)
 class Programs:
-    """The programs under test: `bwsh`, the crates' test programs, and the folder of the examples."""
-
     store: Path
     tests: dict[str, Path] = field(default_factory=dict)
     examples: Path = Path("examples/out")
@@ -23,8 +21,6 @@ class Programs:
 
 @dataclass(frozen=True)
 class Outcome:
-    """The outcome of a case: the error, the reason why the case was skipped, and what was measured."""
-
     wrong: str | None = None
     left_out: str | None = None
     measured: str = ""

@@ -13,7 +13,6 @@ def drawn_range(chance: random.Random, key: bytes) -> tuple[bytes, bytes | None]
 
 
 def drawn_command(chance: random.Random, pairs: OrderedMap, weights: list[int], keys: int, value: bytes) -> tuple[bytes, list[bytes]]:
-    """Returns the line of a random command, and the lines of its reply."""
     key = b"%x" % chance.randrange(keys)
     name = chance.choices(["put", "del", "get", "scan", "wipe"], weights)[0]
     if name == "put":

@@ -23,14 +23,12 @@ Lines = list[bytes]
 
 
 def changes(number: int) -> dict[bytes, bytes | None]:
-    """Returns the changes of this batch by key; None deletes a key. The first change is a put, so that each flush has something to write."""
     keys = [b"k%d" % ((number * 37 + at * 11) % KEYS) for at in range(1 + number % 5)]
     value = b"%d" % number + b"." * (number % 40)
     return {key: value if at == 0 or number // 100 % 2 == 0 else None for at, key in enumerate(keys)}
 
 
 def wiped_range(number: int) -> tuple[bytes, bytes | None] | None:
-    """Returns the bounds of the batch's wipe, if it begins with one. One in ten batches does."""
     first = number * 7 % KEYS
     if number % 10 != 9:
         return None
@@ -50,7 +48,6 @@ def batch_file(numbers: Iterable[int]) -> bytes:
 
 
 def play(pairs: OrderedMap, number: int) -> Lines:
-    """Runs a batch and its flush on the model, and returns the expected lines. A new store has sequence number 1."""
     bounds = wiped_range(number)
     lines = pairs.wipe(*bounds) if bounds else []
     for key, value in changes(number).items():
@@ -78,7 +75,6 @@ def read_back_after(number: int) -> Lines:
 
 
 def whole_lines(output: bytes) -> Lines:
-    """Drops an incomplete last line."""
     return output.split(b"\n")[:-1]
 
 
@@ -112,7 +108,6 @@ class KilledStore:
         return status, out.read_bytes(), seconds
 
     def read_back(self) -> Lines:
-        """Returns the recovered pairs, or how the reading session ended."""
         ended = subprocess.run([*self.program, "--disk", self.path], input=READ_BACK, capture_output=True)
         if ended.returncode:
             return [b"status %d: %s" % (ended.returncode, ended.stderr.strip())]
@@ -145,8 +140,6 @@ def time_whole_run(program: Sequence[Path], batches: int, folder: Path) -> float
 
 @dataclass(frozen=True)
 class KillOptions:
-    """How many kills there are in all and per store, how many batches a session has, and the seed."""
-
     kills: int = 20
     lives: int = 4
     batches: int = 1_000

@@ -14,8 +14,6 @@ BatchCommand = tuple[Any, ...]  # its name and arguments; a missing bound is Non
 
 
 class OrderedMap:
-    """An ordered map of byte strings. Each command returns the lines of its reply."""
-
     def __init__(self, pairs: dict[bytes, bytes] | None = None) -> None:
         self.pairs = dict(pairs or {})
         self.keys = sorted(self.pairs)
@@ -74,15 +72,12 @@ class OrderedMap:
 
 @dataclass(frozen=True)
 class StoreState:
-    """The contents of a file: the pairs, and the numbers of the slot."""
-
     pairs: dict[bytes, bytes] = field(default_factory=dict)
     sequence: int = 1
     head: int = 0
     version: int = 0
 
     def describe(self, other: "StoreState | None") -> str:
-        """Describes this state in a line, with the first pair that differs from `other`."""
         pairs = sorted(set(self.pairs.items()) ^ set((other or self).pairs.items()))
         difference = f" ({len(pairs)} differ, as {pairs[0]})" if pairs else ""
         return f"sequence number {self.sequence}, head {self.head}, version {self.version}, {len(self.pairs)} pairs{difference}"
@@ -111,7 +106,6 @@ class StoreModel:
         self.file, self.settings, self.map = state, settings, OrderedMap(state.pairs)
 
     def fault_of(self, place: int, command: BatchCommand) -> bytes | None:
-        """Returns the fault that refuses the command at this place of a batch, if any."""
         name, *words = command
         keys, values = (words[:1], words[1:]) if name in ("put", "add") else (words[:2], [])
         if any(len(key) > self.settings.max_key for key in keys if key is not None):

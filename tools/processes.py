@@ -53,8 +53,6 @@ class Limits:
 
 @dataclass(frozen=True)
 class RunResult:
-    """The result of a run. `status` is negative for a signal; `read` counts the input bytes that were consumed."""
-
     status: int
     out: bytes
     err: bytes
@@ -85,7 +83,6 @@ def exit_if_missing(program: Path) -> None:
 
 
 def pipe_of(stream: IO[bytes] | None) -> IO[bytes]:
-    """Returns a standard stream of a child process that was started with a pipe."""
     assert stream is not None
     return stream
 
@@ -94,7 +91,6 @@ def pipe_of(stream: IO[bytes] | None) -> IO[bytes]:
 
 
 def process_status(pid: int) -> dict[str, str]:
-    """Returns the fields of /proc/PID/status, or none after the process has ended."""
     try:
         return dict(line.split(":\t", 1) for line in Path(f"/proc/{pid}/status").read_text().splitlines())
     except (OSError, ValueError):
@@ -116,7 +112,6 @@ def resident_memory(pid: int) -> int:
 
 
 def processor_seconds(pid: int) -> float:
-    """Returns the user and system seconds of all threads of a process."""
     return time.clock_gettime((~pid << 3) | 2)
 
 
@@ -174,7 +169,6 @@ class BackgroundRun:
 
 
 def start(command: Command, text: bytes, folder: Path) -> BackgroundRun:
-    """Starts a program in the background, with its files in a new `folder`."""
     folder.mkdir()
     source, out, err = (folder / name for name in ("source", "out", "err"))
     source.write_bytes(text)
@@ -209,8 +203,6 @@ def run_until(
 
 
 class PipedProgram:
-    """A program whose standard streams are pipes to this process."""
-
     def __init__(self, command: Command) -> None:
         pipe = subprocess.PIPE
         self.process = subprocess.Popen(command, stdin=pipe, stdout=pipe, stderr=pipe, bufsize=0, env=NO_VARIABLES)
@@ -235,17 +227,14 @@ class PipedProgram:
         return line + feed
 
     def is_silent(self) -> bool:
-        """Returns whether the program prints nothing for 0.1 seconds."""
         return not self.unread and not select.select([self.output], [], [], 0.1)[0]
 
     def finish(self) -> tuple[int, bytes, bytes]:
-        """Closes the input and waits for the end. Returns the status, the remaining output and the errors."""
         self.input.close()
         out, err = self.unread + self.output.read(), self.errors.read()
         return self.process.wait(PATIENCE), out, err
 
     def finish_unread(self) -> tuple[int, bytes]:
-        """Waits for the end of a program whose output was closed. Returns its status and errors."""
         status, err = self.process.wait(PATIENCE), self.errors.read()
         self.input.close()
         return status, err
@@ -258,8 +247,6 @@ class PipedProgram:
 
 
 class Dialog(PipedProgram):
-    """A `--stream` session, which answers each batch before it reads the next."""
-
     def __init__(self, program: Path, *words: object) -> None:
         super().__init__([program, "--stream", *map(str, words)])
 

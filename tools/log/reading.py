@@ -31,8 +31,6 @@ class Frame:
 
 @dataclass
 class LoggedPage:
-    """A page in the log: its base and its runs, oldest first."""
-
     base: Frame
     runs: list[Frame]
 
@@ -54,8 +52,6 @@ class LoggedPage:
 
 @dataclass
 class StoredState:
-    """The store in a file: its pairs in key order, its numbers of pages and levels, and its slot."""
-
     pairs: list[tuple[bytes, bytes]]
     pages: int
     height: int
@@ -173,7 +169,6 @@ def read_frame(text: bytes, at: int, end: int, version: int, settings: Settings)
 
 
 def read_frames(text: bytes, number: int, end: int, is_last: bool, version: int, settings: Settings) -> list[Frame]:
-    """Returns the frames of a segment, up to its end or the end of the log."""
     if text[:HEADER] != header(number):
         raise BadStore(f"fault 14 BadSegment {number}")
     at, frames = HEADER, []
@@ -218,8 +213,6 @@ def pages_by_log(frames: list[Frame]) -> dict[int, LoggedPage]:
 
 @dataclass(frozen=True)
 class PlaceInTree:
-    """A page in the tree, and the key range that its parent assigns to it."""
-
     pid: int
     low: bytes
     end: bytes | None
@@ -234,7 +227,6 @@ class PlaceInTree:
 
 
 def rule_broken(place: PlaceInTree, page: LoggedPage | None, level: int, is_root: bool, before: set[int], settings: Settings) -> int | None:
-    """Returns the lowest-numbered rule that this page breaks, or None."""
     if page is None:
         return 2
     entries = page.entries()

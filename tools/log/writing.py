@@ -12,8 +12,6 @@ MOST = 2**62  # of positions and sequence numbers
 
 @dataclass(frozen=True)
 class Settings:
-    """The settings of a store. The defaults are those of `bwsh`."""
-
     fan: int = 16
     chain: int = 4
     max_key: int = 64
@@ -52,7 +50,6 @@ class Slot:
 
 
 def counted(text: bytes) -> bytes:
-    """Encodes a byte string with its length before it."""
     return struct.pack(">H", len(text)) + text
 
 
@@ -123,7 +120,6 @@ def header(segment: int) -> bytes:
 
 
 def segments_of(settings: Settings, frames: Iterable[bytes]) -> list[bytes]:
-    """Returns the segments filled by these frames, each up to its last frame."""
     segments = [bytearray(header(0))]
     for each in frames:
         if len(segments[-1]) + len(each) > settings.seg_size:
@@ -133,7 +129,6 @@ def segments_of(settings: Settings, frames: Iterable[bytes]) -> list[bytes]:
 
 
 def disk_with(settings: Settings, slots: Iterable[Slot], segments: Iterable[bytes]) -> bytes:
-    """Returns a file with these slots and first segments, and zeros elsewhere."""
     disk = bytearray(settings.disk_length())
     disk[:64] = settings.block()
     for slot in slots:
@@ -144,7 +139,6 @@ def disk_with(settings: Settings, slots: Iterable[Slot], segments: Iterable[byte
 
 
 def disk_of(settings: Settings, frames: Iterable[bytes], root: int = 0, height: int = 1, version: int = 0) -> bytes:
-    """Returns a file with one commit, whose log begins in the first segment."""
     segments = segments_of(settings, frames)
     tail = (len(segments) - 1) * settings.seg_size + len(segments[-1])
     return disk_with(settings, [Slot(1, 0, tail, root, height, version)], segments)

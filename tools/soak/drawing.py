@@ -20,8 +20,6 @@ ORDERS = {"go": 6.0, "flush": 8.0, "clean": 3.0, "upgrade": 0.3, "verify": 1.0}
 
 
 class DrawnStore:
-    """A store's random settings and keys, and its sessions' batch files."""
-
     def __init__(self, chance: random.Random) -> None:
         self.chance = chance
         is_small, fan = self.happens(0.7), chance.choice([4, 4, 5, 7, 8, 16, 64])
@@ -38,7 +36,6 @@ class DrawnStore:
         return self.chance.random() < probability
 
     def bad_setting(self) -> dict[str, int]:
-        """Returns a setting that is out of range, by itself or because a page's longest frame does not fit in a segment."""
         if self.longest > 256 and self.happens(0.2):
             return {"seg_size": self.longest - 1}
         name, (least, most) = self.chance.choice(list(zip(vars(self.settings), LIMITS)))

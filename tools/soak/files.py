@@ -43,8 +43,6 @@ def tear(chance: random.Random, before: bytes, written: bytes, kind: int) -> byt
 
 
 class CrashingFile:
-    """A store's file: its bytes at the last sync, and the writes since then."""
-
     def __init__(self, path: Path) -> None:
         self.path, self.synced = path, b""
         self.pending: list[tuple[int, bytes]] = []
@@ -96,7 +94,6 @@ class CrashingFile:
 
 
 def widen(disk: bytes) -> tuple[bytes, Settings]:
-    """Returns the same store with more segments, and its previous settings."""
     settings, slot = read_settings(disk), read_store(disk).slot
     wide = replace(settings, segments=4 * settings.segments + 100)
     image = bytearray(wide.disk_length())

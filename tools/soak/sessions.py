@@ -43,7 +43,6 @@ def describe(state: StoreState | None, other: StoreState | None) -> str:
 
 
 def count_answered(orders: Sequence[Order], out: bytes) -> int:
-    """Returns how many orders have complete answers. Raises Difference unless the output is a prefix of the expected output."""
     lines, at = out.split(b"\n")[:-1], 0
     for number, order in enumerate(orders):
         for expected in order.printed:
@@ -65,8 +64,6 @@ def count_answered(orders: Sequence[Order], out: bytes) -> int:
 
 @dataclass
 class SoakSession:
-    """A session: its arguments, lines and orders, the failure injected by c/soak.c, and the result."""
-
     words: list[str]
     lines: list[bytes]
     text: bytes
@@ -79,7 +76,6 @@ class SoakSession:
     letters: frozenset[str] = frozenset()
 
     def has_failed(self, failures: str) -> bool:
-        """Returns whether the failure was injected, and is one of these."""
         return "D" in self.letters and self.failure in failures
 
     def ended_by_failure(self, answered: int) -> bool:
@@ -102,8 +98,6 @@ class SoakSession:
 
 
 class Soak:
-    """Runs one store after the other, all in one file."""
-
     def __init__(self, program: Path, seed: int, folder: Path, plant: str | None = None) -> None:
         self.program, self.seed, self.folder, self.plant = program, seed, folder, plant
         self.library = build_c_library(LIBRARY, folder)
@@ -141,7 +135,6 @@ class Soak:
         return out.read_bytes()
 
     def draw(self, drawn: DrawnStore, is_full: bool) -> SoakSession:
-        """Draws a session on the file's store, or one that makes a store if there is none."""
         is_new = drawn.happens(0.01 if self.content.state else 0.7)
         words = ["--create"] * is_new + [f"--{name.replace('_', '-')}={value}" for name, value in vars(drawn.settings).items() if is_new]
         workers = self.chance.choice([1, 1, 1, 2, 3, 8])
@@ -264,7 +257,6 @@ class Soak:
             raise Difference(f"the log was not full at order {answered}, {orders[-1].name}: the tail would be {slot.tail}")
 
     def flip(self, drawn: DrawnStore) -> None:
-        """Plants a fault: flips a bit in the log's last byte."""
         disk = bytearray(self.file.read())
         tail = read_store(bytes(disk)).slot.tail - 1
         disk[drawn.settings.place(tail // drawn.settings.seg_size) + tail % drawn.settings.seg_size] ^= 1
@@ -302,7 +294,6 @@ class Soak:
             yield
 
     def report(self, difference: Difference) -> None:
-        """Prints the failed session, and saves its files."""
         (self.folder / "before").write_bytes(self.before)
         print(f"store {self.number}: `--seed {self.seed} --first {self.number}` begins with it. The session that failed:", *self.command)
         for name in ("text", "out", "err"):
