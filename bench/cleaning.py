@@ -1,5 +1,5 @@
 #!/usr/bin/env python3
-"""Measures a store whose log is cleaned when it is full; README.md says what is measured, and how to build the program."""
+"""Measures a store whose log is cleaned when it is full. README.md describes the measurement and how to build the program."""
 
 import argparse
 import subprocess
@@ -12,12 +12,10 @@ POLICIES = ["never", "full", "early"]
 
 @dataclass
 class PolicyRun:
-    """What a run took, by steps: seconds by the clock, and bytes that were written to the disk."""
-
     policy: str
-    steps: dict[str, list[float]] = field(default_factory=dict)  # by word: the seconds of each
-    written: dict[str, int] = field(default_factory=dict)  # by word: the bytes of all
-    rounds: list[float] = field(default_factory=list)  # the seconds of each batch with its flush and its cleans
+    steps: dict[str, list[float]] = field(default_factory=dict)  # seconds of each step of this kind
+    written: dict[str, int] = field(default_factory=dict)  # total bytes of the steps of this kind
+    rounds: list[float] = field(default_factory=list)  # seconds of each batch, with its flush and cleans
     pairs: int = 0
 
     def add(self, word: str, seconds: float, written: int) -> None:
@@ -25,7 +23,7 @@ class PolicyRun:
         self.written[word] = self.written.get(word, 0) + written
 
     def total(self) -> float:
-        """Returns the seconds of all steps except the load with its flush, and the making of the batches."""
+        """Returns the seconds of all steps except the load, the load's flush and the generation of the batches."""
         return sum(self.rounds)
 
 
@@ -81,8 +79,8 @@ HEAD += "longest batch ms,longest flush ms,longest clean ms,longest round ms".sp
 
 def main() -> None:
     parser = argparse.ArgumentParser(description=__doc__)
-    parser.add_argument("program", help="the built program of cleaning/main.rt.in")
-    parser.add_argument("--repeats", type=int, default=1, help="how often each policy is run; the shortest counts")
+    parser.add_argument("program", help="path of the program built from cleaning/main.rt.in")
+    parser.add_argument("--repeats", type=int, default=1, help="runs of each policy; the shortest is reported")
     options = parser.parse_args()
     print("| " + " | ".join(HEAD) + " |")
     print("|" + "---|" * len(HEAD))

@@ -1,5 +1,5 @@
 #!/usr/bin/env python3
-"""Measures commands a second from Python: the client beside sqlite3, LMDB and dbm.gnu; README.md says how."""
+"""Measures commands per second from Python: the client compared with sqlite3, LMDB and dbm.gnu. README.md describes the measurement."""
 
 import argparse
 import contextlib
@@ -25,14 +25,14 @@ from tools.processes import PROGRAM, exit_if_missing
 
 BATCHES = (1, 100, 10_000)
 PAIRS = 50_000
-CALLS = 2_000  # batches at the most, so that batches of one end in time
+CALLS = 2_000  # at most this many batches, so that batches of one command end in time
 SETTINGS = {"fan": 64, "chain": 16, "seg_size": 1_048_576, "segments": 256}
-MAP_SIZE = 1 << 30  # bytes that LMDB may map
+MAP_SIZE = 1 << 30  # size of LMDB's map in bytes
 Pair = tuple[bytes, bytes]
 
 
 class PythonStore(ABC):
-    """A store in a new folder. With `each` a batch is durable when its call returns; without it all batches are durable when `sync` has returned."""
+    """A store in a new folder. With `each`, a batch is durable when its call returns; otherwise all batches are durable after `sync`."""
 
     @abstractmethod
     def put(self, batch: list[Pair]) -> None:
@@ -52,7 +52,7 @@ class PythonStore(ABC):
 
 
 class ClientStore(PythonStore):
-    """`bwsh` by its client, at the other end of two pipes."""
+    """`bwsh`, used through its client over two pipes."""
 
     def __init__(self, program: Path, folder: Path, each: bool) -> None:
         self.store, self.each = Store(folder / "store", create=True, program=program, **SETTINGS), each
@@ -73,8 +73,6 @@ class ClientStore(PythonStore):
 
 
 class SqliteStore(PythonStore):
-    """SQLite with a WAL, and a transaction a batch."""
-
     def __init__(self, folder: Path, each: bool) -> None:
         self.database = sqlite3.connect(folder / "pairs.db", isolation_level=None)
         self.database.execute("PRAGMA journal_mode = WAL")
@@ -101,7 +99,7 @@ class SqliteStore(PythonStore):
 
 
 class LmdbStore(PythonStore):
-    """LMDB, by the package `lmdb`, and a transaction a batch."""
+    """LMDB through the package `lmdb`, with one transaction per batch."""
 
     def __init__(self, folder: Path, each: bool) -> None:
         self.environment = importlib.import_module("lmdb").open(str(folder), map_size=MAP_SIZE, sync=each)
@@ -123,7 +121,7 @@ class LmdbStore(PythonStore):
 
 
 class DbmStore(PythonStore):
-    """GDBM, by Python's `dbm.gnu`. It has no batches: a crash may leave some of one."""
+    """GDBM through Python's `dbm.gnu`. It has no batches: a crash may leave a part of one."""
 
     def __init__(self, folder: Path, each: bool) -> None:
         self.file, self.each = importlib.import_module("dbm.gnu").open(str(folder / "pairs"), "nf"), each
@@ -148,7 +146,6 @@ Open = Callable[[Path, bool], PythonStore]
 
 
 def measured_stores(program: Path) -> dict[str, Open]:
-    """Returns all stores that are measured, by name. Those whose package is not installed are left out."""
     found: dict[str, Open] = {
         "bwsh, by its client": lambda folder, each: ClientStore(program, folder, each),
         "sqlite3, WAL": SqliteStore,
@@ -166,8 +163,6 @@ def measured_stores(program: Path) -> dict[str, Open]:
 
 @dataclass(frozen=True)
 class Rates:
-    """Commands a second, by the clock: puts until all of them are durable, and gets of the same keys in another order."""
-
     puts: float
     gets: float
 
@@ -178,7 +173,6 @@ def pieces(items: list[Pair], length: int) -> Iterator[list[Pair]]:
 
 
 def pairs(count: int) -> list[Pair]:
-    """Returns pairs of 16 and 100 bytes, in random order."""
     source = random.Random(2)
     return [(source.randbytes(8).hex().encode(), source.randbytes(50).hex().encode()) for _ in range(count)]
 
@@ -200,7 +194,7 @@ def measure_once(opened: Open, all_pairs: list[Pair], batch: int, each: bool, fo
 
 
 def measure(options: argparse.Namespace) -> dict[str, dict[str, list[float]]]:
-    """Returns each store's median rates by way and batch size. They take turns, so that all meet what else runs."""
+    """Returns each store's median rates by mode and batch size. The stores take turns, so that other load affects all equally."""
     all_pairs, found = pairs(options.pairs), measured_stores(options.program)
     taken: dict[tuple[str, bool, int], list[Rates]] = {}
     for _ in range(options.repeats):
@@ -224,7 +218,7 @@ def measure(options: argparse.Namespace) -> dict[str, dict[str, list[float]]]:
 
 
 def show(figures: dict[str, dict[str, list[float]]]) -> None:
-    """Prints commands a second, in each cell for batches of 1, 100 and 10,000."""
+    """Prints commands per second; each cell has the figures for batches of 1, 100 and 10,000."""
     ways = list(next(iter(figures.values())))
     rows = [
         [name, *(" · ".join(f"{rate:,.0f}" for rate in rates[way]) for way in ways)] for name, rates in figures.items()
@@ -234,11 +228,11 @@ def show(figures: dict[str, dict[str, list[float]]]) -> None:
 
 def main() -> None:
     parser = argparse.ArgumentParser(description=__doc__)
-    parser.add_argument("--program", type=Path, default=PROGRAM, help="the built program")
-    parser.add_argument("--pairs", type=int, default=PAIRS, help=f"with batches of one {CALLS} at the most")
-    parser.add_argument("--repeats", type=int, default=3, help="each figure is their median")
-    parser.add_argument("--folder", type=Path, help="where the stores are made: on the disk that is to be measured")
-    parser.add_argument("--figures", type=Path, help="where the figures are written too, as JSON")
+    parser.add_argument("--program", type=Path, default=PROGRAM, help="path of bwsh")
+    parser.add_argument("--pairs", type=int, default=PAIRS, help=f"number of pairs; at most {CALLS} with batches of one command")
+    parser.add_argument("--repeats", type=int, default=3, help="runs; the median is reported")
+    parser.add_argument("--folder", type=Path, help="folder for the stores, on the disk to be measured")
+    parser.add_argument("--figures", type=Path, help="also write the figures to this file, as JSON")
     options = parser.parse_args()
     options.program = options.program.resolve()
     exit_if_missing(options.program)

@@ -1,9 +1,9 @@
 #!/usr/bin/env python3
-"""Counts what a batch costs, by valgrind's callgrind: instructions a command, and misses of a last cache of 2 MB, phase by phase.
+"""Counts what a batch costs, with valgrind's callgrind: instructions per command and misses of a 2 MB last-level cache, by phase.
 
-The same program on the same commands counts the same whatever else the machine does, so it compares two trees where times can't. It builds
-`crew/` without a proof over the crates of each tree (`tools/building.py`); the counts are of such builds alone. What other threads do is not counted, so
-batches are shorter than the 4,096 commands from which on some trees sort by several threads. It needs valgrind and a C compiler.
+The counts do not depend on the load of the machine, so they compare two trees more precisely than times do. Builds `crew/` without proofs from the
+crates of each tree. Other threads are not counted, so batches are shorter than the 4,096 commands from which several threads may sort. Needs
+valgrind and a C compiler.
 """
 
 import argparse
@@ -22,12 +22,11 @@ from tools import building
 HERE = Path(__file__).resolve().parent
 PHASES = ["load", "gets", "half", "singles", "deletes"]
 SETTINGS = {"64/16": (64, 16), "16/4": (16, 4)}
-Counted = dict[str, tuple[int, int]]  # by phase: instructions and misses
+Counted = dict[str, tuple[int, int]]  # by phase: instructions and cache misses
 CACHE = ["--cache-sim=yes", "--LL=2097152,16,64"]
 
 
 def build_counter(folder: Path) -> Path:
-    """Builds the library that has callgrind begin and end its counts."""
     counter = folder / "counted.so"
     compiler = shutil.which("gcc") or shutil.which("cc") or sys.exit("there is no C compiler")
     subprocess.run([compiler, "-O2", "-shared", "-fPIC", "-o", counter, HERE / "crew" / "counted.c"], check=True)
@@ -35,14 +34,12 @@ def build_counter(folder: Path) -> Path:
 
 
 def build_program(tree: Path, folder: Path) -> Path:
-    """Builds the program over the crates of this tree."""
     program = folder / "crew_bench"
     building.build_unproved(program.name, program, tree)
     return program
 
 
 def fields(text: str, name: str) -> list[str]:
-    """Returns the words of the line of this name in a dump of callgrind."""
     found = re.search(rf"^{name}: (.*)$", text, re.M)
     return found[1].split() if found else []
 
@@ -65,7 +62,7 @@ def count(program: Path, counter: Path, numbers: Sequence[int], folder: Path) ->
 
 
 def show(name: str, counted: Counted, first: Counted, commands: Mapping[str, int]) -> None:
-    """Prints the row of a tree: by phase the instructions and misses a command, and how far the instructions are from those of the first tree."""
+    """Prints a tree's row: instructions and misses per command by phase, and the difference in instructions from the first tree."""
     cells = []
     for phase in PHASES:
         instructions, misses = counted.get(phase, (0, 0))
@@ -77,11 +74,11 @@ def show(name: str, counted: Counted, first: Counted, commands: Mapping[str, int
 
 def main() -> None:
     parser = argparse.ArgumentParser(description=(__doc__ or "").splitlines()[0])
-    parser.add_argument("trees", nargs="*", type=Path, default=[HERE.parent], help="checkouts to be compared; this one where none is given")
+    parser.add_argument("trees", nargs="*", type=Path, default=[HERE.parent], help="checkouts to compare (default: this one)")
     parser.add_argument("--pairs", type=int, default=60_000)
     parser.add_argument("--batch", type=int, default=4_000, help="commands in a batch")
-    parser.add_argument("--value", type=int, default=100, help="bytes of a value, 200 at the most")
-    parser.add_argument("--singles", type=int, default=2_000, help="puts of one in a batch")
+    parser.add_argument("--value", type=int, default=100, help="bytes of a value, at most 200")
+    parser.add_argument("--singles", type=int, default=2_000, help="number of puts in batches of one command")
     parser.add_argument("--settings", nargs="*", choices=SETTINGS, default=list(SETTINGS))
     options = parser.parse_args()
     commands = dict.fromkeys(PHASES, options.pairs) | {"singles": options.singles}

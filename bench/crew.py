@@ -1,5 +1,5 @@
 #!/usr/bin/env python3
-"""Measures by the clock what more workers gain; README.md says what is measured, and how to build the program."""
+"""Measures the speedup by more workers, by the clock. README.md describes the measurement and how to build the program."""
 
 import argparse
 import itertools
@@ -25,14 +25,12 @@ PHASES = {"load": "load", "gets": "gets", "half": "half gets, half puts", "delet
 WORKERS = [1, 2, 3, 4, 64]
 GRAINS = [1, 8, 64, 512]
 MANY = 4  # workers with which the grains are compared
-GRAIN = 64  # with which the numbers of workers are compared
+GRAIN = 64  # grain with which the numbers of workers are compared
 
 Crew = tuple[int, int]  # workers and grain
 
 
 class Clock:
-    """The least time of each phase by the clock, in seconds, by kind of settings and crew."""
-
     def __init__(self) -> None:
         self.wall: dict[tuple[str, Crew, str], float] = {}
 
@@ -45,7 +43,7 @@ class Clock:
 
 
 def time_long_batches(command: Command) -> dict[str, float]:
-    """Returns for each phase the seconds of all its batches, from the line before a batch to the one after it."""
+    """Returns for each phase the total seconds of its batches."""
     took, last = dict.fromkeys(PHASES, 0.0), 0.0
     with subprocess.Popen(command, stdout=subprocess.PIPE, text=True, bufsize=1) as process:
         for line in process.stdout or ():
@@ -60,7 +58,6 @@ def time_long_batches(command: Command) -> dict[str, float]:
 
 
 def measure_long(clock: Clock, program: str, crews: Sequence[Crew], repeats: int) -> None:
-    """Runs all phases by each crew in turn, `repeats` times."""
     for _, kind, (workers, grain) in itertools.product(range(repeats), SETTINGS, crews):
         print(f"  long batches: {kind}, {workers} workers, grain {grain}", file=sys.stderr)
         numbers = map(str, (*SETTINGS[kind], workers, grain))
@@ -80,7 +77,6 @@ def short_phases(work: Workload) -> list[Phase]:
 
 
 def measure_short(clock: Clock, program: Path, crews: Sequence[Crew], phases: Sequence[Phase], repeats: int, text: Path) -> None:
-    """Runs the batch file by each crew in turn, `repeats` times; all crews must print the same."""
     write_phases(text, phases)
     digests: dict[tuple[str, str], str] = {}
     for _, kind, (workers, grain) in itertools.product(range(repeats), stores.SETTINGS, crews):
@@ -93,7 +89,6 @@ def measure_short(clock: Clock, program: Path, crews: Sequence[Crew], phases: Se
 
 
 def measure_recovery(clock: Clock, work: Workload, program: Path, repeats: int, folder: Path) -> None:
-    """Times the recovery of a store with all pairs, flushed at once."""
     store = StoreText("flushed at once", [Puts(work.keys, AT_END)])
     text = folder / "session"
     store.write(work, text)
@@ -105,7 +100,6 @@ def measure_recovery(clock: Clock, work: Workload, program: Path, repeats: int, 
 
 
 def print_workers(clock: Clock, phases: dict[str, str], crews: Sequence[Crew]) -> None:
-    """Prints seconds by the clock, and in brackets how many times as fast as the first crew."""
     for kind in SETTINGS:
         rows = []
         for phase, name in phases.items():
@@ -121,7 +115,6 @@ def print_grains(clock: Clock, crews: Sequence[Crew]) -> None:
 
 
 def draw(clock: Clock, crews: Sequence[Crew], path: Path) -> None:
-    """Draws how many times as fast as one worker each phase is, by workers up to four."""
     few = [crew for crew in crews if crew[0] <= 4]
     panels: dict[str, dict[str, list[tuple[int, float]]]] = {}
     for kind in SETTINGS:
@@ -134,10 +127,10 @@ def draw(clock: Clock, crews: Sequence[Crew], path: Path) -> None:
 
 def main() -> None:
     parser = argparse.ArgumentParser(description=__doc__)
-    parser.add_argument("calls", help="the built program of crew/main.rt.in")
-    parser.add_argument("--repeats", type=int, default=2, help="how often each is run; the least time counts")
+    parser.add_argument("calls", help="path of the program built from crew/main.rt.in")
+    parser.add_argument("--repeats", type=int, default=2, help="runs of each measurement; the least time is reported")
     parser.add_argument("--program", type=Path, default=PROGRAM)
-    parser.add_argument("--plot", type=Path, default=HERE / "crew.svg", help="where the plot is drawn: crew.svg")
+    parser.add_argument("--plot", type=Path, default=HERE / "crew.svg", help="file for the plot (default: crew.svg)")
     options = parser.parse_args()
     exit_if_missing(options.program)
     work, clock = Workload(1_000_000), Clock()

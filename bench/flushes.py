@@ -1,5 +1,5 @@
 #!/usr/bin/env python3
-"""Measures the flushes of the built program on its disk in memory; README.md says what is measured, and how."""
+"""Measures the flushes of the program with its in-memory disk. README.md describes the measurement."""
 
 import argparse
 import subprocess
@@ -16,12 +16,11 @@ from bench.workload import LONG, Workload
 from tools.processes import PROGRAM, pipe_of, status_bytes
 
 SETTINGS = "--fan 32 --chain 16 --seg-size 1048576 --segments 256".split()
-SEGMENT = 65_536  # bytes, with which the length of a flush is measured
-AGAIN = 20  # flushes after one put
+SEGMENT = 65_536  # bytes; used to measure the length of a flush
+AGAIN = 20  # flushes that follow one put each
 
 
 def write_text(path: Path, work: Workload, again: int = AGAIN) -> None:
-    """Writes a load in long batches, a flush, and then a put and a flush, a few times."""
     with open(path, "w") as file:
         file.write(MARK)
         for start in range(0, len(work.keys), LONG):
@@ -34,7 +33,6 @@ def write_text(path: Path, work: Workload, again: int = AGAIN) -> None:
 
 
 def fits(program: Path, path: Path, segments: int) -> bool:
-    """Returns whether the first flush fits in a log of `segments` segments with one of them free."""
     settings = f"--fan 32 --chain 16 --seg-size {SEGMENT} --segments {segments}".split()
     with open(path, "rb") as file:
         ended = subprocess.run([program, *settings], stdin=file, stdout=subprocess.DEVNULL, stderr=subprocess.PIPE)
@@ -44,7 +42,6 @@ def fits(program: Path, path: Path, segments: int) -> bool:
 
 
 def flushed_bytes(program: Path, path: Path, pairs: int) -> int:
-    """Returns how many bytes the first flush writes, up to a segment."""
     low, high = 0, 2 + 400 * pairs // SEGMENT
     while high - low > 1:
         middle = (low + high) // 2
@@ -59,8 +56,7 @@ def read(out: IO[bytes], expected: str) -> None:
 
 
 def measure(program: Path, work: Workload, path: Path) -> tuple[float, float, int, float]:
-    """Returns the seconds of the load and of the first flush, how many bytes of memory the flush took, and the median seconds of a flush after one
-    put."""
+    """Returns the seconds of the load and of the first flush, the memory of the flush in bytes, and the median seconds of a flush after one put."""
     with open(path, "rb") as file:
         process = subprocess.Popen([program, *SETTINGS], stdin=file, stdout=subprocess.PIPE)
     out = pipe_of(process.stdout)

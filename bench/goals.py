@@ -1,5 +1,5 @@
 #!/usr/bin/env python3
-"""Measures in one run what the engine has to reach beside its peers, and writes the figures to files; README.md says what is measured, and how."""
+"""Measures the engine against its performance goals and its peers, and writes the figures to files. README.md describes the measurement."""
 
 import argparse
 import contextlib
@@ -34,15 +34,14 @@ UNIT = "ns a command"  # of most rows
 RANGES = 100_000
 WORKERS = 4
 PARTS = ["speeds", "lengths", "many pairs", "ranges", "workers", "persistent"]
-OVER_LIBRARY = {"ranges": "range", "workers": "crew"}  # the parts that need a program over the library, and its name
+OVER_LIBRARY = {"ranges": "range", "workers": "crew"}  # the parts that need a program that uses the library, and the program's name
 
 Goals = dict[str, float]  # by settings
-Figures = dict[str, Any]  # as they are written to a file
+Figures = dict[str, Any]  # in the JSON file
 Row = dict[str, Any]
 
 
 def goals(big: float, small: float | None = None) -> Goals:
-    """Returns the goals with each of the settings, if there are any."""
     return {name: number for name, number in ((BIG, big), (SMALL, small)) if number is not None}
 
 
@@ -62,7 +61,6 @@ GoalSession = list[tuple[Phase, Goals]]  # the phases of one batch file
 
 
 def speed_sessions(work: Workload) -> list[GoalSession]:
-    """Returns the sessions with pairs of the usual lengths."""
     few, starts = work.shuffled[: len(work.keys) // 5], work.shuffled[: len(work.keys) // 50]
     loaded = load(work), goals(1.0, 0.6)
 
@@ -122,13 +120,11 @@ def row(
     runs: Mapping[str, list[float]] | None = None,
     most: bool = False,
 ) -> Row:
-    """Returns a row of the table: figures by program, and what is reached and the goals by settings. With `most` a goal is an upper bound."""
+    """Returns a row of the table: figures by program, and results and goals by settings. With `most`, a goal is an upper bound."""
     return {"name": name, "commands": commands, "unit": unit, "figures": figures, "is": reached, "wanted": wanted, "most": most, "all": runs or {}}
 
 
 class GoalBench:
-    """The programs, and the folder of the batch files."""
-
     def __init__(self, options: argparse.Namespace, folder: Path) -> None:
         self.options, self.folder, self.text = options, folder, folder / "session"
         self.peer = build_rust_peer(folder)
@@ -136,11 +132,10 @@ class GoalBench:
         self.commands |= {name: [options.program, "--fan", str(fan), "--chain", str(chain)] for name, (fan, chain) in SETTINGS.items()}
 
     def in_turn(self, names: Iterable[str]) -> Iterator[str]:
-        """Yields the programs in turn, as often as is asked for."""
         return (name for _ in range(self.options.repeats) for name in names)
 
     def run(self, sessions: Sequence[GoalSession], names: Sequence[str]) -> tuple[Results, dict[Phase, Goals]]:
-        """Returns the results of these sessions by these programs, and the goals of each phase."""
+        """Runs these sessions with these programs. Returns the results, and the goals of each phase."""
         results = Results()
         wanted: dict[Phase, Goals] = {}
         for session in sessions:
@@ -154,7 +149,6 @@ class GoalBench:
         return results, wanted
 
     def speeds(self, results: Results, wanted: dict[Phase, Goals]) -> list[Row]:
-        """Returns a row for each phase, by processor time."""
         rows = []
         for phase, goal in wanted.items():
             runs = {name: times for (of, name), times in results.seconds.items() if of == phase}
@@ -164,7 +158,7 @@ class GoalBench:
         return rows
 
     def memory(self, results: Results, work: Workload) -> list[Row]:
-        """Returns how much memory a pair takes in comparison with its raw bytes."""
+        """Returns the memory per pair as a multiple of the pair's own bytes."""
         rows = []
         for phase, after, goal in ((LOAD, "the load", goals(1.6, 2.0)), (HALF, "half and half", goals(2.2, 2.6))):
             figures = {name: taken for (of, name), taken in results.memory.items() if of == phase}
@@ -173,7 +167,6 @@ class GoalBench:
         return rows
 
     def usual(self) -> tuple[list[Row], Mapping[str, Any]]:
-        """Returns the rows of the usual lengths with those of memory, and the load batch by batch."""
         work = Workload(self.options.pairs)
         results, wanted = self.run(speed_sessions(work), list(self.commands))
         return self.speeds(results, wanted) + self.memory(results, work), results.growth(list(self.commands))
@@ -190,7 +183,6 @@ class GoalBench:
         return self.speeds(*self.run(many_sessions(work), [name for name in self.commands if name != SMALL]))
 
     def ranges(self) -> list[Row]:
-        """Measures ranges of 100 rows by `Store::range`, which copies nothing, by processor time."""
         peer = build_rust_peer(self.folder, "range/peer.rs") if self.peer else None
         commands: dict[str, list[str | Path]] = {PEER: [*peer]} if peer else {}
         commands |= {name: [self.options.library / "range_bench", str(fan), str(chain)] for name, (fan, chain) in SETTINGS.items()}
@@ -211,7 +203,6 @@ class GoalBench:
         return [row("ranges of 100 rows, by `Store::range`", RANGES, UNIT, figures, reached, goal, runs)]
 
     def workers(self) -> list[Row]:
-        """Measures four workers beside one, by the clock, only the calls."""
         runs: dict[tuple[str, str, int], list[float]] = {}
         for name, workers in itertools.product(self.in_turn(SETTINGS), (1, WORKERS)):
             print(f"  {workers} workers: {name}", file=sys.stderr)
@@ -230,7 +221,6 @@ class GoalBench:
 
 
 def row_of_flushes(figures: Figures) -> Row:
-    """Compares a flush for each 1,000 commands with one for each 65,535, on a file, by the clock."""
     few, many, goal = persistent.FEW, persistent.MANY, goals(0.7, 0.6)
     names = [name for name in (persistent.LOGGED, *goal) if name in figures["stores"]]
     shown = {f"{name}, {commits.name()}": persistent.rate(figures, name, commits) for name in names for commits in (many, few)}
@@ -239,7 +229,6 @@ def row_of_flushes(figures: Figures) -> Row:
 
 
 def machine() -> Figures:
-    """Returns what the figures were taken on: the machine and the commit."""
     model = next((line.split(":")[1].strip() for line in Path("/proc/cpuinfo").read_text().splitlines() if line.startswith("model name")), "unknown")
     commit = subprocess.run(["git", "-C", HERE, "describe", "--always", "--dirty", "--abbrev=9"], capture_output=True, text=True).stdout.strip()
     now = datetime.datetime.now(datetime.timezone.utc).strftime("%Y-%m-%d %H:%M UTC")
@@ -247,13 +236,12 @@ def machine() -> Figures:
 
 
 def is_older(program: Path, other: Path) -> bool:
-    """Returns whether the program is missing, or older than the other one, and so may be of an older engine."""
+    """Returns whether the program is missing or older than the other one, so that it may have an older engine."""
     return not program.exists() or program.stat().st_mtime < other.stat().st_mtime
 
 
 def build_library(options: argparse.Namespace) -> list[str]:
-    """Builds the programs over the library that are missing or older than the program, and returns the parts that cannot be measured for want of
-    one."""
+    """Builds the programs that are missing or out of date. Returns the parts that cannot be measured because their program could not be built."""
     programs = {part: options.library / f"{name}_bench" for part, name in OVER_LIBRARY.items() if part in options.only}
     for program in programs.values():
         if is_older(program, options.program) and options.unproved:
@@ -264,7 +252,7 @@ def build_library(options: argparse.Namespace) -> list[str]:
 
 
 def measure(options: argparse.Namespace) -> None:
-    """Measures all parts, and writes the figures to the file after each of them. A part whose program is missing is left out."""
+    """Measures all parts, and saves the figures after each. Parts whose program is missing are skipped."""
     left_out = build_library(options)
     figures: Figures = machine() | {"note": options.note, "unproved": options.unproved, "repeats": options.repeats, "rows": [], "minutes": {}}
     figures["load before"] = os.getloadavg()[0]
@@ -302,7 +290,6 @@ def number(value: float, unit: str) -> str:
 
 
 def verdict(each: Row, name: str) -> str:
-    """Returns what is reached of the goal, in bold if the goal is reached."""
     if name not in each["wanted"]:
         return "–"
     if name not in each["is"]:
@@ -314,18 +301,16 @@ def verdict(each: Row, name: str) -> str:
 
 
 def title(each: Row) -> str:
-    """Returns the name of a row, with its unit if that is not the one of most rows."""
     return str(each["name"]) if each["unit"] == UNIT else f"{each['name']}, {each['unit']}"
 
 
 def cell_of(each: Row, name: str) -> str:
-    """Returns the figures of this program: one, or one for each way in which it was run. The peer with a file counts as the peer."""
+    """Returns a program's figures: one, or one for each mode. The peer with a file counts as the peer."""
     found = [number(value, each["unit"]) for of, value in each["figures"].items() if of.startswith(name)]
     return " beside ".join(found)
 
 
 def print_goals(figures: Figures) -> None:
-    """Prints when and where the figures were taken, and the table of the goals."""
     proved = "unproved builds" if figures["unproved"] else "the proved programs"
     runs = f"the least of {figures['repeats']} runs in turn" if figures["repeats"] > 1 else "one run"
     minutes = ", ".join(f"{part} {taken:.1f}" for part, taken in figures["minutes"].items())
@@ -343,7 +328,6 @@ def print_goals(figures: Figures) -> None:
 
 
 def shown_tables(figures: Figures) -> dict[str, str]:
-    """Returns what is printed, by the name of its place in the README."""
     tables: dict[str, tuple[Callable[[Figures], None], Figures]] = {"goals": (print_goals, figures)}
     if "persistent" in figures:
         tables["stores"] = persistent.show_stores, figures["persistent"]
@@ -357,12 +341,11 @@ def shown_tables(figures: Figures) -> dict[str, str]:
 
 
 def as_in_readme(line: str) -> str:
-    """Returns a line of a table as the documents have them, without bars at its ends."""
     return line.removeprefix("| ").removesuffix(" |").removeprefix("|").removesuffix("|") if line.startswith("|") else line
 
 
 def write_readme(shown: Mapping[str, str]) -> None:
-    """Puts the tables into the README, each between two comments with its name."""
+    """Replaces the tables in the README, each between two comments with its name."""
     path = HERE / "README.md"
     text = path.read_text()
     for name, tables in shown.items():
@@ -376,18 +359,18 @@ def write_readme(shown: Mapping[str, str]) -> None:
 
 def arguments() -> argparse.Namespace:
     parser = argparse.ArgumentParser(description=__doc__)
-    parser.add_argument("--pairs", type=int, default=1_000_000, help="of the usual rows; there are rows of four times, and stores of half as many")
-    parser.add_argument("--repeats", type=int, default=3, help="how often each is run; the least counts")
+    parser.add_argument("--pairs", type=int, default=1_000_000, help="pairs in most rows; some use four times as many, stores in files half")
+    parser.add_argument("--repeats", type=int, default=3, help="runs of each measurement; the least is reported")
     parser.add_argument("--only", nargs="+", choices=PARTS, default=PARTS, metavar="PART", help=", ".join(PARTS))
     parser.add_argument("--program", type=Path, default=PROGRAM)
-    parser.add_argument("--library", type=Path, default=building.BUILT, help="where range_bench and crew_bench are, and are built if they are missing")
-    parser.add_argument("--unproved", action="store_true", help="notes that the programs are built without proofs, and builds so what is missing")
-    parser.add_argument("--folder", default="/var/tmp", help="where the stores are made: on the disk that is to be measured (/var/tmp)")
-    parser.add_argument("--figures", type=Path, default=HERE / "goals.json", help="where the figures are written")
-    parser.add_argument("--plot", type=Path, default=HERE / "goals.svg", help="where the plot is drawn")
-    parser.add_argument("--note", default="", help="a remark on this run, which is printed with the figures")
-    parser.add_argument("--readme", action="store_true", help="puts the tables into README.md too")
-    parser.add_argument("--show", action="store_true", help="measures nothing: prints and draws the figures that are there")
+    parser.add_argument("--library", type=Path, default=building.BUILT, help="folder of range_bench and crew_bench, which are built if missing")
+    parser.add_argument("--unproved", action="store_true", help="record that the programs are unproved, and build missing ones without proofs")
+    parser.add_argument("--folder", default="/var/tmp", help="folder for the stores, on the disk to be measured (default: /var/tmp)")
+    parser.add_argument("--figures", type=Path, default=HERE / "goals.json", help="file for the figures")
+    parser.add_argument("--plot", type=Path, default=HERE / "goals.svg", help="file for the plot")
+    parser.add_argument("--note", default="", help="a remark that is printed with the figures")
+    parser.add_argument("--readme", action="store_true", help="also update the tables in README.md")
+    parser.add_argument("--show", action="store_true", help="do not measure; print and draw the existing figures")
     return parser.parse_args()
 
 

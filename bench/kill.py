@@ -1,5 +1,6 @@
 #!/usr/bin/env python3
-"""Kills the program with a store in a file, in and between its flushes, and compares what is recovered with what was answered; README.md says how."""
+"""Kills sessions of the program on a store in a file, during and between flushes, and compares the recovered pairs with the answers. README.md
+describes the test."""
 
 import argparse
 import shutil
@@ -19,12 +20,12 @@ DEFAULT = KillOptions()
 def arguments() -> argparse.Namespace:
     parser = argparse.ArgumentParser(description=__doc__)
     parser.add_argument("--kills", type=int, default=DEFAULT.kills)
-    parser.add_argument("--lives", type=int, default=DEFAULT.lives, help="how often a store is killed before the next is made")
-    parser.add_argument("--batches", type=int, default=DEFAULT.batches, help="how many batches a whole session has, each with a flush")
+    parser.add_argument("--lives", type=int, default=DEFAULT.lives, help="kills per store, before a new store is made")
+    parser.add_argument("--batches", type=int, default=DEFAULT.batches, help="batches per session, each with a flush")
     parser.add_argument("--seed", type=int, default=DEFAULT.seed)
     parser.add_argument("--program", type=Path, default=PROGRAM)
-    parser.add_argument("--peer", action="store_true", help="kills the peer in place of the program")
-    parser.add_argument("--folder", type=Path, help="where the folder with the stores is made; it is kept if something is wrong")
+    parser.add_argument("--peer", action="store_true", help="kill the peer instead of the program")
+    parser.add_argument("--folder", type=Path, help="parent folder of the stores; their folder is kept if a check fails")
     options = parser.parse_args()
     if not options.peer:
         exit_if_missing(options.program)

@@ -1,4 +1,4 @@
-"""Builds the programs with which the store is compared."""
+"""Builds the peer programs with which the store is compared."""
 
 import shutil
 import subprocess
@@ -9,7 +9,7 @@ from tools.processes import Command
 
 HERE = Path(__file__).resolve().parent
 PEER = "BTreeMap"
-NATIVE_PEERS = {  # the program in peers/, the compiler's words, and the package that it needs
+NATIVE_PEERS = {  # the source in peers/, the compiler's arguments, and the package that it needs
     "LMDB": ("lmdb.c", ["cc", "-O2"], "liblmdb-dev"),
     "LevelDB": ("leveldb.cc", ["c++", "-O2"], "libleveldb-dev"),
     "RocksDB": ("rocksdb.cc", ["c++", "-O2", "-std=c++17"], "librocksdb-dev"),
@@ -17,7 +17,6 @@ NATIVE_PEERS = {  # the program in peers/, the compiler's words, and the package
 
 
 def build_rust_peer(folder: Path, source: str = "peer.rs") -> list[Path] | None:
-    """Builds a peer from a source of the bench. Returns its command, or None if there is no rustc on this machine."""
     if shutil.which("rustc") is None:
         print("There is no rustc on this machine: the program is measured alone.")
         return None
@@ -27,7 +26,6 @@ def build_rust_peer(folder: Path, source: str = "peer.rs") -> list[Path] | None:
 
 
 def build_native_peer(name: str, folder: Path) -> Path | None:
-    """Builds the program of this peer, and returns its path, or None if its package is not installed."""
     source, compiler, package = NATIVE_PEERS[name]
     program = folder / source.split(".")[0]
     command: Command = [*compiler, "-o", program, HERE / "peers" / source, f"-l{program.name}"]

@@ -1,5 +1,5 @@
 #!/usr/bin/env python3
-"""Measures durable commits and recovery beside persistent stores, by the clock; README.md says what is measured, and how."""
+"""Measures durable commits and recovery of this and other persistent stores, by the clock. README.md describes the measurement."""
 
 import argparse
 import base64
@@ -30,20 +30,18 @@ from tools.processes import PROGRAM, Command, exit_if_missing, pipe_of, processo
 HERE = Path(__file__).resolve().parent
 PAIRS = 500_000
 SHORT = 1_000
-SPACING = 65  # short batches that have one flush, to see the flush apart from the batches
+SPACING = 65  # batches followed by a single flush, to separate the cost of batches from that of flushes
 SETTINGS: StoreSettings = {"fan 64, chain 16": (["--fan", "64", "--chain", "16"], 1_048_576), "defaults": ([], 65_536)}
 LOGGED = f"{PEER} and a log of commands"
 SORTED, RELAXED = "LMDB, batches sorted before", "SQLite, WAL, NORMAL"
 PYTHON = [sys.executable, "-I"]
 PYTHON_START = "python's start"
 
-Figures = dict[str, Any]  # as they are written to a file
+Figures = dict[str, Any]  # in the JSON file
 
 
 @dataclass(frozen=True)
 class Commits:
-    """How many pairs a batch has, and how many batches a durable commit has."""
-
     batch: int
     batches: int = 1
 
@@ -59,8 +57,8 @@ BOTH = (FEW, MANY)
 
 
 class RandomPairs:
-    """The pairs in the order in which they are put, which is random: keys of 16 bytes, values of 100. Values are random with six bits in each byte,
-    so that the compression that some stores use by default (Snappy) does not make them smaller."""
+    """Pairs in random order, with keys of 16 bytes and values of 100. Values have six random bits per byte, so that compression (some stores use
+    Snappy by default) does not shrink them."""
 
     def __init__(self, count: int) -> None:
         source = random.Random(2)
@@ -76,10 +74,10 @@ class RandomPairs:
             file.writelines(f"{key} {value}\n" for key, value in zip(self.keys, self.values))
 
     def write_text(self, path: Path, commits: Commits) -> bytes:
-        """Writes the batch file, and returns what a store prints for it after the first line, which shows that the text was read."""
+        """Writes the batch file. Returns the expected output after the first line, which shows that the input was read."""
         printed: list[str] = []
         last = -(-len(self.keys) // commits.batch)
-        flushes = 1  # the sequence number of a new store, to which each flush adds 1
+        flushes = 1  # the sequence number of a new store; each flush adds 1
         with open(path, "w") as file:
             file.write("get 0\ngo\n")
             for number, batch in enumerate(self.batches(commits.batch), 1):
@@ -92,7 +90,7 @@ class RandomPairs:
         return "".join(printed).encode()
 
     def write_gets(self, path: Path, batch: int) -> int:
-        """Writes a batch file of gets of a missing key, in batches of this length, and returns how many there are."""
+        """Writes a file of gets of a missing key in batches of this length. Returns the number of gets."""
         with open(path, "w") as file:
             file.write("get 0\ngo\n")
             for pairs in self.batches(batch):
@@ -102,8 +100,8 @@ class RandomPairs:
 
 @dataclass
 class StoreTimes:
-    """What one run took, in seconds by the clock and of the processor: until the text was read and the store open; from there to the last commit; and
-    a new process from its start to the answer to a get. And how many bytes the files have on the disk."""
+    """Clock and processor seconds of one run: until the input was read and the store was open, until the last commit, and of a new process that
+    answers one get. Also the size of the files in bytes."""
 
     ready: float
     load: float
@@ -114,7 +112,7 @@ class StoreTimes:
 
 
 class NativeStore:
-    """A store of a library, by a program of `peers/` (`pairs.h` has the words that it takes)."""
+    """A store that is used through a program of `peers/`, with the arguments described in `pairs.h`."""
 
     def __init__(self, command: Sequence[str | Path], folder: Path, *last: str) -> None:
         self.command, self.folder, self.last = command, folder, last
@@ -129,20 +127,16 @@ class NativeStore:
         return StoreTimes(ready - start, done - ready, taken - before)
 
     def until(self, child: subprocess.Popen[bytes], line: bytes) -> tuple[float, float]:
-        """Waits until the program prints this line. Returns the time by the clock, and the processor seconds that the program has taken."""
         printed = pipe_of(child.stdout).readline()
         if printed != line:
             sys.exit(f"{child.args!r}: the output has {printed!r}, where {line!r} was expected")
         return time.monotonic(), processor_seconds(child.pid)
 
     def question(self, key: str) -> tuple[Command, bytes]:
-        """Returns the command that gets this key, and its standard input."""
         return [*self.command, "get", self.folder, key], b""
 
 
 class BatchFileStore:
-    """`bwsh`, or the peer with a log of commands, which reads a batch file."""
-
     def __init__(self, program: StoreProgram) -> None:
         self.program, self.folder = program, program.disk.parent
 
@@ -162,8 +156,6 @@ class BatchFileStore:
 
 
 class StoreTexts:
-    """What the programs read: the pairs, and a batch file for each kind of commits, with its answers."""
-
     def __init__(self, pairs: RandomPairs, folder: Path) -> None:
         self.pairs, self.count = folder / "pairs", len(pairs.keys)
         self.batch_files: dict[Commits, Path] = {}
@@ -178,7 +170,7 @@ MeasuredStore = NativeStore | BatchFileStore
 
 
 def measured_stores(program: Path, programs: Path, disks: Path) -> dict[str, MeasuredStore]:
-    """Returns all that is measured, by name. The programs are built into the folder `programs`, and their stores are made in `disks`."""
+    """Returns the measured stores by name. Builds programs into `programs`; the stores' files go into `disks`."""
     found: dict[str, MeasuredStore] = {}
     for name, (settings, seg_size) in SETTINGS.items():
         found[name] = BatchFileStore(StoreProgram([program], settings, seg_size, disks / name / "store"))
@@ -198,7 +190,6 @@ def measured_stores(program: Path, programs: Path, disks: Path) -> dict[str, Mea
 
 
 def drop_from_memory(folder: Path) -> None:
-    """Has the system write all, and then drop the files of this folder from its memory."""
     os.sync()
     for path in folder.iterdir():
         with open(path, "rb") as file:
@@ -206,8 +197,7 @@ def drop_from_memory(folder: Path) -> None:
 
 
 def time_recovery(store: MeasuredStore, key: str, value: str) -> tuple[float, float]:
-    """Returns what a new process takes from its start to the answer to one get, which must be this value: seconds by the clock, and of the processor,
-    up to the end of the process."""
+    """Times a new process from its start to its end, with the answer to one get, which must be this value. Returns clock and processor seconds."""
     command, asked = store.question(key)
     start = time.monotonic()
     child = subprocess.Popen(command, stdin=subprocess.PIPE, stdout=subprocess.PIPE)
@@ -223,7 +213,6 @@ def time_recovery(store: MeasuredStore, key: str, value: str) -> tuple[float, fl
 
 
 def run_once(store: MeasuredStore, texts: StoreTexts, commits: Commits, pairs: RandomPairs) -> StoreTimes:
-    """Makes a new store, drops it from memory, and recovers it to get the pair that was put last."""
     shutil.rmtree(store.folder, ignore_errors=True)
     store.folder.mkdir(parents=True)
     os.sync()
@@ -236,7 +225,7 @@ def run_once(store: MeasuredStore, texts: StoreTexts, commits: Commits, pairs: R
 
 
 def time_printing(program: Path, pairs: RandomPairs, folder: Path) -> dict[str, float]:
-    """Returns the seconds in which `bwsh` answers and prints as many gets of a missing key, which is more than the replies to the puts take."""
+    """Returns the seconds in which `bwsh` answers as many gets of a missing key: an upper bound for printing the replies to the puts."""
     text, found = folder / "gets", {}
     for commits in BOTH:
         lines = pairs.write_gets(text, commits.batch)
@@ -248,7 +237,7 @@ def time_printing(program: Path, pairs: RandomPairs, folder: Path) -> dict[str, 
 
 
 def python_start(repeats: int) -> float:
-    """Returns the seconds that Python takes to start, which are in the recoveries of SQLite."""
+    """Returns the start time of Python, which the recovery times of SQLite include."""
     took = []
     for _ in range(repeats):
         start = time.monotonic()
@@ -263,13 +252,11 @@ def file_system(folder: Path) -> str:
 
 
 def summary(runs: Sequence[StoreTimes]) -> Figures:
-    """Returns the figures of the runs of one store: the least of each time, and all times of loads and recoveries."""
     least: Figures = {each.name: min(getattr(took, each.name) for took in runs) for each in fields(StoreTimes)}
     return least | {"loads": [took.load for took in runs], "recoveries": [took.recovery for took in runs]}
 
 
 def measure(program: Path, count: int, repeats: int, where: str) -> Figures:
-    """Runs all stores in turn, and returns the figures."""
     pairs = RandomPairs(count)
     runs: dict[str, dict[str, list[StoreTimes]]] = {}
     with tempfile.TemporaryDirectory() as made, tempfile.TemporaryDirectory(dir=where) as disk:
@@ -290,12 +277,11 @@ def measure(program: Path, count: int, repeats: int, where: str) -> Figures:
 
 
 def rate(figures: Figures, name: str, commits: Commits) -> float:
-    """Returns the pairs a second."""
     return float(figures["pairs"] / figures["stores"][name][commits.name()]["load"])
 
 
 def print_rates(figures: Figures) -> None:
-    """Prints pairs a second, recovery, and room on the disk, by the clock; and beside it the seconds of the processor."""
+    """Prints pairs per second, recovery time and disk space by the clock, and the processor seconds."""
     columns = {"load_cpu": "processor, s", "recovery": "recovery, s", "recovery_cpu": "processor, s"}
     rows = []
     for name, by in figures["stores"].items():
@@ -308,7 +294,6 @@ def print_rates(figures: Figures) -> None:
 
 
 def by_length(cells: Iterable[str]) -> str:
-    """Returns what one cell shows for commits of both lengths."""
     return " · ".join(cells)
 
 
@@ -317,7 +302,6 @@ def title(name: str) -> str:
 
 
 def print_beside(figures: Figures) -> None:
-    """Prints how many times as fast as each peer."""
     rows = []
     for peer, by in figures["stores"].items():
         if peer in SETTINGS:
@@ -331,7 +315,7 @@ def print_beside(figures: Figures) -> None:
 
 
 def print_text(figures: Figures) -> None:
-    """Prints the times that belong to the text of a program, and not to its store."""
+    """Prints the times that the programs' input and output take, apart from the stores."""
     rows = []
     for name in SETTINGS:
         for commits in BOTH:
@@ -342,7 +326,6 @@ def print_text(figures: Figures) -> None:
 
 
 def show_stores(figures: Figures) -> None:
-    """Prints the figures of each store, the start of Python, and batches without a flush for each."""
     print(f"\n{figures['pairs']:,} pairs of 16 and 100 bytes, {figures['file system']}, the least of {figures['repeats']}")
     print_rates(figures)
     print(f"\nPython's start, which is in SQLite's recovery: {figures[PYTHON_START]:.3f} s")
@@ -351,7 +334,6 @@ def show_stores(figures: Figures) -> None:
 
 
 def show_beside(figures: Figures) -> None:
-    """Prints the stores beside one another, and the times that are not those of the store."""
     print_beside(figures)
     print_text(figures)
 
@@ -359,10 +341,10 @@ def show_beside(figures: Figures) -> None:
 def main() -> None:
     parser = argparse.ArgumentParser(description=__doc__)
     parser.add_argument("--pairs", type=int, default=PAIRS)
-    parser.add_argument("--repeats", type=int, default=3, help="how often each store is made; the least time counts")
+    parser.add_argument("--repeats", type=int, default=3, help="runs of each store; the least time is reported")
     parser.add_argument("--program", type=Path, default=PROGRAM)
-    parser.add_argument("--folder", default="/var/tmp", help="where the files are made: on the disk that is to be measured (/var/tmp)")
-    parser.add_argument("--figures", type=Path, help="where the figures are written too, as JSON")
+    parser.add_argument("--folder", default="/var/tmp", help="folder for the stores, on the disk to be measured (default: /var/tmp)")
+    parser.add_argument("--figures", type=Path, help="also write the figures to this file, as JSON")
     options = parser.parse_args()
     exit_if_missing(options.program)
     figures = measure(options.program, options.pairs, options.repeats, options.folder)

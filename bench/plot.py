@@ -1,11 +1,11 @@
-"""Draws the figures as a page of SVG: speeds as bars, the load batch by batch as lines, speeds by workers, and goals beside what is reached."""
+"""Draws the figures as SVG: speeds as bars, the load batch by batch as lines, speedups by workers, and results against goals."""
 
 from collections.abc import Mapping, Sequence
 from html import escape
 from typing import Any
 
 WIDTH, HEIGHT = 920, 640
-LEFT = 210  # where the bars and the lines begin
+LEFT = 210  # left edge of the bars and the lines
 RIGHT = WIDTH - 40
 Curve = Sequence[tuple[int, float]]
 COLOURS = {"BTreeMap": "#888888", "fan 32, chain 16": "#1b6ca8", "fan 64, chain 16": "#3a8f4d", "defaults": "#d1712a"}
@@ -30,7 +30,6 @@ def legend(y: float) -> list[str]:
 
 
 def bars(speeds: Mapping[str, Sequence[float]], top: float, height: float) -> list[str]:
-    """Draws for each phase the speeds of the program with each of the settings, where the peer is 1."""
     most = max(1.0, *(speed for row in speeds.values() for speed in row))
     scale = (RIGHT - LEFT) / most
     parts = [text(LEFT, top - 8, "speed, where the BTreeMap is 1")]
@@ -52,7 +51,6 @@ def bars(speeds: Mapping[str, Sequence[float]], top: float, height: float) -> li
 
 
 def lines(curves: Mapping[str, Curve], top: float, height: float) -> list[str]:
-    """Draws for each program the time of a put by the pairs in the store."""
     points = [point for curve in curves.values() for point in curve]
     most_x = max(x for x, _ in points)
     most_y = max(y for _, y in points) * 1.05
@@ -71,7 +69,6 @@ def lines(curves: Mapping[str, Curve], top: float, height: float) -> list[str]:
 
 
 def page(speeds: Mapping[str, Sequence[float]], curves: Mapping[str, Curve]) -> str:
-    """Returns the page of the speeds and the load. There are no bars if there is no peer."""
     parts = legend(24)
     if speeds:
         parts += bars(speeds, 60, 300)
@@ -84,7 +81,7 @@ PHASES = ["#1b6ca8", "#d1712a", "#3a8f4d", "#8a4fa8", "#444444"]
 
 
 def panel(name: str, curves: Mapping[str, Curve], left: float, width: float, top: float, height: float) -> list[str]:
-    """Draws how many times as fast as one worker each phase is, by workers. The grey line is the best that workers can do."""
+    """Draws each phase's speedup over one worker. The grey line is linear speedup."""
     most = max(x for curve in curves.values() for x, _ in curve)
 
     def at(x: float, y: float) -> tuple[float, float]:
@@ -103,7 +100,6 @@ def panel(name: str, curves: Mapping[str, Curve], left: float, width: float, top
 
 
 def panels(by_kind: Mapping[str, Mapping[str, Curve]]) -> str:
-    """Returns a page with the panels of all kinds side by side."""
     parts: list[str] = []
     width = 330
     for at, (name, curves) in enumerate(by_kind.items()):
@@ -124,7 +120,6 @@ def bar(x: float, y: float, width: float, height: float, colour: str) -> str:
 
 
 def goal_rows(rows: Sequence[Mapping[str, Any]], settings: Sequence[str], top: float, left: float) -> list[str]:
-    """Draws for each row what is reached with each of the settings as bars, and the goal as a mark across its bar."""
     most = max(number for row in rows for numbers in (row["is"], row["wanted"]) for number in numbers.values())
     scale, thick = (RIGHT - left) / most, STEP * 0.38
     parts: list[str] = []
@@ -144,13 +139,12 @@ def goal_rows(rows: Sequence[Mapping[str, Any]], settings: Sequence[str], top: f
 
 
 def store_rows(persistent: Mapping[str, Any], settings: Sequence[str], top: float, left: float) -> list[str]:
-    """Draws for each store the pairs that it commits in a second, in commits of each length."""
     rates: dict[str, list[float]] = {}
     for name, by in persistent["stores"].items():
         rates[name] = [persistent["pairs"] / by[commits]["load"] for commits in list(by)[:2]]
     lengths = list(next(iter(persistent["stores"].values())))[:2]
     parts: list[str] = []
-    scale, thick = (RIGHT - left - 60) / max(max(rate) for rate in rates.values()), STEP * 0.38  # with room for numbers
+    scale, thick = (RIGHT - left - 60) / max(max(rate) for rate in rates.values()), STEP * 0.38  # leaves room for numbers
     for at, (name, rate) in enumerate(rates.items()):
         y = top + at * STEP
         parts.append(text(left - 10, y + STEP / 2 + 4, f"bwsh, {name}" if name in settings else name, "end", 12))
@@ -163,7 +157,7 @@ def store_rows(persistent: Mapping[str, Any], settings: Sequence[str], top: floa
 
 
 def goals(figures: Mapping[str, Any], settings: Sequence[str]) -> str:
-    """Returns a page with the goals beside what is reached; and, if these were measured, the stores with a file, and the load batch by batch."""
+    """Returns a page with results against goals and, if they were measured, the persistent stores and the load batch by batch."""
     left, top, rows = 380, 64, figures["rows"]
     parts: list[str] = []
     for at, name in enumerate([*settings, "BTreeMap"]):

@@ -1,6 +1,6 @@
 #!/usr/bin/env python3
-"""Measures calls that copy nothing (`Store::get`, `range`, `range_back`) beside std's BTreeMap, and `copy_to` beside a load in key order; README.md
-says what is measured, and how."""
+"""Measures calls that copy nothing (`Store::get`, `range`, `range_back`) against std's BTreeMap, and `copy_to` against a load in key order.
+README.md describes the measurement."""
 
 import argparse
 import subprocess
@@ -16,12 +16,12 @@ from tools import building
 from tools.processes import pipe_of, processor_seconds, wait_for_end
 
 SETTINGS = {"fan 64, chain 16": ["64", "16"], "defaults": ["16", "4"]}
-READS = {"get": 1_000_000, "batch": 1_000_000, "range": 200_000, "back": 200_000, "copy": 1}  # how often each is made
-UNITS = {"copy": (1e9 / 1_000_000, "ns a pair")}  # others are in ns a call
+READS = {"get": 1_000_000, "batch": 1_000_000, "range": 200_000, "back": 200_000, "copy": 1}  # calls of each kind
+UNITS = {"copy": (1e9 / 1_000_000, "ns a pair")}  # the other units are ns per call
 
 
 def seconds(command: Sequence[str | Path]) -> tuple[float, bytes]:
-    """Returns the processor seconds between the line after the load and the end, and the line that is printed at last."""
+    """Returns the processor seconds from the line after the load to the end, and the last line."""
     process = subprocess.Popen(command, stdout=subprocess.PIPE)
     with pipe_of(process.stdout) as output:
         assert output.readline() == b"loaded\n"
@@ -35,8 +35,8 @@ def seconds(command: Sequence[str | Path]) -> tuple[float, bytes]:
 
 def main() -> None:
     parser = argparse.ArgumentParser(description=(__doc__ or "").splitlines()[0])
-    parser.add_argument("--library", type=Path, default=building.BUILT, help="where range_bench is, and is built if it is missing")
-    parser.add_argument("--repeats", type=int, default=3, help="and the least is taken")
+    parser.add_argument("--library", type=Path, default=building.BUILT, help="folder of range_bench, which is built if it is missing")
+    parser.add_argument("--repeats", type=int, default=3, help="runs of each measurement; the least time is reported")
     parser.add_argument("--reads", nargs="*", default=list(READS), choices=list(READS))
     options = parser.parse_args()
     program = options.library / "range_bench"

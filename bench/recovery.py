@@ -1,5 +1,5 @@
 #!/usr/bin/env python3
-"""Measures how long the program takes to recover the store from its file, and to write it; README.md says what is measured, and how."""
+"""Measures how long the program takes to write a store to its file and to recover it. README.md describes the measurement."""
 
 import argparse
 import sys
@@ -23,7 +23,6 @@ Times = dict[str, Seconds]  # by program
 
 
 def recovered_stores(work: Workload) -> list[StoreText]:
-    """Returns the stores whose recovery is measured beside a load in key order."""
     load, half = Puts(work.keys, AT_END), work.shuffled[: len(work.keys) // 2]
     return [
         StoreText("flushed at once", [load]),
@@ -33,14 +32,12 @@ def recovered_stores(work: Workload) -> list[StoreText]:
 
 
 def written_stores(work: Workload) -> list[StoreText]:
-    """Returns the stores that are measured beside the peer's."""
     orders = [work.keys, *(work.random.sample(work.keys, len(work.keys)) for _ in range(3))]
     four_times = [key for keys in orders for key in keys]
     return [StoreText("each key put once", [Puts(work.keys, 10)]), StoreText("each key put four times", [Puts(four_times, 10)])]
 
 
 def read_alone(path: Path) -> Seconds:
-    """Times a plain read of the written part of the file."""
     buffer, rest = bytearray(1 << 20), written_bytes(path)
     start = time.process_time(), time.monotonic()
     with open(path, "rb", buffering=0) as file:
@@ -51,8 +48,6 @@ def read_alone(path: Path) -> Seconds:
 
 @dataclass
 class Recovery:
-    """The recovery of a store: the bytes of its file, the times to read the file and to recover the store, and bytes of memory."""
-
     length: int
     read: Seconds
     recovery: Seconds
@@ -61,7 +56,6 @@ class Recovery:
 
 
 def measure_load(program: StoreProgram, work: Workload, repeats: int, text: Path) -> tuple[float, int]:
-    """Returns what the load in key order takes in memory, as `run.py` measures it: processor seconds, and bytes."""
     phase = Phase("load in key order", len(work.keys), LONG, lambda: work.puts(sorted(work.keys)))
     write_phases(text, [phase])
     runs = [run_phases([*program.command, *program.settings], text, [phase]) for _ in range(repeats)]
@@ -77,7 +71,7 @@ def measure_recovery(program: StoreProgram, store: StoreText, work: Workload, re
 
 
 def measure_writing(programs: Programs, store: StoreText, work: Workload, repeats: int, text: Path) -> tuple[Times, Times]:
-    """Returns what each program takes to write the store, and to recover it. The programs run in turn, and all must print the same."""
+    """Measures how long each program takes to write and to recover the store. The programs run in turn, and must print the same."""
     store.write(work, text)
     writes: dict[str, list[Timed]] = {}
     recoveries: dict[str, list[Timed]] = {}
@@ -123,7 +117,7 @@ def print_writings(found: dict[str, Times], names: Sequence[str]) -> None:
 
 
 def speeds(took: Times, name: str) -> list[float]:
-    """Returns how fast the program is, where the peer is 1: by the processor's time and by the clock. Returns nothing if there is no peer."""
+    """Returns the program's speed relative to the peer, by processor time and by the clock; empty if there is no peer."""
     if name == PEER or PEER not in took:
         return []
     return [took[PEER].cpu / took[name].cpu, took[PEER].wall / took[name].wall]
@@ -146,12 +140,12 @@ def print_verdicts(loads: Loads, recovered: Recoveries, written: dict[str, Times
 
 def arguments() -> argparse.Namespace:
     parser = argparse.ArgumentParser(description=__doc__)
-    parser.add_argument("--quick", action="store_true", help="a fifth of the pairs, each once")
+    parser.add_argument("--quick", action="store_true", help="use a fifth of the pairs, and run each measurement once")
     parser.add_argument("--pairs", type=int, default=1_000_000)
-    parser.add_argument("--repeats", type=int, default=3, help="how often each is run; the least time counts")
+    parser.add_argument("--repeats", type=int, default=3, help="runs of each measurement; the least time is reported")
     parser.add_argument("--program", type=Path, default=PROGRAM)
-    parser.add_argument("--peer", action="store_true", help="measures the peer in place of the program, to try this script")
-    parser.add_argument("--folder", type=Path, help="where the files are made: on the disk that is to be measured")
+    parser.add_argument("--peer", action="store_true", help="measure the peer instead of the program, to test this script")
+    parser.add_argument("--folder", type=Path, help="folder for the files, on the disk to be measured")
     options = parser.parse_args()
     if not options.peer:
         exit_if_missing(options.program)
@@ -161,7 +155,6 @@ def arguments() -> argparse.Namespace:
 
 
 def measure_recoveries(programs: Programs, work: Workload, repeats: int, text: Path) -> Recoveries:
-    """Returns what the programs take to recover each store."""
     found: Recoveries = {}
     for store in recovered_stores(work):
         for kind, program in programs.items():
@@ -171,7 +164,6 @@ def measure_recoveries(programs: Programs, work: Workload, repeats: int, text: P
 
 
 def measure_writings(programs: Programs, work: Workload, repeats: int, text: Path) -> dict[str, Times]:
-    """Returns what writing and recovering take, by store and program."""
     found: dict[str, Times] = {}
     for store in written_stores(work):
         writes, recoveries = measure_writing(programs, store, work, repeats, text)

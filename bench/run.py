@@ -1,5 +1,5 @@
 #!/usr/bin/env python3
-"""Measures the built program beside std's BTreeMap; README.md says what is measured, and how."""
+"""Measures the program against std's BTreeMap. README.md describes the measurement."""
 
 import argparse
 import sys
@@ -20,7 +20,6 @@ HERE = Path(__file__).resolve().parent
 
 
 def sessions(work: Workload) -> list[list[Phase]]:
-    """Returns the sessions, each as the phases of one batch file. The least time counts for a phase that is in several."""
     pairs = len(work.keys)
     few = work.shuffled[: pairs // 5]
     starts = work.shuffled[: pairs // 50]
@@ -61,7 +60,6 @@ def sessions(work: Workload) -> list[list[Phase]]:
 
 
 def commands_of(peer: Command | None, program: Path) -> dict[str, Command]:
-    """Returns the commands that are measured, by name."""
     all_programs: dict[str, Command] = {PEER: peer} if peer else {}
     for fan in 32, 64:
         all_programs[f"fan {fan}, chain 16"] = [program, "--fan", str(fan), "--chain", "16"]
@@ -82,7 +80,7 @@ def measure(work: Workload, commands: dict[str, Command], repeats: int, folder: 
 
 
 def measure_verify(work: Workload, program: Path, folder: Path) -> dict[str, Sample]:
-    """Returns what `verify` of all pairs takes, in one thread and in as many as there are processors."""
+    """Times `verify` of all pairs, in one thread and in as many as there are processors."""
     load = Phase(LOAD, len(work.keys), LONG, lambda: work.puts(work.keys))
     text = folder / "verify"
     write_phases(text, [load])
@@ -107,7 +105,6 @@ def print_verify(samples: dict[str, Sample]) -> None:
 
 
 def cell(results: Results, phase: Phase, program: str) -> str:
-    """Returns seconds, nanoseconds a command, and the speed."""
     sample = results.best[phase, program]
     speed = results.speed(phase, program)
     shown = "" if program == PEER or speed is None else f" | {speed:.2f}"
@@ -132,7 +129,7 @@ def print_memory(results: Results, names: Sequence[str], raw: int) -> None:
 
 
 def print_scan_memory(results: Results, names: Sequence[str]) -> None:
-    """Prints how much memory is in use after each phase of scans. What the largest batch before took remains in use."""
+    """Prints the memory in use after each phase of scans. Memory of an earlier, larger batch remains in use."""
     print(f"\n| memory after, MB | {' | '.join(names)} |\n|---|{'---|' * len(names)}")
     for phase in results.phases():
         if "scan" in phase.name:
@@ -141,7 +138,7 @@ def print_scan_memory(results: Results, names: Sequence[str]) -> None:
 
 
 def print_growth(results: Results, names: Sequence[str]) -> None:
-    """Prints nanoseconds a command in the second, the middle and the last full batch of each phase in long batches."""
+    """Prints nanoseconds per command in the second, the middle and the last full batch of each phase with long batches."""
     print(f"\n| batch by batch, ns a command | {' | '.join(names)} |\n|---|{'---|' * len(names)}")
     for phase in results.phases():
         full = phase.count // LONG
@@ -164,13 +161,13 @@ def draw(results: Results, names: Sequence[str], path: Path) -> None:
 
 def arguments() -> argparse.Namespace:
     parser = argparse.ArgumentParser(description=__doc__)
-    parser.add_argument("--quick", action="store_true", help="a fifth of the pairs, each session once: about a minute")
+    parser.add_argument("--quick", action="store_true", help="use a fifth of the pairs, and run each session once (about a minute)")
     parser.add_argument("--pairs", type=int, default=1_000_000)
-    parser.add_argument("--key-bytes", type=int, default=KEY, help="up to 64")
-    parser.add_argument("--value-bytes", type=int, default=VALUE, help="up to 256")
-    parser.add_argument("--repeats", type=int, default=2, help="how often each session is run; the least time counts")
+    parser.add_argument("--key-bytes", type=int, default=KEY, help="bytes of a key, at most 64")
+    parser.add_argument("--value-bytes", type=int, default=VALUE, help="bytes of a value, at most 256")
+    parser.add_argument("--repeats", type=int, default=2, help="runs of each session; the least time is reported")
     parser.add_argument("--program", type=Path, default=PROGRAM)
-    parser.add_argument("--plot", type=Path, help="where the plot is drawn: speed.svg, but with --quick nowhere")
+    parser.add_argument("--plot", type=Path, help="file for the plot (default: speed.svg, or none with --quick)")
     options = parser.parse_args()
     if options.quick:
         options.pairs, options.repeats = options.pairs // 5, 1

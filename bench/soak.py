@@ -1,8 +1,8 @@
 #!/usr/bin/env python3
-"""Runs random sessions on stores in files without end, and compares each with a model, up to the first difference.
+"""Runs random sessions on stores in files, endlessly, and compares each with a model, up to the first difference.
 
-There are kills, crashes, failing calls and refused allocations in them. All is drawn from the seed, and nothing depends on the clock. README.md says
-how.
+Sessions have kills, crashes, failing calls and refused allocations. All are derived from the seed and not from the clock. README.md describes the
+test.
 """
 
 import argparse
@@ -23,7 +23,7 @@ MINUTE = 60
 
 
 def run_stores(soak: Soak, options: argparse.Namespace) -> str:
-    """Runs stores until the time is over; prints the counts each minute, and returns the last ones. Raises Difference at the first difference."""
+    """Runs stores until the time is over. Prints counts each minute, and returns the last counts. Raises Difference at the first difference."""
     start = last = time.monotonic()
     try:
         for number in itertools.count(options.first) if options.last is None else range(options.first, options.last + 1):
@@ -42,11 +42,11 @@ def run_stores(soak: Soak, options: argparse.Namespace) -> str:
 def arguments() -> argparse.Namespace:
     parser = argparse.ArgumentParser(description=(__doc__ or "").splitlines()[0])
     parser.add_argument("program", type=Path)
-    parser.add_argument("--seed", type=int, default=secrets.randbelow(10**9), help="what all is drawn from; without it a new one")
+    parser.add_argument("--seed", type=int, default=secrets.randbelow(10**9), help="seed of the random sessions (default: a new one)")
     parser.add_argument("--first", type=int, default=1, metavar="N", help="the number of the first store")
-    parser.add_argument("--last", type=int, metavar="N", help="the number of the last store; without it there is none")
-    parser.add_argument("--seconds", type=float, help="how long it goes on; without it until Ctrl-C")
-    parser.add_argument("--store", type=Path, default=MEMORY_FOLDER, metavar="FOLDER", help="where the folder of its files is made")
+    parser.add_argument("--last", type=int, metavar="N", help="the number of the last store (default: no limit)")
+    parser.add_argument("--seconds", type=float, help="run for this many seconds (default: until Ctrl-C)")
+    parser.add_argument("--store", type=Path, default=MEMORY_FOLDER, metavar="FOLDER", help="parent folder of the store's files")
     plants = "plants a fault that has to be found: a line of the answers is lost, a bit of the log flips, syncs are lost"
     parser.add_argument("--plant", choices=PLANTS, help=plants)
     return parser.parse_args()

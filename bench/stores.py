@@ -15,18 +15,16 @@ from bench.timing import Sample, TimedProgram
 from bench.workload import LONG, Workload
 from tools.processes import Command, pipe_of, status_bytes, wait_for_end
 
-StoreSettings = dict[str, tuple[list[str], int]]  # by name: the words, and --seg-size
+StoreSettings = dict[str, tuple[list[str], int]]  # by name: the options, and --seg-size
 SETTINGS: StoreSettings = {"fan 32, chain 16": (["--fan", "32", "--chain", "16"], 1_048_576), "defaults": ([], 65_536)}
-ROOM = 800  # bytes of the log for each put: more than are written
+ROOM = 800  # bytes of the log per put; an upper bound
 AT_END = sys.maxsize
-MARK = "get -\ngo\n"  # prints `missing`, and so shows that all before it is done
-MARKS = 4_000  # print more than the pipe and the buffer of its reader hold
+MARK = "get -\ngo\n"  # prints `missing`, which shows that all commands before it are done
+MARKS = 4_000  # print more than the pipe and its reader's buffer hold
 PIPE = 4_096  # bytes
 
 
 class Timed(Protocol):
-    """Something that took seconds of the processor, and seconds by the clock."""
-
     @property
     def cpu(self) -> float:
         ...
@@ -38,8 +36,6 @@ class Timed(Protocol):
 
 @dataclass
 class Seconds:
-    """The seconds that something took: of the processor, user and system, and by the clock."""
-
     cpu: float
     wall: float
 
@@ -51,7 +47,7 @@ def least(samples: Iterable[Timed]) -> Seconds:
 
 @dataclass(frozen=True)
 class Puts:
-    """Puts in long batches, with a flush after `every` of them and after the last."""
+    """Puts in long batches, with a flush after every `every` puts and after the last."""
 
     keys: list[str]
     every: int
@@ -64,7 +60,6 @@ class Puts:
         return number % self.every == 0 or number == len(self.lengths())
 
     def lines(self) -> int:
-        """Returns how many lines are printed for them."""
         return len(self.keys) + sum(self.is_flushed(number) for number in range(1, 1 + len(self.lengths())))
 
     def write(self, work: Workload, file: TextIO) -> None:
@@ -76,8 +71,6 @@ class Puts:
 
 @dataclass
 class StoreText:
-    """The batch file that makes a store in a file."""
-
     name: str
     puts: list[Puts]
 
@@ -91,7 +84,6 @@ class StoreText:
                 puts.write(work, file)
 
     def rows(self, work: Workload) -> str:
-        """Returns the digest of what a scan of all pairs prints afterwards."""
         contents = {key: work.value(at + puts.salt) for puts in self.puts for at, key in enumerate(puts.keys)}
         digest = hashlib.blake2b(f"rows {len(contents)}\n".encode())
         for key in sorted(contents):
@@ -101,8 +93,6 @@ class StoreText:
 
 @dataclass
 class StoreProgram:
-    """A program with its settings, and the file of its store."""
-
     command: Sequence[str | Path]
     settings: Sequence[str]
     seg_size: int
@@ -112,12 +102,11 @@ class StoreProgram:
         return [*self.command, "--disk", self.disk]
 
     def create_command(self, puts: int) -> Command:
-        """Returns the command that makes the file with room for `puts` puts."""
         segments = 64 + puts * ROOM // self.seg_size
         return [*self.open_command(), "--create", *self.settings, "--seg-size", str(self.seg_size), "--segments", str(segments)]
 
     def write(self, store: StoreText, text: Path) -> Sample:
-        """Makes the store. The time goes from the reply to the first batch, when the text was read and the file made, to the line of the last
+        """Makes the store. The time starts at the reply to the first batch, when the input is read and the file exists, and ends at the last
         flush."""
         os.sync()
         running = TimedProgram(self.create_command(store.count()), text)
@@ -127,7 +116,7 @@ class StoreProgram:
         return sample
 
     def recover(self) -> Seconds:
-        """Times the whole program on an empty batch file. As a rule the system has the file of the store in its memory."""
+        """Times a whole run on an empty batch file. Usually the file is in the page cache."""
         start = time.monotonic()
         child = subprocess.Popen(self.open_command(), stdin=subprocess.DEVNULL)
         cpu = wait_for_end(child)
@@ -137,9 +126,8 @@ class StoreProgram:
         return Seconds(cpu, wall)
 
     def recovery_memory(self, text: Path, rows: str) -> tuple[int, int]:
-        """Returns the peak memory until the store was recovered, and the memory in use then, in bytes. The program has more short batches than the
-        pipe holds replies, so it waits, having done little else, until these are read. `ru_maxrss` does not show it: that of a child counts what its
-        parent, this script, had in use when the child began. Ends this script unless a scan of all pairs then has the digest `rows`."""
+        """Returns the peak memory until recovery and the memory in use after it, in bytes. The replies to many short batches exceed the pipe's
+        capacity, so the program blocks soon after recovery and can be measured. Exits unless a scan of all pairs then has the digest `rows`."""
         text.write_text(MARK * MARKS + "scan % * 4294967295\n")
         with open(text, "rb") as file:
             child = subprocess.Popen(self.open_command(), stdin=file, stdout=subprocess.PIPE, pipesize=PIPE)
@@ -155,6 +143,6 @@ class StoreProgram:
 
 
 def written_bytes(path: Path) -> int:
-    """Returns the length of the file up to the part that was never written: it is made with its full length."""
+    """Returns the length of the file's written part. The file is created with its full length."""
     with open(path, "rb") as file:
         return file.seek(0, os.SEEK_HOLE)

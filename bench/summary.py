@@ -1,4 +1,4 @@
-#!/usr/bin/env python3
+# Draws summary.svg from goals.json, and writes the same figures into README.md as a table of ten rows.
 """Draws summary.svg from the figures in goals.json, and puts the same figures into README.md as a table of ten rows."""
 
 import json
@@ -10,7 +10,7 @@ from typing import Any
 HERE = Path(__file__).resolve().parent
 BIG, SMALL, MAP, LOGGED = "fan 64, chain 16", "defaults", "BTreeMap", "BTreeMap and a log of commands"
 MANY, FEW = "65,535 a commit", "1,000 a commit"
-SPEEDS = {  # the names of rows of goals.json, by their names here
+SPEEDS = {  # this plot's names for the rows of goals.json
     "put": "load",
     "get": "gets",
     "gets and puts in turn": "half gets, half puts",
@@ -26,18 +26,15 @@ Figures = dict[str, Any]
 
 
 def row_of(figures: Figures, name: str) -> dict[str, float]:
-    """The figures of this row by program; empty if it was not measured."""
     return next((row["figures"] for row in figures["rows"] if row["name"] == name), {})
 
 
 def durable(figures: Figures, store: str, commits: str, of: str) -> float | None:
-    """The seconds of this store's load or recovery, with commits of this size."""
     taken = figures.get("persistent", {}).get("stores", {}).get(store, {}).get(commits)
     return taken[of] if taken else None
 
 
 def rate(figures: Figures, store: str, commits: str) -> float | None:
-    """The durable puts a second of this store."""
     seconds = durable(figures, store, commits, "load")
     return figures["persistent"]["pairs"] / seconds if seconds else None
 
@@ -47,7 +44,7 @@ def cells(values: Iterable[float | None], form: str = ",.0f") -> list[str]:
 
 
 def table(figures: Figures) -> list[str]:
-    """The header, and ten rows: six of speeds, one of memory, three of stores in files, among them the map with a log."""
+    """Returns the header and ten rows: six speeds, memory, and three persistent stores, one of which is the map with a log."""
     ours, stores = (BIG, SMALL, MAP), (BIG, SMALL, LOGGED, *OTHERS)
     rows = [["figure", f"Taukremil, {BIG}", f"Taukremil, {SMALL}", MAP, *OTHERS.values()]]
     rows.append(["---"] * len(rows[0]))
@@ -74,7 +71,6 @@ def bar(x: float, y: float, width: float, label: str, colour: str, opacity: floa
 
 
 def speeds(figures: Figures) -> list[str]:
-    """On the left, how many times as fast as the map the program is."""
     left, unit = 150, 250
     parts = [text(left, TOP - 14, "speed, where BTreeMap is 1")]
     parts.append(f'<line x1="{left + unit}" y1="{TOP - 8}" x2="{left + unit}" y2="{TOP + STEP * len(SPEEDS)}" stroke="{GREY}"/>')
@@ -89,7 +85,6 @@ def speeds(figures: Figures) -> list[str]:
 
 
 def rates(figures: Figures) -> list[str]:
-    """On the right, the durable puts a second of each store, for both sizes of a commit."""
     left, room = 640, 240
     names = {BIG: f"Taukremil, {BIG}", SMALL: f"Taukremil, {SMALL}", LOGGED: "BTreeMap and a log"} | OTHERS
     found = {store: [rate(figures, store, commits) or 0.0 for commits in (MANY, FEW)] for store in names}

@@ -10,10 +10,8 @@ def print_table(heads: Sequence[str], rows: Iterable[Sequence[str]]) -> None:
 
 
 def at_most(value: float, goal: float) -> str:
-    """Returns a value and whether it is at most the goal."""
     return f"{value:.2f}, " + ("reached" if value <= goal else f"over by {100 * (value / goal - 1):.0f} %")
 
 
 def at_least(value: float, goal: float) -> str:
-    """Returns a value and whether it is at least the goal."""
     return f"{value:.2f}, " + ("reached" if value >= goal else f"short by {100 * (1 - value / goal):.0f} %")

@@ -16,27 +16,24 @@ from tools.processes import Command, pipe_of, processor_seconds, resident_memory
 
 @dataclass
 class Sample:
-    """What one phase took in one run."""
-
-    cpu: float  # seconds, user and system
+    cpu: float  # user and system seconds
     wall: float
-    digest: str  # of the lines that were printed
+    digest: str  # of the output lines
     resident: int  # bytes, at the end of the phase
-    batches: list[float]  # processor seconds of each batch, if the batches are long
+    batches: list[float]  # processor seconds of each batch, if batches are long
 
 
 class TimedProgram:
-    """A program that runs a batch file. Its output is read line by line, and its processor seconds and memory are measured meanwhile."""
+    """A program that runs a batch file. While its output is read line by line, its processor time and memory are measured."""
 
     def __init__(self, command: Command, text: str | Path, pipe_bytes: int = -1) -> None:
         self.command = command
         with open(text, "rb") as file:
             self.child = subprocess.Popen(command, stdin=file, stdout=subprocess.PIPE, bufsize=0, pipesize=pipe_bytes)
         self.output = pipe_of(self.child.stdout)
-        self.unread = b""  # was read from the pipe, and belongs to later lines
+        self.unread = b""  # read from the pipe; belongs to later lines
 
     def read_lines(self, count: int, digest: "hashlib.blake2b") -> None:
-        """Reads `count` lines into the digest."""
         while count:
             chunk = self.unread or self.output.read(1 << 16)
             if not chunk:
@@ -53,7 +50,7 @@ class TimedProgram:
         return resident_memory(self.child.pid)
 
     def phase(self, lines: Sequence[int], by_batch: bool = False) -> Sample:
-        """Times the phase whose batches print this many lines each; with `by_batch` also each batch by itself."""
+        """Times a phase whose batches print this many lines each; with `by_batch`, also each batch."""
         parts = lines if by_batch else [sum(lines)]
         digest = hashlib.blake2b()
         wall, marks = time.monotonic(), [self.cpu()]
@@ -69,15 +66,14 @@ class TimedProgram:
         self.child.wait()
 
     def finish_successfully(self) -> None:
-        """Waits until the program ends. Ends this script if the status is not 0."""
         self.finish()
         if self.child.returncode:
             sys.exit(f"{self.command}: ended with status {self.child.returncode}")
 
 
 def run_phases(command: Command, text: Path, phases: Sequence[Phase]) -> tuple[int, list[Sample]]:
-    """Runs a batch file with these phases. Returns the memory before them, which is that of the text and its commands, and their samples."""
-    lines = [phase.lines() for phase in phases]  # before the program starts, since it would run ahead meanwhile
+    """Runs a batch file with these phases. Returns the memory before them (the input and its commands) and their samples."""
+    lines = [phase.lines() for phase in phases]  # before the program starts, because it would run ahead meanwhile
     program = TimedProgram(command, text)
     before = program.phase([1]).resident
     samples = [program.phase(each, phase.batch == LONG) for each, phase in zip(lines, phases)]
@@ -86,12 +82,12 @@ def run_phases(command: Command, text: Path, phases: Sequence[Phase]) -> tuple[i
 
 
 class Results:
-    """The best samples by phase and program, all processor times, and the memory that the load and the half and half took."""
+    """The best samples by phase and program, all processor times, and the memory of the load and the mixed phase."""
 
     def __init__(self) -> None:
         self.best: dict[tuple[Phase, str], Sample] = {}
         self.seconds: dict[tuple[Phase, str], list[float]] = {}
-        self.memory: dict[tuple[str, str], float] = {}  # bytes a pair, by the phase's name and program
+        self.memory: dict[tuple[str, str], float] = {}  # bytes per pair, by phase and program
 
     def add(self, program: str, phases: Sequence[Phase], before: int, samples: Sequence[Sample]) -> None:
         for phase, sample in zip(phases, samples):
@@ -107,7 +103,6 @@ class Results:
                 self.memory[phase.name, program] = min(taken, self.memory.get((phase.name, program), taken))
 
     def compare(self, program: str, phase: Phase, sample: Sample) -> None:
-        """Ends this script unless all programs print the same lines."""
         for (other_phase, other), known in self.best.items():
             if other_phase == phase and known.digest != sample.digest:
                 sys.exit(f"{phase.name}: {program} and {other} print different lines")
@@ -116,13 +111,11 @@ class Results:
         return list(dict.fromkeys(phase for phase, _ in self.best))
 
     def speed(self, phase: Phase, program: str) -> float | None:
-        """Returns how fast the program is, where the peer is 1; None if there is no peer."""
         if (phase, PEER) not in self.best:
             return None
         return self.best[phase, PEER].cpu / self.best[phase, program].cpu
 
     def growth(self, programs: Sequence[str]) -> dict[str, list[tuple[int, float]]]:
-        """Returns for each program the load, batch by batch: how many pairs there are after it, and nanoseconds a command."""
         load = next(phase for phase in self.phases() if phase.name == LOAD)
         lengths = load.batches()
         ends = list(itertools.accumulate(lengths))

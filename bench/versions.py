@@ -1,5 +1,5 @@
 #!/usr/bin/env python3
-"""Measures a log of version 2 beside one of version 1; README.md says what is measured, and how."""
+"""Measures a log of version 2 against one of version 1. README.md describes the measurement."""
 
 import argparse
 import hashlib
@@ -24,23 +24,21 @@ SETTINGS = "--fan 32 --chain 16 --max-key 128".split()
 SEGMENT = 1_048_576  # bytes
 CLEANS = 8
 VERSIONS = 1, 2
-SLOTS = 128, 192  # their places
+SLOTS = 128, 192  # their indexes
 FIELDS = "name", "mail", "city", "born"
 SECTIONS = "articles", "reviews", "users/profile", "documents/public"
 
 
 def random_keys(chance: random.Random, pairs: int) -> list[str]:
-    """Returns keys of sixteen random bytes."""
     return ["".join(f"%{byte:02X}" for byte in chance.randbytes(16)) for _ in range(pairs)]
 
 
 def named_keys(chance: random.Random, pairs: int) -> list[str]:
-    """Returns `user:000001:name` and so on, in random order."""
     return chance.sample([f"user:{at // len(FIELDS):06}:{FIELDS[at % len(FIELDS)]}" for at in range(pairs)], pairs)
 
 
 def addresses(chance: random.Random, pairs: int) -> list[str]:
-    """Returns addresses of 40 to 120 bytes, some hundreds with each beginning, in random order."""
+    """Returns addresses of 40 to 120 bytes in random order; hundreds share each prefix."""
     letters = "abcdefghijklmnopqrstuvwxyz0123456789"
     sites = [f"https://www.{''.join(chance.choices(letters, k=8))}.example.com" for _ in range(1 + pairs // 10_000)]
     begun = [f"{site}/{section}/2026/{month:02}/" for site in sites for section in SECTIONS for month in range(1, 13)]
@@ -56,30 +54,27 @@ def addresses(chance: random.Random, pairs: int) -> list[str]:
 
 RANDOM = "16 random bytes"
 KINDS = {RANDOM: random_keys, "`user:000001:name`": named_keys, "addresses": addresses}
-# The text of keys has the order of their bytes, since of a key all are escaped, or none.
+# Escaped keys sort like their bytes, because either all bytes of a key are escaped or none.
 ORDERS: dict[str, Callable[[list[str]], list[str]]] = {"in no order": list, "in key order": sorted}
 
 
 def length_of(key: str) -> int:
-    """Returns how many bytes a key has. An escape encodes one."""
     return len(key) - 2 * key.count("%")
 
 
 @dataclass
 class VersionTimes:
-    """What one kind of keys took in a log of one version, and how much was written."""
-
     flush: list[Sample] = field(default_factory=list)
     recovery: list[Seconds] = field(default_factory=list)
     clean: list[Sample] = field(default_factory=list)
     upgrade: list[Sample] = field(default_factory=list)
     flushed: int = 0  # bytes of the log after the flush
-    carried: int = 0  # bytes that all cleans wrote
-    upgraded: int = 0  # bytes that the upgrade wrote
+    carried: int = 0  # bytes written by all cleans
+    upgraded: int = 0  # bytes written by the upgrade
 
 
 def log_ends(path: Path) -> tuple[int, int]:
-    """Returns where the log of the store begins and ends, by the open slot with the greatest sequence number."""
+    """Returns the begin and the end of the log, from the open slot with the greatest sequence number."""
     with open(path, "rb") as file:
         file.seek(SLOTS[0])
         slots = [file.read(64) for _ in SLOTS]
@@ -88,7 +83,6 @@ def log_ends(path: Path) -> tuple[int, int]:
 
 
 def write_load(work: Workload, keys: list[str], version: int, text: Path) -> None:
-    """Writes a load in long batches, in a log of this version, and a flush."""
     with open(text, "w") as file:
         file.write(MARK + "upgrade\n" * (version == 2))
         for start in range(0, len(keys), LONG):
@@ -98,7 +92,6 @@ def write_load(work: Workload, keys: list[str], version: int, text: Path) -> Non
 
 
 def time_flush(program: StoreProgram, keys: list[str], version: int, text: Path) -> Sample:
-    """Makes the store, and times its flush, after all before it was answered."""
     running = TimedProgram(program.create_command(len(keys)), text)
     for lines in (version, len(keys), 1):
         running.phase([lines])
@@ -108,7 +101,6 @@ def time_flush(program: StoreProgram, keys: list[str], version: int, text: Path)
 
 
 def time_orders(program: StoreProgram, order: str, count: int, text: Path) -> Sample:
-    """Times `count` such orders on the store, after it was recovered."""
     text.write_text(MARK + f"{order}\n" * count)
     running = TimedProgram(program.open_command(), text)
     running.phase([1])
@@ -118,14 +110,13 @@ def time_orders(program: StoreProgram, order: str, count: int, text: Path) -> Sa
 
 
 def rows_digest(program: StoreProgram, text: Path) -> str:
-    """Returns the digest of all pairs that are recovered."""
     text.write_text("scan % * 4294967295\n")
     with open(text, "rb") as file:
         return hashlib.blake2b(subprocess.run(program.open_command(), stdin=file, stdout=subprocess.PIPE, check=True).stdout).hexdigest()
 
 
 def measure_once(program: StoreProgram, work: Workload, keys: list[str], version: int, text: Path, measured: VersionTimes) -> str:
-    """Adds what one store of this version takes, and returns the digest of its pairs at the end."""
+    """Adds one store's measurements. Returns the digest of its pairs at the end."""
     write_load(work, keys, version, text)
     measured.flush.append(time_flush(program, keys, version, text))
     head, tail = log_ends(program.disk)
@@ -142,7 +133,6 @@ def measure_once(program: StoreProgram, work: Workload, keys: list[str], version
 
 
 def measure(program: StoreProgram, work: Workload, name: str, keys: list[str], repeats: int, text: Path) -> dict[int, VersionTimes]:
-    """Measures both versions in turn. The same pairs must be recovered in both."""
     found, digests = {version: VersionTimes() for version in VERSIONS}, set()
     for _ in range(repeats):
         for version in VERSIONS:
@@ -155,7 +145,7 @@ def measure(program: StoreProgram, work: Workload, name: str, keys: list[str], r
 
 HEAD = "keys | bytes a key | version | log, bytes a pair | flush, s | by the clock, s".split(" | ")
 HEAD += "recovery, s | by the clock, s | clean, ms | carried by a clean, KB".split(" | ")
-Measurements = dict[str, dict[int, VersionTimes]]  # by the name of the keys, and version
+Measurements = dict[str, dict[int, VersionTimes]]  # by kind of keys, and version
 
 
 def print_versions(measured: Measurements, sizes: dict[str, float], pairs: int) -> None:
@@ -178,7 +168,7 @@ def print_upgrades(measured: Measurements, pairs: int) -> None:
 
 
 def print_verdicts(measured: Measurements) -> None:
-    """Prints version 2 by version 1: processor seconds, and bytes of the log. There is a goal only for random keys."""
+    """Prints the ratio of version 2 to version 1: processor seconds, and bytes of the log. Only random keys have a goal."""
     rows = []
     for name, (one, two) in ((name, found.values()) for name, found in measured.items()):
         flush = least(two.flush).cpu / least(one.flush).cpu
@@ -191,11 +181,11 @@ def print_verdicts(measured: Measurements) -> None:
 
 def arguments() -> argparse.Namespace:
     parser = argparse.ArgumentParser(description=__doc__)
-    parser.add_argument("--quick", action="store_true", help="a fifth of the pairs, each once")
+    parser.add_argument("--quick", action="store_true", help="use a fifth of the pairs, and run each measurement once")
     parser.add_argument("--pairs", type=int, default=1_000_000)
-    parser.add_argument("--repeats", type=int, default=3, help="how often each is run; the least time counts")
+    parser.add_argument("--repeats", type=int, default=3, help="runs of each measurement; the least time is reported")
     parser.add_argument("--program", type=Path, default=PROGRAM)
-    parser.add_argument("--folder", type=Path, help="where the files are made: on the disk that is to be measured")
+    parser.add_argument("--folder", type=Path, help="folder for the files, on the disk to be measured")
     options = parser.parse_args()
     exit_if_missing(options.program)
     if options.quick:

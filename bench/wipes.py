@@ -1,5 +1,5 @@
 #!/usr/bin/env python3
-"""Measures `wipe` beside std's BTreeMap and beside deletes; README.md says what is measured, and how."""
+"""Measures `wipe` against std's BTreeMap and against deletes. README.md describes the measurement."""
 
 import argparse
 import hashlib
@@ -18,13 +18,13 @@ from bench.workload import LONG, Phase, Workload, dels, write_phases
 from tools.processes import PROGRAM, Command, exit_if_missing, status_bytes
 
 SETTINGS: dict[str, list[str]] = {"fan 64, chain 16": ["--fan", "64", "--chain", "16"], "defaults": []}
-OTHERS = {"retain": "BTreeMap by retain", "append": "BTreeMap by split_off and append"}  # by the word that the peer takes
+OTHERS = {"retain": "BTreeMap by retain", "append": "BTreeMap by split_off and append"}  # by the peer's argument
 OFTEN = 10_000  # commands in a batch that find nothing, and puts in a batch of a queue
-TURNS = 1_000  # wipes in a batch of wipes and scans in turn, and in one of a queue
-ROWS = 10  # that such a scan has, and keys that a narrow wipe removes
+TURNS = 1_000  # wipes in a batch of alternating wipes and scans, and in a batch of a queue
+ROWS = 10  # rows of such a scan, and keys that a narrow wipe removes
 BATCHES = 10  # of a queue
 PIPE = 4_096  # bytes
-HOLD = Phase("", 2_048, 2_048, lambda: ["get -"] * 2_048)  # prints more than the pipe and the buffer of its reader hold
+HOLD = Phase("", 2_048, 2_048, lambda: ["get -"] * 2_048)  # print more than the pipe and its reader's buffer hold
 BY = {
     "wipe of a tenth": "deletes of a tenth, in key order",
     "wipe of all": "deletes of all, in key order",
@@ -39,7 +39,7 @@ BY = {
 
 @dataclass(frozen=True)
 class WipeSession:
-    """A load, the phases that are measured after it, and whether the peers that go over all pairs at each wipe run it too."""
+    """A load, the phases measured after it, and whether the peers that visit all pairs for each wipe run it too."""
 
     load: Phase
     phases: list[Phase]
@@ -51,7 +51,7 @@ def one(name: str, command: str) -> Phase:
 
 
 def narrow(work: Workload, keys: list[str]) -> Iterator[str]:
-    """Yields in turn a wipe of a few keys and a scan of as many rows: below the last tenth of the keys, which always has some."""
+    """Yields alternately a wipe of a few keys and a scan of as many rows, outside the last tenth of the keys, which always has rows."""
     last = len(keys) * 9 // 10
     for _ in range(TURNS):
         at = work.random.randrange(last)
@@ -81,7 +81,7 @@ def by_deletes(keys: list[str]) -> list[str]:
 
 
 class KeyQueue:
-    """Puts of rising keys, and removals of the oldest keys, so that the number of pairs stays the same."""
+    """A queue: puts rising keys and removes the oldest keys, so that the number of pairs is constant."""
 
     def __init__(self, work: Workload) -> None:
         self.work, self.pairs = work, len(work.keys)
@@ -92,8 +92,7 @@ class KeyQueue:
         return [f"{number:016}" for number in range(start, end)]
 
     def phase(self, name: str, batch: int, each: int, remove: Callable[[list[str]], list[str]]) -> Phase:
-        """Returns a phase of batches of `batch` puts. After `each` puts as many of the oldest keys are removed. The keys follow those of the last
-        phase."""
+        """Returns a phase of batches of `batch` puts. After every `each` puts, as many of the oldest keys are removed."""
         commands: list[str] = []
         for start in range(self.next, self.next + BATCHES * batch, each):
             commands += self.work.puts(self.keys(start, start + each))
@@ -125,7 +124,7 @@ def sessions(work: Workload) -> list[WipeSession]:
     few = pairs // 10
     tenths = [rising[start : start + few] for start in range(0, pairs, few)]
     shuffled = work.random.sample(tenths[5], few)
-    absent = work.random.choices(tenths[7], k=5 * OFTEN)  # no key is longer than one of these and begins with it
+    absent = work.random.choices(tenths[7], k=5 * OFTEN)  # sorts after every key with this prefix
     in_turn = list(narrow(work, rising[6 * few :]))
     load = Phase("load", pairs, LONG, lambda: work.puts(work.keys))
     load_few = Phase("load", pairs // 20, LONG, lambda: work.puts(work.keys[: pairs // 20]))
@@ -157,19 +156,17 @@ def sessions(work: Workload) -> list[WipeSession]:
 
 
 def write_held(text: Path, session: WipeSession) -> None:
-    """Writes the batch file, with a batch before each phase and at the end for whose answers the program has to wait."""
+    """Writes the batch file. Before each phase and at the end is a batch whose long answer makes the program wait."""
     write_phases(text, [session.load, HOLD, *(part for phase in session.phases for part in (phase, HOLD))])
 
 
 def hold(running: TimedProgram) -> float:
-    """Reads the first line of such a batch: the program waits there, so all before it is done, and nothing after it. Returns its processor
-    seconds."""
+    """Reads the first line of a waiting batch's answer. The program is blocked there, between two phases. Returns its processor seconds."""
     running.read_lines(1, hashlib.blake2b())
     return running.cpu()
 
 
 def run_session(command: Command, text: Path, session: WipeSession) -> tuple[list[Sample], list[int]]:
-    """Returns the samples of the phases, and for each the bytes of its peak memory beyond those in use before it."""
     running = TimedProgram(command, text, PIPE)
     running.phase([1, *session.load.lines()])
     samples: list[Sample] = []
@@ -177,7 +174,7 @@ def run_session(command: Command, text: Path, session: WipeSession) -> tuple[lis
     start = hold(running)
     for phase in session.phases:
         before = running.resident()
-        Path(f"/proc/{running.child.pid}/clear_refs").write_text("5")  # the peak counts from here
+        Path(f"/proc/{running.child.pid}/clear_refs").write_text("5")  # resets the peak
         sample = running.phase([HOLD.count - 1, *phase.lines()])
         end = hold(running)
         sample.cpu, start = end - start, end
@@ -192,7 +189,6 @@ Memory = dict[tuple[Phase, str], int]  # by phase and program
 
 
 def measure(work: Workload, commands: dict[str, Command], options: argparse.Namespace, folder: Path) -> tuple[Results, Memory]:
-    """Returns the results, and the least number of bytes that each program took in each phase."""
     results, text = Results(), folder / "session"
     memory: Memory = {}
     for session in sessions(work):
@@ -221,14 +217,12 @@ def print_phases(results: Results, memory: Memory, names: Sequence[str]) -> None
 
 
 def print_others(results: Results, names: Sequence[str]) -> None:
-    """Prints what the peers that go over all pairs took."""
     for name in names:
         took = [f"{phase.name} {sample.cpu * 1000:,.1f} ms" for (phase, program), sample in results.best.items() if program == name]
         print(f"{name}: {', '.join(took)}")
 
 
 def print_quotients(results: Results, names: Sequence[str]) -> None:
-    """Prints for each pair of phases the seconds of the first by those of the second."""
     seconds = {(phase.name, name): sample.cpu for (phase, name), sample in results.best.items()}
     rows = []
     for part, whole in BY.items():
@@ -239,10 +233,10 @@ def print_quotients(results: Results, names: Sequence[str]) -> None:
 
 def arguments() -> argparse.Namespace:
     parser = argparse.ArgumentParser(description=__doc__)
-    parser.add_argument("--quick", action="store_true", help="a fifth of the pairs, each once")
+    parser.add_argument("--quick", action="store_true", help="use a fifth of the pairs, and run each session once")
     parser.add_argument("--pairs", type=int, default=1_000_000)
-    parser.add_argument("--repeats", type=int, default=5, help="how often each session is run; the least counts")
-    parser.add_argument("--only", default="", help="the sessions that have a phase with this in its name")
+    parser.add_argument("--repeats", type=int, default=5, help="runs of each session; the least is reported")
+    parser.add_argument("--only", default="", help="run only sessions with a phase whose name contains this text")
     parser.add_argument("--program", type=Path, default=PROGRAM)
     options = parser.parse_args()
     exit_if_missing(options.program)

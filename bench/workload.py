@@ -1,4 +1,4 @@
-"""Keys, values and commands of the measurements, and the batch files that have them."""
+"""The keys, values and commands of the measurements, and their batch files."""
 
 import base64
 import bisect
@@ -14,26 +14,22 @@ from tools.model import LONGEST_BATCH
 
 LONG = LONGEST_BATCH  # commands
 KEY, VALUE = 16, 100  # bytes
-LOAD, HALF = "load", "half gets, half puts"  # the phases after which memory is measured
+LOAD, HALF = "load", "half gets, half puts"  # memory is measured after these phases
 
 
 @dataclass(frozen=True)
 class Phase:
-    """Commands that are timed together, in batches of one length."""
-
     name: str
     count: int
     batch: int
     commands: Callable[[], Iterable[str]]
-    printed: Callable[[], Sequence[int]] | None = None  # how many lines the reply to each command has, if that is not one
+    printed: Callable[[], Sequence[int]] | None = None  # the number of lines in each command's reply, if it is not one
 
     def batches(self) -> list[int]:
-        """Returns how many commands each batch has."""
         full, rest = divmod(self.count, self.batch)
         return [self.batch] * full + [rest] * (rest > 0)
 
     def lines(self) -> list[int]:
-        """Returns how many lines each batch prints."""
         if self.printed is None:
             return self.batches()
         printed = iter(self.printed())
@@ -46,7 +42,7 @@ class Phase:
 
 
 class Workload:
-    """The keys and the values, in the orders in which the phases use them. Lengths are in bytes."""
+    """The keys and values, in the orders of the phases. Lengths are in bytes."""
 
     def __init__(self, pairs: int, key_bytes: int = KEY, value_bytes: int = VALUE) -> None:
         self.random = random.Random(1)
@@ -71,12 +67,11 @@ class Workload:
         return (f"put {key} {self.value(at + salt)}" for at, key in enumerate(keys))
 
     def half(self, keys: Iterable[str], salt: int) -> Iterator[str]:
-        """Yields gets and puts in turn."""
         for at, key in enumerate(keys):
             yield f"put {key} {self.value(at + salt)}" if at % 2 else f"get {key}"
 
     def ranges(self, keys: Iterable[str], rows: int) -> Iterator[tuple[str, str, int]]:
-        """Yields a range of `rows` rows from each key on: the key, the upper bound, which is `*` at the end, and how many rows there are."""
+        """Yields a range of `rows` rows from each key: the key, the upper bound (`*` at the end), and the number of rows."""
         rising = sorted(self.keys)
         for key in keys:
             start = bisect.bisect_left(rising, key)
@@ -87,15 +82,13 @@ class Workload:
         return (f"scan {lo} {hi} {rows}" for lo, hi, _ in self.ranges(keys, rows))
 
     def open_scans(self, keys: Iterable[str], rows: int) -> Iterator[str]:
-        """Yields scans without an upper bound."""
         return (f"scan {key} * {rows}" for key in keys)
 
     def lines_of_scans(self, keys: Iterable[str], rows: int) -> list[int]:
-        """Returns how many lines each scan prints: the number of rows, and the rows."""
         return [1 + count for _, _, count in self.ranges(keys, rows)]
 
     def zipf(self) -> list[str]:
-        """Returns keys by Zipf's law: the key of rank r in proportion to 1/r."""
+        """Returns keys with Zipf's distribution: the key of rank r has a weight proportional to 1/r."""
         weights = itertools.accumulate(1 / rank for rank in range(1, len(self.keys) + 1))
         return self.random.choices(self.keys, cum_weights=list(weights), k=len(self.keys))
 
@@ -109,7 +102,7 @@ def dels(keys: Iterable[str]) -> Iterator[str]:
 
 
 def write_phases(path: Path, phases: Iterable[Phase]) -> None:
-    """Writes a batch file. The reply to its first batch, of one command, shows that the program has read the text."""
+    """Writes a batch file. The reply to its first batch, of one command, shows that the program has read the input."""
     with open(path, "w") as file:
         file.write("get 0\ngo\n")
         for phase in phases:

@@ -1,15 +1,13 @@
-"""Deliberately broken functions, which the prover has to refuse, and right ones of the same shape, which it has to accept.
+"""Mutation tests of the contracts: the prover must refuse deliberately broken functions, and accept equivalent changes.
 
     python3 -m checks.bodies [CRATE | CRATE/NAME ..]    # at the top of a repository whose libraries the gate has built
 
-A contract is worth what it refuses. Each file `bodies/CRATE/NAME.edit` changes the body of one function: its first line says what the changed function
-does. `file:` names the source, and each `old:` with the `new:` after it replaces a text that occurs there once. `function:` is the function, as the
-prover prints its name. `refused:` is the goal or the clause at which the prover has to refuse this very function; a file with `accepted:` is a control,
-whose function the prover has to accept, so that a check that refuses everything fails.
+Each file `bodies/CRATE/NAME.edit` changes the body of one function. Its first line describes the change. `file:` names the source; each `old:` is
+a text that occurs there once, and `new:` replaces it. `function:` is the function's name as the prover prints it. `refused:` is the goal or clause
+at which the prover must refuse the function. `accepted:` marks a control, which the prover must accept.
 
-Only the functions that are changed, and those that they call, are checked, over the libraries that the gate has built. Edits of one crate that
-change different functions share a check, since the prover reads each function against the contracts of those that it calls. The controls of a crate
-have a check of their own. The checks of a crate are made one after the other, and keep what they have proved of its other functions.
+Only the changed functions and their callees are checked. Edits of different functions in one crate share a check; controls have a check of their
+own.
 """
 
 import re
@@ -27,13 +25,13 @@ from tools import kit
 TOP = Path(__file__).resolve().parent.parent
 EDITS = Path(__file__).resolve().parent / "bodies"
 PARTS = ("src", "specs", "proofs")  # of a crate
-# An error at an answer that cites a name which the edit took away.
+# An error at a proof step that cites a name which the edit removed.
 OF_FORM = re.compile(r"has no field|is not in scope|has no `|was not admitted|depends on")
 
 
 @dataclass(frozen=True)
 class Edit:
-    """A changed function. Without a `goal` it is a control: it is right, and has to be accepted."""
+    """A changed function. Without a `goal` it is a control, which must be accepted."""
 
     crate: str
     name: str
@@ -52,7 +50,7 @@ class Edit:
         return f"{self.crate}/{self.name}"
 
     def apply(self, folder: Path) -> str | None:
-        """Applies the edit to a copy of the crate, and returns what is wrong with it, if anything is."""
+        """Applies the edit to a copy of the crate. Returns an error text if it does not apply."""
         path = folder / self.file
         text = path.read_text()
         for old, new in self.changes:
@@ -65,8 +63,6 @@ class Edit:
 
 @dataclass(frozen=True)
 class Verdict:
-    """What the prover made of an edit: what is wrong with that, if anything is."""
-
     edit: Edit
     wrong: str | None
 
@@ -93,7 +89,7 @@ def all_edits() -> list[Edit]:
 
 
 def groups_of(edits: list[Edit]) -> list[list[Edit]]:
-    """Returns the edits of a crate in groups that are checked together: broken functions, each another one, or right functions."""
+    """Groups a crate's edits for shared checks: mutants of different functions, or controls."""
     groups: list[list[Edit]] = []
     for edit in edits:
         group = next((group for group in groups if fits(edit, group)), None)
@@ -109,7 +105,6 @@ def fits(edit: Edit, group: list[Edit]) -> bool:
 
 
 def run_check(workspace: kit.Workspace, crate: str, folder: Path, kept: Path, functions: list[str]) -> tuple[int, str]:
-    """Checks these functions of a copy of a crate over what earlier checks have kept, and returns the prover's status and what it printed."""
     names = [word for function in functions for word in ("--only", function)]
     words: list[str | Path] = [kit.RATTLE, "check", *workspace.check_words(crate), "--incremental", kept, *names]
     ran = subprocess.run(words, cwd=folder, stdin=subprocess.DEVNULL, stdout=subprocess.PIPE, stderr=subprocess.STDOUT, text=True, errors="replace")
@@ -117,7 +112,6 @@ def run_check(workspace: kit.Workspace, crate: str, folder: Path, kept: Path, fu
 
 
 def verdict_of(edit: Edit, status: int, printed: str) -> Verdict:
-    """Returns what a check's lines say of the function of an edit."""
     full_name = f"fn {edit.crate}::{edit.function}"
     line = next((line for line in printed.splitlines() if line.startswith(f"{full_name}:")), None)
     if line is None:
@@ -134,8 +128,8 @@ def verdict_of(edit: Edit, status: int, printed: str) -> Verdict:
 
 
 def refusals_of(edit: Edit, line: str, printed: str) -> list[str]:
-    """Returns the goals of the function that the prover found no proof for, and those whose answer in the function's proof is wrong for it. An answer
-    that cites what the edit took away is none of them: it shows that the text has another form, and nothing of a contract."""
+    """Returns the goals that the prover could not prove, and those whose proof fails. Steps that cite a name which the edit removed do not count:
+    they say nothing about a contract."""
     found = re.search(r"did not prove ((?:`[^`]+`(?:, )?)+)", line)
     goals = re.findall(r"`([^`]+)`", found[1]) if found else []
     folder = f"proofs/{edit.function.replace('::', '/')}/"
@@ -147,7 +141,6 @@ def refusals_of(edit: Edit, line: str, printed: str) -> list[str]:
 
 
 def check_group(workspace: kit.Workspace, group: list[Edit], kept: Path) -> list[Verdict]:
-    """Checks a group of edits in one copy of their crate."""
     crate = group[0].crate
     with tempfile.TemporaryDirectory(prefix="bodies-") as room:
         folder = Path(room)
@@ -160,7 +153,6 @@ def check_group(workspace: kit.Workspace, group: list[Edit], kept: Path) -> list
 
 
 def check_crate(workspace: kit.Workspace, edits: list[Edit]) -> list[Verdict]:
-    """Checks the edits of a crate, group by group."""
     with tempfile.TemporaryDirectory(prefix="bodies-kept-") as kept:
         return [verdict for group in groups_of(edits) for verdict in check_group(workspace, group, Path(kept))]
 
@@ -170,12 +162,12 @@ def chosen(edits: list[Edit], names: list[str]) -> list[Edit]:
 
 
 def check_all(names: list[str], lanes: int) -> tuple[int, int]:
-    """Checks the edits of these names, or all, some crates at a time; prints a line for each, and returns how many passed and how many failed."""
+    """Checks the named edits, or all, several crates in parallel. Prints a line for each. Returns how many passed and failed."""
     workspace = kit.Workspace(TOP)
     by_crate: dict[str, list[Edit]] = {}
     for edit in chosen(all_edits(), names):
         by_crate.setdefault(edit.crate, []).append(edit)
-    # The crates whose libraries are the largest take longest, and begin.
+    # The crates with the largest libraries take longest, so they start first.
     crates = sorted(by_crate.values(), key=lambda edits: -len(workspace.crates[edits[0].crate].below()))
     passed, failed, start = 0, 0, time.monotonic()
     with ThreadPoolExecutor(lanes) as pool:

@@ -1,4 +1,4 @@
-"""System calls that fail, are interrupted or take only a byte, one kind at a time: on the store's file, and on the standard streams."""
+"""System calls that fail, are interrupted or transfer one byte, on the store's file and on the standard streams."""
 
 import contextlib
 import errno
@@ -15,36 +15,30 @@ from tools.failures import ALWAYS, DEVICE, FailingCalls
 from tools.processes import NO_VARIABLES, PATIENCE, Command, Dialog, Limits, RunResult, new_folder, pipe_of, run
 
 CREW = ("--workers=2", "--grain=1")
-OTHER = ("--fan=65", *CREW)  # for an old file, which has settings of its own: these would be refused
-LENGTH = 1_536  # bytes of a small store's file: 512, and four segments
+OTHER = ("--fan=65", *CREW)  # for an old file, whose settings the command line must not name
+LENGTH = 1_536  # bytes of a small store's file: a front of 512, and four segments
 EXAMPLES = ("cache", "events", "people")
 NONE = FailingCalls("none")
 
 
 @dataclass(frozen=True)
 class FailingStore:
-    """The program, the library that has its calls fail, and the file of its store."""
-
     program: Path
     library: Path
     file: Path
 
     def run(self, fails: FailingCalls, text: bytes, *words: str) -> RunResult:
-        """Runs a session with calls that fail."""
         return run([self.program, *words], text, environment=fails.environment(self.library, self.file))
 
     def make(self, text: bytes, out: bytes) -> None:
-        """Makes a small store. Raises ValueError unless the session prints `out`."""
         wrong = differs(run([self.program, *self.create_words()], text), 0, out)
         if wrong:
             raise ValueError(f"the file was not made: {wrong}")
 
     def create_words(self) -> tuple[str, ...]:
-        """Returns the words of a session that makes the store in the file."""
         return (*SMALL_STORE, *CREW, "--create", f"--disk={self.file}")
 
     def open_words(self) -> tuple[str, ...]:
-        """Returns the words of a session on the store that is in the file."""
         return (*OTHER, f"--disk={self.file}")
 
 
@@ -55,7 +49,6 @@ def failing_store(programs: Programs, library: Path) -> Iterator[FailingStore]:
 
 
 def status_for(err: bytes) -> int:
-    """Returns the exit status of a session with these errors."""
     return 4 if err.startswith(b"fault") else 3 if err else 0
 
 
@@ -64,13 +57,13 @@ def status_for(err: bytes) -> int:
 PUT_AND_GET = b"put a 1\ngo\nget a\n"
 BOTH = b"new\nvalue 1\n"
 
-# Which calls fail, the input, the exit status, the output, and the errors. A write of no bytes comes first, to see whether the output is open.
-# Nothing is written after a fault, even if the output would take it; a call that was interrupted is made again.
+# Failing calls, input, exit status, output, errors. An empty write comes first; it tests whether the output is open.
+# Nothing is written after a fault. Interrupted calls are repeated.
 STREAMS = {
     "the input fails": [
         (FailingCalls("input"), b"put a 1\ngo\n", 4, b"", DEVICE),
         (FailingCalls("input", 1), b"put a 1\ngo\n", 4, b"", DEVICE),
-        (FailingCalls("input", 1), b"frob\n", 4, b"", DEVICE),  # the line that could be read is not checked
+        (FailingCalls("input", 1), b"frob\n", 4, b"", DEVICE),  # the partial line is not parsed
         (FailingCalls("input", 0, 1, errno.EINTR), PUT_AND_GET, 0, BOTH, b""),
         (FailingCalls("input", 1, 1, errno.EINTR), PUT_AND_GET, 0, BOTH, b""),
     ],
@@ -109,7 +102,7 @@ def fail_streams(programs: Programs, library: Path, name: str) -> Outcome:
 
 # ---- A store that is made in an old file.
 
-# Which calls fail, and what remains of the file with `a`: so many of its first bytes, and zeros after them up to this length.
+# Failing calls, and the file afterwards: the number of its old bytes that remain, and its length (the rest is zeros).
 ON_CREATE = [
     (FailingCalls("open"), LENGTH, LENGTH),
     (FailingCalls("hold"), LENGTH, LENGTH),
@@ -122,7 +115,7 @@ ON_CREATE = [
 
 
 def fail_to_create(programs: Programs, library: Path) -> Outcome:
-    """Fails to make a store in an old file, and checks what remains of the file. If zeros follow a store, the file holds that store."""
+    """Fails to make a store in an old file, and checks the file. If only zeros follow a store, the file still has that store."""
     with failing_store(programs, library) as store:
         for fails, kept, length in ON_CREATE:
             store.make(b"put a 1\nflush\n", b"new\nflushed 2\n")
@@ -141,7 +134,6 @@ EMPTIED = [FailingCalls("length"), FailingCalls("cut"), FailingCalls("cut", 2), 
 
 
 def stay_empty(programs: Programs, library: Path, name: str) -> Outcome:
-    """Runs an example on an empty file, in which it makes a store (`open_or_create`). If it cannot, the file remains empty."""
     program = programs.examples / name
     if not program.is_file():
         return Outcome(left_out="it is not built: python3 examples/run.py builds it")
@@ -162,8 +154,8 @@ def stay_empty(programs: Programs, library: Path, name: str) -> Outcome:
 READS, ANSWERS = b"get a\nput b 2\nverify\n", b"value 1\nnew\nok 1 1 2\n"
 NO_SYNC, READ_ONLY = errno.EINVAL, errno.EROFS
 
-# Which calls fail, the lines, the answers, and the fault that ends the session, if one does. Sessions that only read do not write, lock the file for
-# themselves or open it for writing, and do without a sync if the file has none; all others need their first sync too.
+# Failing calls, lines, answers, and the fault that ends the session, if any. Reading sessions do not write, do not need
+# an exclusive lock, and tolerate a file that cannot be synced. All others also need their first sync.
 ON_OLD_FILE = [
     (FailingCalls("open"), READS, ANSWERS, b""),
     (FailingCalls("hold"), READS, ANSWERS, b""),
@@ -188,7 +180,6 @@ ON_OLD_FILE = [
 
 
 def fail_on_old_file(programs: Programs, library: Path, fails: FailingCalls, text: bytes, out: bytes, err: bytes) -> Outcome:
-    """Fails calls of a file with `a`, whose bytes stay the same."""
     with failing_store(programs, library) as store:
         store.make(b"put a 1\nflush\n", b"new\nflushed 2\n")
         before = store.file.read_bytes()
@@ -197,7 +188,7 @@ def fail_on_old_file(programs: Programs, library: Path, fails: FailingCalls, tex
 
 
 def fail_third(programs: Programs, library: Path, call: str) -> Outcome:
-    """Interrupts the third call, which is made again, or fails it. Each call takes one byte, and the program makes as many as it needs."""
+    """Interrupts the third call, which must be repeated, or fails it. Each call transfers one byte."""
     with failing_store(programs, library) as store:
         for error, err in ((errno.EINTR, b""), (errno.EIO, DEVICE)):
             fails = FailingCalls(call, 2, 1, error, cuts=True)
@@ -215,7 +206,7 @@ def fail_third(programs: Programs, library: Path, call: str) -> Outcome:
 
 
 def cut_file(programs: Programs, library: Path) -> Outcome:
-    """Cuts a file while a session has it open: a read after the end is a fault."""
+    """Truncates a file while a session has it open. A read past the end must be a fault."""
     with failing_store(programs, library) as store:
         changes = b"".join(b"put a 0123456789abcdef\nflush\n" for _ in range(9))
         store.make(changes, b"new\nflushed 2\n" + b"".join(b"replaced\nflushed %d\n" % number for number in range(3, 11)))
@@ -229,7 +220,7 @@ def cut_file(programs: Programs, library: Path) -> Outcome:
         return Outcome(None if (first, ended) == (b"ok 1 1 1\n", (4, b"", DEVICE)) else f"{first!r}, and then {ended}")
 
 
-# ---- How many syncs a session makes of its file: whether the file is new, the lines, and the number. An old file is synced before it is read, and a
+# Number of syncs by session. An old file is synced before it is read, and a new store once; a flush or an upgrade needs three.
 # new store once; a flush and an upgrade make three syncs, or none if there is nothing to write.
 SYNCS = [
     (True, b"", 1),
@@ -242,7 +233,6 @@ SYNCS = [
 
 
 def count_syncs(programs: Programs, library: Path) -> Outcome:
-    """Fails the syncs from each number on: the session ends by a fault for each number up to that of the syncs that it makes."""
     with failing_store(programs, library) as store:
         for is_new, text, count in SYNCS:
             words = store.create_words() if is_new else store.open_words()
@@ -253,12 +243,12 @@ def count_syncs(programs: Programs, library: Path) -> Outcome:
     return Outcome()
 
 
-# ---- How many threads a session starts: in each round the workers but one, if there are pieces for them.
+# ---- How many threads a session starts: one fewer than the workers, if there is enough work.
 
-ENDED = 99  # the status of a session that is ended when it starts a thread
+ENDED = 99  # status of a session that is ended when it starts a thread
 LEAVES = 100
 
-# How many leaves a batch has, the words, and whether threads are started. A piece has as many leaves as the grain says.
+# Leaves of a batch, options, and whether threads are started. A work item has `grain` leaves.
 HELPED = [
     (LEAVES, "", False),  # one worker
     (LEAVES, "--workers=1 --grain=1", False),
@@ -271,7 +261,7 @@ HELPED = [
 
 
 def count_helpers(store: FailingStore, leaves: int, words: str) -> int:
-    """Returns how many threads a session of two batches starts: the first makes leaves of four pairs, and the second puts all pairs again."""
+    """Returns how many threads a session of two batches starts. The first makes leaves of four pairs, the second overwrites all pairs."""
     puts = b"".join(b"put %06d v\n" % number for number in range(4 * leaves))
     for first in range(ALWAYS):
         ran = store.run(FailingCalls("thread", first, error=ENDED), puts + b"go\n" + puts, *SMALL_STORE, *words.split())
@@ -284,7 +274,6 @@ def count_helpers(store: FailingStore, leaves: int, words: str) -> int:
 
 
 def count_threads(programs: Programs, library: Path) -> Outcome:
-    """Counts the threads of sessions with several crews: given on the command line, and by default."""
     with failing_store(programs, library) as store:
         for leaves, words, is_helped in HELPED:
             count = count_helpers(store, leaves, words)
@@ -300,8 +289,7 @@ LOCKED = [b"put a 1\nflush\n", b"clean\n", b"upgrade\n"]
 
 
 def lock(programs: Programs, library: Path) -> Outcome:
-    """Runs sessions that read a file, write to it and make a store in it while another process has locked it for itself, and while another shares it;
-    and one after that."""
+    """Runs reading, writing and creating sessions while another process holds an exclusive or a shared lock, and afterwards."""
     with failing_store(programs, library) as store:
         store.make(b"", b"")
         before = store.file.read_bytes()
@@ -318,7 +306,6 @@ def lock(programs: Programs, library: Path) -> Outcome:
 
 
 def is_free(file: Path) -> bool:
-    """Returns whether no process has locked the file."""
     with file.open("rb") as other:
         try:
             fcntl.flock(other, fcntl.LOCK_EX | fcntl.LOCK_NB)
@@ -328,7 +315,6 @@ def is_free(file: Path) -> bool:
 
 
 def full_pipe() -> tuple[int, int]:
-    """Makes a pipe, fills it, and returns its ends: to read, to write."""
     reader, writer = os.pipe()
     os.set_blocking(writer, False)
     with contextlib.suppress(BlockingIOError):
@@ -339,8 +325,8 @@ def full_pipe() -> tuple[int, int]:
 
 
 def close_first(programs: Programs, library: Path) -> Outcome:
-    """Checks that a session closes its file before it writes a fault to standard error. Here standard error is a full pipe, so the write has to wait.
-    So the line cannot get into the file if that has the descriptor of a standard error that was closed."""
+    """Checks that a session closes its file before it writes a fault. Standard error is a full pipe, so the write blocks. This way the line cannot
+    reach the file through a reused descriptor."""
     with failing_store(programs, library) as store:
         store.make(b"", b"")
         reader, writer = full_pipe()

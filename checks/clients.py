@@ -1,4 +1,4 @@
-"""The clients: the tests of the Python module, and the example in shell, on the program."""
+"""Runs the tests of the Python client and the shell example."""
 
 import os
 import re
@@ -12,12 +12,11 @@ from tools.processes import TOP, new_folder
 
 CLIENTS = TOP / "clients"
 TESTS = ("Replies", "Lasting", "Faults", "Kills", "Pipes")
-PATIENCE = 300  # seconds, on a busy machine too
-SESSIONS = 40  # of the example in shell, which fill such a log more than once
+PATIENCE = 300  # seconds, also on a busy machine
+SESSIONS = 40  # of the shell example, which fill such a log more than once
 
 
 def run_tests(programs: Programs, name: str) -> Outcome:
-    """Runs the tests of a class. A warning, such as that of a pipe that was not closed, is an error too."""
     command = [sys.executable, "-B", "-W", "error", "-m", "unittest", f"test_taukremil.{name}"]
     environment = {**os.environ, "BWSH": str(programs.store)}
     ran = subprocess.run(command, cwd=CLIENTS / "python", env=environment, capture_output=True, timeout=PATIENCE)
@@ -26,7 +25,7 @@ def run_tests(programs: Programs, name: str) -> Outcome:
 
 
 def run_shell(programs: Programs) -> Outcome:
-    """Runs the example in shell on one small file until flushes have cleaned it, and checks what it prints each time."""
+    """Runs the shell example on one small file until flushes have cleaned the log, and checks its output each time."""
     if shutil.which("bash") is None:
         return Outcome(left_out="there is no bash here")
     with new_folder() as folder:
@@ -38,7 +37,7 @@ def run_shell(programs: Programs) -> Outcome:
             flushed = re.fullmatch(rb"the value is hello\nflushed (\d+)\n", ran.stdout)
             if not flushed or ran.returncode or ran.stderr or int(flushed[1]) <= last:
                 return Outcome(f"status {ran.returncode}, output {ran.stdout!r}, errors {ran.stderr!r}")
-            cleans += int(flushed[1]) - last - 1  # a clean takes a number too
+            cleans += int(flushed[1]) - last - 1  # a clean uses a sequence number too
             last = int(flushed[1])
         return Outcome(None if cleans else "no flush had to clean", measured=f"{cleans} cleans")
 

@@ -1,5 +1,4 @@
-"""Command lines: which settings, crew and file the words name, which are refused, and which ask for help. The first bytes of a file have the settings
-with which it was made; a fault names a setting or a crew that is out of range."""
+"""Command lines: settings, crew, file, refusals and help. The file's first bytes show the settings with which it was made."""
 
 import shlex
 import struct
@@ -12,7 +11,7 @@ from tools.processes import RunResult, new_folder, run
 TEXT = b"put a 1\n"
 BAD_CREW = b"fault 5 BadCrew\n"
 
-# The settings that a line names: fan, chain, key, value, segment, segments. The others are the defaults of the program.
+# The settings of a command line: fan, chain, key, value, segment, segments.
 SETTINGS = [
     ("", (16, 4, 64, 256, 65_536, 64)),
     ("--fan 8 --chain 2 --max-key 3 --max-value 5 --seg-size 700 --segments 9", (8, 2, 3, 5, 700, 9)),
@@ -20,7 +19,7 @@ SETTINGS = [
     ("--chain 2", (16, 2, 64, 256, 65_536, 64)),
 ]
 
-# The first setting of a line that is out of its range.
+# The first setting that is out of range.
 OUT_OF_RANGE = [
     ("--fan 8 --chain 2 --max-key 3 --max-value 5 --seg-size 7 --segments 9", b"seg_size"),
     ("--fan 8 --chain 2 --max-key 3 --max-value 5 --seg-size 700 --segments 2", b"segments"),
@@ -31,10 +30,10 @@ OUT_OF_RANGE = [
     ("--max-value 1025", b"max_value"),
 ]
 
-# Whether the crew of a line is in its range.
+# Whether the crew is in range.
 CREWS = [("--fan 8", True), ("--workers 8 --grain 2", True), ("--grain=0 --disk 8", False), ("--workers=0 --grain 2", False)]
 
-# The file that a line names, if any, and whether a store is made in it.
+# The file of a command line, if any, and whether a store is created in it.
 FILES: list[tuple[str, str | None, bool]] = [
     ("", None, False),
     ("--disk a", "a", False),
@@ -81,7 +80,7 @@ REFUSED = [
 
 ASK_FOR_HELP = ["--help", "-h", "--fan 8 -h --flan", "--disk a --create -h --create"]
 
-# What the help has to contain: each kind of line, what a segment has to hold, the ranges of a crew, and the exit statuses.
+# What the help must contain: forms of the command line, segment size, crew ranges, exit statuses.
 HELP = [
     b"put K V",
     b"add K V",
@@ -109,12 +108,10 @@ HELP = [
 
 
 def start(programs: Programs, folder: str, line: str, text: bytes = TEXT) -> RunResult:
-    """Runs the program with the words of this line."""
     return run([programs.store, *shlex.split(line)], text, folder=Path(folder))
 
 
 def check_settings(programs: Programs) -> Outcome:
-    """Checks the settings in the first bytes of a file that was made with the words of a line: in an empty file, and in one with bytes."""
     for line, numbers in SETTINGS:
         with new_folder() as folder:
             path = Path(folder) / "store"
@@ -148,7 +145,7 @@ def check_crews(programs: Programs) -> Outcome:
 
 
 def find_file(programs: Programs, line: str, path: str | None, is_made: bool) -> Outcome:
-    """Checks that a line names this file. It is made, and no other file; or it is opened, and nothing is made if it is missing."""
+    """Checks that exactly this file is created, or opened; a missing file is not created without --create."""
     with new_folder() as folder:
         ran = start(programs, folder, line, b"put a 1\nflush\n")
         names = [each.name for each in Path(folder).iterdir()]
@@ -165,7 +162,6 @@ def find_file(programs: Programs, line: str, path: str | None, is_made: bool) ->
 
 
 def wrong_refusal(ran: RunResult, error: bytes) -> str | None:
-    """Returns what is wrong with the ending of a session whose words are refused with this error. It may not read its input."""
     is_right = ran.status == 2 and not ran.out and ran.err.startswith(error) and not ran.read
     return None if is_right else f"{ran.describe()}, and read {ran.read} bytes, where {error!r} was expected"
 
@@ -180,7 +176,7 @@ def refuse_words(programs: Programs) -> Outcome:
 
 
 def refuse_bytes(programs: Programs) -> Outcome:
-    """Starts sessions with a word that is no UTF-8 text. It is refused at every place."""
+    """Passes a word that is not UTF-8, at each position. It must be refused."""
     for words in ([b"\xff"], [b"--help", b"\xff"], [b"--disk", b"a\xff"]):
         ran = run([programs.store, *words], TEXT)
         wrong = differs(ran, 2, b"", b"error: a word of the command line is no text\n") or (f"it read {ran.read} bytes" if ran.read else None)
@@ -190,7 +186,6 @@ def refuse_bytes(programs: Programs) -> Outcome:
 
 
 def show_help(programs: Programs) -> Outcome:
-    """Checks that the help contains what it has to, and that the session reads no input."""
     with new_folder() as folder:
         texts = [start(programs, folder, line) for line in ASK_FOR_HELP]
     for line, ran in zip(ASK_FOR_HELP, texts):

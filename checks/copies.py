@@ -1,5 +1,4 @@
-"""Copies of the store that sessions make at their end (`--copy-to`): what a copy holds, when none is made, and what the file at its path holds
-then."""
+"""`--copy-to`: what a copy contains, when none is made, and what its file contains then."""
 
 import fcntl
 import os
@@ -12,14 +11,14 @@ from tools.cases import SMALL_STORE, Case, Outcome, Programs, differs
 from tools.failures import DEVICE, NO_MEMORY, REFUSED, FailingCalls, refusing
 from tools.processes import NO_VARIABLES, PATIENCE, Command, Dialog, Limits, new_folder, run
 
-LANES = 4  # cases with a part of the allocations each
+LANES = 4  # cases, each with a share of the allocations
 LARGE = ("--fan=8", "--chain=1", "--max-key=32", "--max-value=16", "--seg-size=1024", "--segments=8")
 LARGE_LENGTH = 512 + 8 * 1024
 PUTS, PUT = b"put a 1\nput b 2\nput c 3\n", b"new\nnew\nnew\n"
 SCAN, SCANNED = b"scan % * 9\n", b"rows 3\na 1\nb 2\nc 3\n"
 KILLS = 25  # of copies of one store
 
-# The stream that is redirected to the file of a copy, the words, and how the file begins then.
+# The stream that is redirected to the copy's file, the options, and the file's first bytes.
 REDIRECTED: list[tuple[str, tuple[str, ...], bytes]] = [
     (">", (), b"replaced\n" * 3),
     (">", ("--stream",), b"replaced\n" * 3),
@@ -29,7 +28,6 @@ REDIRECTED: list[tuple[str, tuple[str, ...], bytes]] = [
 
 
 def wrong_store(programs: Programs, path: Path, scanned: bytes = SCANNED, length: int | None = None) -> str | None:
-    """Returns what is wrong with the store in this file, which has to answer this to a scan, and to have this length if one is given."""
     ran = run([programs.store, "--disk", path], SCAN + b"verify\n")
     if ran.status or ran.err or not ran.out.startswith(scanned + b"ok "):
         return f"the copy has {ran.describe()}"
@@ -39,14 +37,12 @@ def wrong_store(programs: Programs, path: Path, scanned: bytes = SCANNED, length
 
 
 def is_empty(path: Path) -> str | None:
-    """Returns what is wrong with a file that has to be there and to be empty."""
     if not path.is_file():
         return f"{path.name} is no file"
     return f"{path.name} has {path.stat().st_size} bytes" if path.stat().st_size else None
 
 
 def make(programs: Programs, path: Path, *words: str) -> bytes:
-    """Makes a store with PUTS in a file, and returns the bytes of the file."""
     wrong = differs(run([programs.store, *SMALL_STORE, *words, "--create", "--disk", path], PUTS + b"flush\n"), 0, PUT + b"flushed 2\n")
     if wrong:
         raise ValueError(f"the file was not made: {wrong}")
@@ -57,7 +53,7 @@ def make(programs: Programs, path: Path, *words: str) -> bytes:
 
 
 def copy_all(programs: Programs, words: tuple[str, ...]) -> Outcome:
-    """Copies a store in memory and one in a file, flushed or not, under other settings. A session that only reads does not write to its file."""
+    """Copies a store in memory and one in a file, flushed or not, with other settings. A reading session does not write to its file."""
     with new_folder() as folder:
         store, memory, file, last, again = (Path(folder) / name for name in ("store", "memory", "file", "last", "again"))
         wrong = differs(run([programs.store, *words, *LARGE, "--copy-to", memory], PUTS), 0, PUT)
@@ -65,10 +61,9 @@ def copy_all(programs: Programs, words: tuple[str, ...]) -> Outcome:
         before = make(programs, store)
         wrong = wrong or differs(run([programs.store, *words, *LARGE, "--disk", store, "--copy-to", file], b"get b\n"), 0, b"value 2\n")
         wrong = wrong or wrong_store(programs, file, length=LARGE_LENGTH) or (None if store.read_bytes() == before else "the store has other bytes")
-        # The copy has what is not flushed, and the file of the store does not.
+        # Only the copy has the unflushed pairs.
         wrong = wrong or differs(run([programs.store, *words, *LARGE, "--disk", store, "--copy-to", last], b"del c\n"), 0, b"deleted\n")
         wrong = wrong or wrong_store(programs, last, b"rows 2\na 1\nb 2\n") or wrong_store(programs, store)
-        # A copy is a store like any other.
         wrong = wrong or differs(run([programs.store, *words, *SMALL_STORE, "--disk", last, "--copy-to", again], b""), 0, b"")
         wrong = wrong or wrong_store(programs, again, b"rows 2\na 1\nb 2\n", 1_536)
         wrong = wrong or differs(run([programs.store, "--disk", last], b"put d 4\nflush\n"), 0, b"new\nflushed 3\n")
@@ -76,7 +71,7 @@ def copy_all(programs: Programs, words: tuple[str, ...]) -> Outcome:
 
 
 def copy_with_numbers(programs: Programs) -> Outcome:
-    """Copies a store without pairs, with --stat. The numbers are those of the store, and are printed before it is copied."""
+    """Copies an empty store with --stat, which prints the store's numbers before the copy."""
     with new_folder() as folder:
         copy = Path(folder) / "copy"
         ran = run([programs.store, *SMALL_STORE, "--stat", "--copy-to", copy])
@@ -85,7 +80,7 @@ def copy_with_numbers(programs: Programs) -> Outcome:
 
 
 def copy_many(programs: Programs) -> Outcome:
-    """Copies a store with many pairs and many empty pages, which has four workers. The copy has the same pairs and fewer pages."""
+    """Copies a store with many pairs and many empty pages. The copy has fewer pages."""
     puts = b"".join(b"put k%05d v%d\n" % (number, number) for number in range(20_000)) + b"wipe k15000 *\n"
     with new_folder() as folder:
         copy = Path(folder) / "copy"
@@ -101,7 +96,7 @@ def copy_many(programs: Programs) -> Outcome:
 
 
 def copy_of_stream(programs: Programs) -> Outcome:
-    """Copies the store of a stream at its end. Until then the file of the copy is locked and empty."""
+    """Copies a stream's store at the end. Until then the copy's file is locked and empty."""
     with new_folder() as folder:
         copy = Path(folder) / "copy"
         dialog = Dialog(programs.store, *SMALL_STORE, f"--copy-to={copy}")
@@ -118,8 +113,7 @@ def copy_of_stream(programs: Programs) -> Outcome:
 
 
 def copy_over(programs: Programs) -> Outcome:
-    """Copies to a file that is there. If it has bytes, also if it is the store's own, it keeps them and nothing is run; an empty one becomes the
-    copy."""
+    """Copies to an existing file. A non-empty file, even the store's own, keeps its bytes and nothing is run; an empty one becomes the copy."""
     with new_folder() as folder:
         store, copy = Path(folder) / "store", Path(folder) / "copy"
         before = make(programs, store)
@@ -139,7 +133,7 @@ def copy_over(programs: Programs) -> Outcome:
 
 
 def create_over_copy(programs: Programs) -> Outcome:
-    """Makes a store in the file of its own copy: by the same path, by another one, and by a link. Nothing is run."""
+    """Uses one file for the store and its copy, by the same path, another path and a link. Nothing is run."""
     with new_folder() as folder:
         new, link = Path(folder) / "new", Path(folder) / "link"
         link.symlink_to(new)
@@ -152,7 +146,7 @@ def create_over_copy(programs: Programs) -> Outcome:
 
 
 def copy_to_no_file(programs: Programs) -> Outcome:
-    """Copies to a path in a missing folder, to a folder, a pipe and a device: nothing is run, and the errors have the reason."""
+    """Copies to a path in a missing folder, a folder, a pipe and a device. Nothing is run, and the errors have the reason."""
     with new_folder() as folder:
         pipe = Path(folder) / "pipe"
         os.mkfifo(pipe)
@@ -168,7 +162,6 @@ def copy_to_no_file(programs: Programs) -> Outcome:
 
 
 def copy_too_long(programs: Programs) -> Outcome:
-    """Copies to a file that may not be so long: nothing is run, and the file is empty."""
     with new_folder() as folder:
         copy = Path(folder) / "copy"
         ran = run([programs.store, *LARGE, "--copy-to", copy], PUTS, Limits(file_blocks=8))
@@ -176,7 +169,6 @@ def copy_too_long(programs: Programs) -> Outcome:
 
 
 def copy_over_locked(programs: Programs) -> Outcome:
-    """Copies to a file that another process has locked for itself, or shares: nothing is run."""
     with new_folder() as folder:
         copy = Path(folder) / "copy"
         copy.write_bytes(b"")
@@ -189,7 +181,7 @@ def copy_over_locked(programs: Programs) -> Outcome:
 
 
 def redirect_to_copy(programs: Programs, stream: str, words: tuple[str, ...], begins: bytes) -> Outcome:
-    """Redirects a stream of the session to the file of its copy. If the file has bytes when the copy is made, it keeps them, and there is no copy."""
+    """Redirects a stream to the copy's file. If the file is not empty when the copy starts, it keeps its bytes."""
     with new_folder() as folder:
         store, copy = Path(folder) / "store", Path(folder) / "copy"
         make(programs, store)
@@ -200,7 +192,7 @@ def redirect_to_copy(programs: Programs, stream: str, words: tuple[str, ...], be
 
 
 def write_to_copy(programs: Programs) -> Outcome:
-    """Writes to the file of a copy from this process, which asks for no lock. The file keeps these bytes, and there is no copy."""
+    """Writes to the copy's file from this process, without a lock. The file keeps these bytes, and there is no copy."""
     with new_folder() as folder:
         copy = Path(folder) / "copy"
         dialog = Dialog(programs.store, "--copy-to", copy)
@@ -215,7 +207,7 @@ def write_to_copy(programs: Programs) -> Outcome:
 
 # ---- Sessions without a copy.
 
-# The words, the input, the exit status, the output and the first line of the errors. The file of the copy is empty then.
+# Options, input, exit status, output and first line of errors. The copy's file is empty.
 END_EARLY = [
     ((), b"put a 1\nclean\nput b 2\n", 4, b"new\n", b"fault 11 NothingToClean\n"),
     (("--stream",), b"put a 1\nclean\nput b 2\n", 4, b"new\n", b"fault 11 NothingToClean\n"),
@@ -225,7 +217,7 @@ END_EARLY = [
 
 
 def end_early(programs: Programs, words: tuple[str, ...], text: bytes, status: int, out: bytes, err: bytes) -> Outcome:
-    """Runs orders that end the session early: nothing is copied, and the session ends as it does without --copy-to."""
+    """Ends sessions early. Nothing is copied; otherwise the session ends as without --copy-to."""
     with new_folder() as folder:
         copy = Path(folder) / "copy"
         wrong = differs(run([programs.store, *words], text), status, out, err)
@@ -233,8 +225,6 @@ def end_early(programs: Programs, words: tuple[str, ...], text: bytes, status: i
 
 
 def refuse_before_copy(programs: Programs) -> Outcome:
-    """Runs sessions that are refused for a bad line, a crew, settings or a closed stream: no file of a copy is made, whether the store is in a file
-    or not."""
     with new_folder() as folder:
         store, copy = Path(folder) / "store", Path(folder) / "copy"
         before = make(programs, store)
@@ -256,7 +246,7 @@ def refuse_before_copy(programs: Programs) -> Outcome:
 LONG_KEY = b"put 0123456789abcdef0 1\n"
 MANY = b"".join(b"put sixteen_bytes_%d sixteen_bytes_v1\n" % pair for pair in range(10, 60))
 
-# The input, its answers, the fault, and what the line that explains it says of the copy.
+# Input, answers, fault, and the explanation's text about the copy.
 REFUSED_COPIES = [
     (LONG_KEY, b"new\n", b"fault 2 KeyTooLong 0\n", b"A key is too long for the copy. Use a larger --max-key."),
     (PUTS + LONG_KEY, PUT + b"new\n", b"fault 2 KeyTooLong 0\n", b"A key is too long for the copy. Use a larger --max-key."),
@@ -266,8 +256,7 @@ REFUSED_COPIES = [
 
 
 def refuse_copy(programs: Programs, text: bytes, out: bytes, err: bytes, end: bytes) -> Outcome:
-    """Copies pairs that are too long for the settings of the copy, or do not fit in its log: all answers are printed, the file is empty, and the
-    store has the same bytes."""
+    """Copies pairs that do not fit the copy's settings or its log. All answers are printed, the copy's file is empty, and the store is unchanged."""
     with new_folder() as folder:
         store, copy = Path(folder) / "store", Path(folder) / "copy"
         made = run([programs.store, "--create", "--disk", store], text + b"flush\n")
@@ -284,7 +273,7 @@ def refuse_copy(programs: Programs, text: bytes, out: bytes, err: bytes, end: by
 
 # ---- Calls that fail.
 
-# Which calls on the copy's file fail, whether all orders were done before, and the length of the file afterwards.
+# Failing calls on the copy's file, whether all answers come first, and the file's length afterwards.
 CALLS = [
     (FailingCalls("open"), False, None),
     (FailingCalls("hold"), False, 0),
@@ -305,8 +294,7 @@ CALLS = [
 
 
 def fail_calls(programs: Programs, library: Path, fails: FailingCalls, is_done: bool, length: int | None) -> Outcome:
-    """Fails calls on the copy's file. Nothing is run, or all answers are printed; the store has the same bytes; the copy's file is empty if that can
-    be."""
+    """Fails calls on the copy's file. The store's file never changes, and the copy's file is emptied if possible."""
     with new_folder() as folder:
         store, copy = Path(folder) / "store", Path(folder) / "copy"
         make(programs, store)
@@ -325,7 +313,7 @@ def fail_calls(programs: Programs, library: Path, fails: FailingCalls, is_done: 
 
 
 def refuse_allocations(programs: Programs, library: Path, lane: int) -> Outcome:
-    """Refuses each allocation in turn. If all is done, the copy is there; if not, its file is empty or missing."""
+    """Refuses each allocation in turn. The copy is complete if the session succeeds; otherwise its file is empty or missing."""
     with new_folder() as folder:
         store, copy = Path(folder) / "store", Path(folder) / "copy"
         before = make(programs, store)
@@ -352,7 +340,7 @@ def refuse_allocations(programs: Programs, library: Path, lane: int) -> Outcome:
 
 
 def close(programs: Programs, closed: str) -> Outcome:
-    """Closes streams, so that the copy's file may get the descriptor of one. It holds the store and nothing else, or is empty or missing."""
+    """Closes streams, so that the copy's file may get a stream's descriptor. It must contain only the store, or be empty or missing."""
     with new_folder() as folder:
         store, copy = Path(folder) / "store", Path(folder) / "copy"
         make(programs, store)
@@ -364,7 +352,6 @@ def close(programs: Programs, closed: str) -> Outcome:
 
 
 def closed_pipe(programs: Programs) -> Outcome:
-    """Closes the pipe of the answers: the session ends by that, and nothing is copied."""
     with new_folder() as folder:
         copy = Path(folder) / "copy"
         dialog = Dialog(programs.store, *SMALL_STORE, "--copy-to", copy)
@@ -378,8 +365,7 @@ def closed_pipe(programs: Programs) -> Outcome:
 
 
 def check_killed(programs: Programs, copy: Path, pairs: int) -> tuple[str | None, str]:
-    """Returns what is wrong with the file at the path of a killed session's copy, and what the file has: no bytes, no store, a store without pairs,
-    or the whole copy."""
+    """Checks the copy's file after a kill. Returns an error, and what the file is: empty, no store, an empty store, or the copy."""
     if not copy.exists() or copy.stat().st_size == 0:
         return None, "no bytes"
     ran = run([programs.store, "--disk", copy, "--stat"])
@@ -392,7 +378,7 @@ def check_killed(programs: Programs, copy: Path, pairs: int) -> tuple[str | None
 
 
 def kill(programs: Programs) -> Outcome:
-    """Kills sessions while they copy. The store has the same bytes, and the file at the path has no store, one without pairs, or the whole copy."""
+    """Kills sessions while they copy. The store's file never changes."""
     puts = b"".join(b"put k%06d v%d\n" % (number, number) for number in range(60_000)) + b"flush\n"
     found: Counter[str] = Counter()
     with new_folder() as folder:

@@ -1,5 +1,4 @@
-"""Sessions over a pipe: the answers to a line arrive before the next line is sent; bad lines, closed pipes, kills, and a stream that goes on for
-long."""
+"""Sessions over a pipe: each line is answered before the next is sent; bad lines, closed pipes, kills and long streams."""
 
 import random
 from pathlib import Path
@@ -8,11 +7,10 @@ from tools.cases import SMALL_STORE, Case, Outcome, Programs
 from tools.processes import PATIENCE, Dialog, new_folder, peak_memory
 
 LONG = 20_000  # batches of a long stream
-MEMORY = 40_000_000  # bytes that a long stream may take
+MEMORY = 40_000_000  # bytes of memory that a long stream may use
 KILLS = 12
 
 
-# Lines that are sent at a time, and the answers to them.
 TALK = [
     (b"put a 1\ngo\n", b"new\n"),
     (b"get a\nget b\r\ngo\r\n", b"value 1\nmissing\n"),
@@ -27,7 +25,6 @@ TALK = [
 
 
 def check_answers(programs: Programs) -> Outcome:
-    """Sends lines, and expects their answers and nothing else before it sends the next ones. The last line has no line feed."""
     dialog = Dialog(programs.store)
     for text, answers in TALK:
         dialog.send(text)
@@ -44,7 +41,7 @@ def check_answers(programs: Programs) -> Outcome:
     return Outcome(None if ended == (0, b"deleted\nmissing\n", b"") else f"the session ended with {ended}")
 
 
-# The words, the lines, the answers, and how the session ends although its input stays open.
+# Options, lines, answers, and how the session ends while its input is open.
 STOPS = [
     ((), b"put a 1\ngo\nput b 1\nfrob\nget a\ngo\n", b"new\n", (3, b"line 4: unknown command\n")),
     (("--max-key=1",), b"put a 1\ngo\nget a\nput ab 1\ngo\nget a\ngo\n", b"new\n", (4, b"fault 2 KeyTooLong 1\n")),
@@ -53,7 +50,6 @@ STOPS = [
 
 
 def stop(programs: Programs, number: int) -> Outcome:
-    """Checks that a session ends at a bad line and at a refused batch even if its input stays open."""
     words, text, out, ended = STOPS[number]
     dialog = Dialog(programs.store, *words)
     dialog.send(text)
@@ -63,7 +59,6 @@ def stop(programs: Programs, number: int) -> Outcome:
 
 
 def close_answers(programs: Programs) -> Outcome:
-    """Closes the pipe of the answers while a session waits for a line."""
     dialog = Dialog(programs.store)
     dialog.send(b"put a 1\ngo\n")
     first = dialog.read_line()
@@ -74,7 +69,7 @@ def close_answers(programs: Programs) -> Outcome:
 
 
 def run_long_stream(programs: Programs) -> Outcome:
-    """Runs many small batches, which take no more memory than few, and many flushes of a small log, which need no order to clean it."""
+    """Runs many small batches, whose memory must not grow, and many flushes of a small log, which must be cleaned automatically."""
     with new_folder() as folder:
         dialog = Dialog(programs.store, "--disk", Path(folder) / "file", "--create", "--clean-when-full", *SMALL_STORE)
         cleans = 0
@@ -94,7 +89,6 @@ def run_long_stream(programs: Programs) -> Outcome:
 
 
 def kill(programs: Programs, seed: int) -> Outcome:
-    """Kills sessions between batches. The next one has to find the pairs of the last flush that was reported."""
     chance = random.Random(seed)
     with new_folder() as folder:
         path, flushed = Path(folder) / "file", dict[bytes, bytes]()
@@ -120,7 +114,7 @@ def kill(programs: Programs, seed: int) -> Outcome:
 
 
 def lock(programs: Programs) -> Outcome:
-    """Checks that a session over a pipe locks its file before it has read a line, and that the lock is gone after a kill."""
+    """Checks that a session locks its file before it reads a line, and that a kill releases the lock."""
     with new_folder() as folder:
         path = Path(folder) / "file"
         Dialog(programs.store, "--disk", path, "--create").finish()

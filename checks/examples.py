@@ -1,5 +1,4 @@
-"""The programs of `examples/`: sessions that are killed again and again in the middle of their work on a file, which a new session reads after each
-kill; and the first programs of docs/EMBEDDING.md."""
+"""The programs of `examples/`: sessions that are killed at random and read back by a new session; and the first programs of docs/EMBEDDING.md."""
 
 import random
 from collections.abc import Callable
@@ -14,15 +13,13 @@ from tools.processes import Limits, abbreviate, new_folder, run, run_until
 SEEDS, KILLS = 2, 5
 COMMANDS = 1_500  # of a session that is not killed
 ALL = 4_294_967_295
-STACK = 256  # KB, since a reader of lines has its buffer there
+STACK = 256  # KB, because the line reader's buffer is on the stack
 
 Lines = list[str]
 
 
 @dataclass(frozen=True)
 class ExampleCommand:
-    """A line of a session and its answer, and whether it is flushed."""
-
     line: str
     answer: str
     is_durable: bool = True
@@ -30,8 +27,6 @@ class ExampleCommand:
 
 @dataclass(frozen=True)
 class ReadBack:
-    """The lines by which a new session reads all of a file, and the answers to them."""
-
     lines: Lines
     answers: Lines
 
@@ -40,13 +35,11 @@ def text_of(lines: Lines) -> bytes:
     return "".join(f"{line}\n" for line in lines).encode()
 
 
-# ---- The answers of each example, by a simple model of its own.
+# ---- A simple model of each example.
 
 
 @dataclass
 class EventsModel:
-    """Events by day, those of a day in their order."""
-
     days: dict[str, Lines] = field(default_factory=dict)
 
     def open(self) -> Lines:
@@ -66,8 +59,6 @@ class EventsModel:
 
 @dataclass
 class PeopleModel:
-    """The city of each person."""
-
     cities: dict[str, str] = field(default_factory=dict)
 
     def open(self) -> Lines:
@@ -86,7 +77,7 @@ class PeopleModel:
 
 @dataclass
 class CacheModel:
-    """Pairs, each with whether it was read, and the key from which the clock's hand goes on."""
+    """Pairs, each with its mark, and the position of the clock hand."""
 
     pairs: dict[str, tuple[bool, str]] = field(default_factory=dict)
     hand: str = ""
@@ -109,7 +100,7 @@ class CacheModel:
         return ExampleCommand(f"put {key} {value}", f"{key} is {value}")
 
     def evict(self, most: int) -> None:
-        """Evicts pairs by the clock rule, from the hand on: a pair that was read is spared once."""
+        """Evicts by the clock algorithm, from the hand on: a marked pair is spared once."""
         while len(self.pairs) > most:
             key = min((key for key in self.pairs if key >= self.hand), default=min(self.pairs))
             was_read, value = self.pairs.pop(key)
@@ -126,11 +117,10 @@ ExampleModel = EventsModel | PeopleModel | CacheModel
 MODELS: dict[str, Callable[[], ExampleModel]] = {"events": EventsModel, "people": PeopleModel, "cache": CacheModel}
 
 
-# ---- Sessions that are killed.
 
 
 def play(name: str, restarts: list[int], commands: int) -> ExampleModel:
-    """Returns the model after this many commands. Before the commands with the numbers `restarts` a new session began."""
+    """Returns the model after this many commands. A new session began before each command in `restarts`."""
     model = MODELS[name]()
     for number in range(commands):
         if number in restarts:
@@ -140,7 +130,7 @@ def play(name: str, restarts: list[int], commands: int) -> ExampleModel:
 
 
 def run_killed(program: Path, path: Path, lines: Lines, size: int | None) -> tuple[int, Lines]:
-    """Runs a session on these lines, and kills it when its output has `size` bytes. Returns its status, and the whole lines of its output."""
+    """Runs these lines, and kills the session when it has printed `size` bytes. Returns its status and its whole lines of output."""
     source, out = path.with_suffix(".lines"), path.with_suffix(".out")
     source.write_bytes(text_of(lines))
     status, _ = run_until([program, path], source, out, size, delay=0, is_mixed=True)
@@ -154,8 +144,6 @@ def first_wrong_line(lines: Lines, expected: Lines) -> str:
 
 @dataclass
 class KilledExample:
-    """The file of an example whose sessions are killed, how many of the commands it holds, and before which of them a session began."""
-
     name: str
     program: Path
     path: Path
@@ -163,14 +151,14 @@ class KilledExample:
     restarts: list[int] = field(default_factory=list)
 
     def kill(self, count: int, share: float | None) -> tuple[str | None, bool]:
-        """Runs `count` more commands, kills the session when it has printed this share of the answers, and reads the file. Returns what is wrong, and
-        whether the session ended before its kill."""
+        """Runs commands, kills the session after this share of the answers, and checks the file. Returns an error, and whether the session ended
+        before the kill."""
         model = play(self.name, self.restarts, self.done)
         opened = model.open()
         commands = [model.next(self.done + at) for at in range(count)]
         expected = [*opened, *(each.answer for each in commands)]
         size = None if share is None else int(len(text_of(expected)) * share)
-        self.restarts.append(self.done)  # the sessions that read the file flush nothing
+        self.restarts.append(self.done)  # reading sessions flush nothing
         status, printed = run_killed(self.program, self.path, [each.line for each in commands], size)
         if status != 0 and (status != -9 or size is None):
             return f"status {status}, output {abbreviate(text_of(printed[-2:]))}", True
@@ -179,8 +167,7 @@ class KilledExample:
         return self.check(commands, max(len(printed) - len(opened), 0)), status == 0
 
     def check(self, commands: list[ExampleCommand], answered: int) -> str | None:
-        """Returns what is wrong with the file after this many of these commands were answered. It has to hold those up to the last durable one, or up
-        to the next one."""
+        """Checks the file after a kill. It must hold all commands up to the last durable one, or one more."""
         ends = [0, *(at for at, command in enumerate(commands, 1) if command.is_durable)]
         last, further = (self.done + max(end for end in ends if end <= most) for most in (answered, answered + 1))
         wrong = self.wrong_file(last)
@@ -193,7 +180,6 @@ class KilledExample:
         return f"after {answered} answers {wrong}"
 
     def wrong_file(self, done: int) -> str | None:
-        """Returns how the file differs from that of the first `done` commands."""
         model = play(self.name, self.restarts, done)
         read_back, opened = model.read_back(), model.open()
         ran = run([self.program, self.path], text_of(read_back.lines), Limits(STACK))
@@ -231,8 +217,7 @@ def kill_example(programs: Programs, name: str, seed: int) -> Outcome:
 
 
 def close(programs: Programs, name: str, closed: str) -> Outcome:
-    """Closes the output or the input of an example. It makes no file, and an old file keeps its bytes: no answer is written to it, and no line read
-    from it."""
+    """Closes the output or the input of an example. It must not create a file, nor write answers to an old file, nor read lines from it."""
     program = programs.examples / name
     if why := why_left_out(program):
         return Outcome(left_out=why)
@@ -256,7 +241,6 @@ STEPS = b"2 replies\nflushed %d\nget: 5 bytes\nrange: [107, 101, 121] [118, 97, 
 
 
 def run_first_steps(programs: Programs) -> Outcome:
-    """Runs the first program twice: it makes its store, and then opens it."""
     program = programs.examples / "first_steps"
     if why := why_left_out(program):
         return Outcome(left_out=why)
@@ -266,7 +250,6 @@ def run_first_steps(programs: Programs) -> Outcome:
 
 
 def put_then_get(programs: Programs) -> Outcome:
-    """Puts pairs, which the program gets back, and checks that the file has them."""
     program = programs.examples / "put_then_get"
     if why := why_left_out(program):
         return Outcome(left_out=why)

@@ -1,4 +1,4 @@
-"""Sessions on files: several at once on one file, files that cannot be written, and files that cannot be made."""
+"""Concurrent sessions on one file, files that are not writable, and files that cannot be created."""
 
 import contextlib
 import os
@@ -13,7 +13,7 @@ from tools.cases import Case, Outcome, Programs, differs
 from tools.processes import Limits, RunResult, new_folder, run, stalled, start
 
 FAULT = "fault 9 Device"
-NOBODY = 65534  # the user that owns no file
+NOBODY = 65534  # a user that owns no file
 TIMES, GROUPS = 100, 4  # how often two sessions are started together
 CHANGES = 150  # flushes of a session
 KEYS = 10
@@ -24,7 +24,6 @@ Pairs = dict[bytes, bytes]
 
 
 def changes(writer: int, time: int) -> list[tuple[bytes, bytes]]:
-    """Returns what a session puts, each with a flush. No other session has these keys."""
     return [(b"w%d.%d" % (writer, number % KEYS), b"%d.%d" % (time, number)) for number in range(CHANGES)]
 
 
@@ -33,7 +32,6 @@ def batch_file(puts: list[tuple[bytes, bytes]]) -> bytes:
 
 
 def rows(pairs: Pairs) -> bytes:
-    """Returns the answer to a scan of all pairs."""
     return rows_of(sorted(pairs.items()))
 
 
@@ -44,7 +42,7 @@ def make(programs: Programs, path: Path, text: bytes, *words: str) -> None:
 
 
 def after_writer(ran: RunResult, puts: list[tuple[bytes, bytes]], pairs: Pairs) -> tuple[Pairs, str | None]:
-    """Returns the pairs after a session that writes, and what is wrong with its ending. It has to do all, or to be refused and do nothing."""
+    """Returns the pairs after a writing session, and an error. The session must do everything, or be refused and do nothing."""
     if ran.is_fault(FAULT) and not ran.out:
         return pairs, None
     lines = ran.out.splitlines()
@@ -55,7 +53,6 @@ def after_writer(ran: RunResult, puts: list[tuple[bytes, bytes]], pairs: Pairs) 
 
 
 def after_readers(readers: list[RunResult], moments: list[Pairs]) -> str | None:
-    """Returns what is wrong with the answers of sessions that read. Each has to print the pairs of one moment, or to be refused and print nothing."""
     for ran in readers:
         is_refused = ran.is_fault(FAULT) and not ran.out
         is_right = ran.status == 0 and any(ran.out == rows(pairs) for pairs in moments)
@@ -65,7 +62,6 @@ def after_readers(readers: list[RunResult], moments: list[Pairs]) -> str | None:
 
 
 def run_together(programs: Programs, path: Path, time: int, pairs: Pairs) -> tuple[Pairs, int, str | None]:
-    """Starts two sessions that write and two that read. Returns the pairs after them, how many sessions were refused, and what is wrong."""
     first, second = changes(0, time), changes(1, time)
     texts = [batch_file(first), SCAN, batch_file(second), SCAN]
     with tempfile.TemporaryDirectory(dir=path.parent) as folder:
@@ -80,7 +76,6 @@ def run_together(programs: Programs, path: Path, time: int, pairs: Pairs) -> tup
 
 
 def run_together_often(programs: Programs, group: int) -> Outcome:
-    """Starts sessions together again and again on one file, and reads the file after each time."""
     pairs, refused = {b"first": b"1"}, 0
     with new_folder() as folder:
         path = Path(folder) / "file"
@@ -99,7 +94,7 @@ MUCH = b"get x\ngo\n" * 60_000  # more replies than a pipe holds
 
 
 def run_beside(programs: Programs, text: bytes, is_shared: bool) -> Outcome:
-    """Starts sessions beside one that has locked the file, or that shares it, and one after that was killed."""
+    """Starts sessions beside one that holds a lock, and one after that session was killed."""
     sessions = {READ_ALL: is_shared, b"put b 2\nflush\n": False, b"clean\n": False, b"upgrade\n": False}
     with new_folder() as folder:
         path = Path(folder) / "file"
@@ -119,7 +114,7 @@ def run_beside(programs: Programs, text: bytes, is_shared: bool) -> Outcome:
 
 
 def as_nobody() -> list[str] | None:
-    """Returns the words that start a program as a user who may not write to all files: none if this user may not, None if it cannot be done."""
+    """Returns a command prefix that drops root: empty if it is not needed, None if it is impossible."""
     if os.geteuid():
         return []
     setpriv = shutil.which("setpriv")
@@ -130,7 +125,6 @@ def as_nobody() -> list[str] | None:
 
 
 def read_only(programs: Programs) -> Outcome:
-    """Checks that a file that may only be read is read and verified, and not written."""
     user = as_nobody()
     if user is None:
         return Outcome(left_out="no program can be started as another user here")
@@ -152,12 +146,11 @@ def read_only(programs: Programs) -> Outcome:
 
 
 OLD = [("an empty file", 0), ("a short file", 100), ("a file of the same length", 512 + 64 * 65_536), ("a longer file", 6_000_000)]
-BLOCKS = 256  # of 512 bytes: fewer than a store of the default length takes
+BLOCKS = 256  # 512-byte blocks, fewer than a default store takes
 
 
 def fail_to_create(programs: Programs, length: int | None) -> Outcome:
-    """Fails to make a store since no file may be so long. An old file of any length keeps its bytes; where there was none, at most an empty one
-    remains."""
+    """Fails to create a store because of a file size limit. An old file keeps its bytes; a new file is empty or missing."""
     with new_folder() as folder:
         path = Path(folder) / "file"
         before = b"" if length is None else b"\xa5" * length
@@ -171,7 +164,7 @@ def fail_to_create(programs: Programs, length: int | None) -> Outcome:
 
 @contextlib.contextmanager
 def small_device(size: int) -> Iterator[Path | None]:
-    """Mounts a file system in memory with this many bytes, and yields its folder; yields None if none may be mounted."""
+    """Mounts a small tmpfs and yields its folder, or None if that is not permitted."""
     with new_folder() as folder:
         mount = ["mount", "-t", "tmpfs", "-o", f"size={size}", "tmpfs", folder]
         is_mounted = bool(shutil.which("mount")) and subprocess.run(mount, capture_output=True).returncode == 0
@@ -183,14 +176,13 @@ def small_device(size: int) -> Iterator[Path | None]:
 
 
 def fill(path: Path) -> None:
-    """Fills a device."""
     with contextlib.suppress(OSError), open(path, "wb", buffering=0) as file:
         while file.write(bytes(4096)):
             pass
 
 
 def full_device(programs: Programs) -> Outcome:
-    """Checks that on a full device no file is made and a flush is refused, and that the pairs of the flush before it are recovered."""
+    """Checks that on a full device no store is created, flushes are refused, and the last flushed pairs are recovered."""
     refused = f"{FAULT}\n".encode()
     with small_device(1 << 20) as folder:
         if folder is None:

@@ -1,5 +1,4 @@
-"""Files that are made to do harm, each read with a small stack: the answer must be right, and take no more time and memory than the file's size
-gives."""
+"""Malicious files, read with a small stack: the answer must be right, with time and memory in proportion to the file size."""
 
 import random
 from collections.abc import Callable
@@ -16,23 +15,23 @@ from tools.log.writing import shared_index, shared_leaf
 from tools.processes import MEGABYTE, Command, Limits, RunResult, new_folder, peak_memory, run, stalled
 
 DEEP = 200_000  # runs of a page
-RUN = 80  # bytes that a run takes in its page
-ROOM = 262_144 * RUN  # bytes that such a page takes, since its capacity doubles from 16 on
+RUN = 80  # bytes of memory per run
+ROOM = 262_144 * RUN  # bytes of such a page in memory; its capacity doubles from 16 on
 MANY = 100_000  # free frames
-LEAVES = 61_680  # empty leaves, a mebibyte of their frames
-SLOT, SLOTS = 256, 65_536  # bytes that a page takes in the page table, and the capacity of the table of these leaves, which doubles
-TIMES = 10  # the most memory that a file may take beside its pages, in times its length
-LEVELS = 64  # the most that a tree may have
-CLIMBING = 88  # KB of stack. 96 are enough for a tree of 64 levels, which are recursive calls; the system may leave out 8
+LEAVES = 61_680  # empty leaves, with 1 MiB of frames
+SLOT, SLOTS = 256, 65_536  # bytes per page in the page table, and the table's capacity, which doubles
+TIMES = 10  # greatest memory, in multiples of the file's length
+LEVELS = 64  # limit of a tree
+CLIMBING = 88  # KB of stack. A tree of 64 levels, read by recursion, needs at most 96 KB, of which the system may take 8.
 DAMAGED, PARTS = 400, 8
-WIDE = Settings(fan=64, max_key=255)  # with which keys that share beginnings are longest in comparison with their encoding
-KEYS, LONGEST = 64, 255  # such keys of a base, and their bytes
-SLOWER, LEAST = 2, 0.05  # how many times slower than one of whole keys a log of such bases may be read, and seconds that it may take in any case
+WIDE = Settings(fan=64, max_key=255)  # the setting with which prefix-compressed keys expand most
+KEYS, LONGEST = 64, 255  # such keys per base, and their bytes
+SLOWER, LEAST = 2, 0.05  # greatest ratio of its reading time to that of a log of whole keys, and seconds that are always allowed
 
 EMPTY = full_leaf(0, b"", {})
 ONE_PAIR = full_leaf(0, b"", {b"a": b"1"})
 SHARED_PAIR = shared_leaf(0, b"", {b"a": b"1"})
-LONG_KEYS = 60 * MEGABYTE  # what a megabyte of bases with the longest keys takes in memory, where each key is whole
+LONG_KEYS = 60 * MEGABYTE  # memory of a megabyte of bases with the longest keys, after expansion
 TOO_DEEP = b"fault 16 BadStructure 7 %d\n"  # rule 7: the depth is above chain
 NO_STORE = (4, b"", b"fault 12 NotAStore\n")
 LOST_PAGE = (4, b"", b"fault 16 BadStructure 10 1\n")  # rule 10: the tree does not reach the page
@@ -40,14 +39,14 @@ LOST_PAGE = (4, b"", b"fault 16 BadStructure 10 1\n")  # rule 10: the tree does 
 
 @dataclass(frozen=True)
 class HostileDisk:
-    """The bytes of a file, and how a session must end that reads all of it. If it is a store, the file is cleaned and upgraded too."""
+    """A malicious file, and how a session that reads all of it must end. If it is a valid store, it is also cleaned and upgraded."""
 
     name: str
     make: Callable[[], bytes]
     ending: Ending
     words: tuple[str, ...] = ()
     is_store: bool = False
-    pages: int = 0  # bytes of memory that its pages take
+    pages: int = 0  # bytes of memory for its pages
 
 
 def deep_leaf() -> bytes:
@@ -61,7 +60,7 @@ def deep_index() -> bytes:
 
 
 def deep_leaves() -> bytes:
-    """Makes eight leaves, each with a part of the runs, which alternate in the log."""
+    """Makes eight leaves whose runs alternate in the log."""
     lows = {bytes([ord("a") + pid]) if pid else b"": pid for pid in range(8)}
     bases = [full_leaf(pid, low, {}) for low, pid in lows.items()]
     runs = [delta_leaf(pid, {low: None}) for low, pid in lows.items()]
@@ -85,17 +84,16 @@ def rising() -> bytes:
 
 
 def empty_leaves() -> bytes:
-    """Makes leaves without a pair that the tree does not reach."""
     return fitting_disk([ONE_PAIR, *[full_leaf(pid, b"", {}) for pid in range(1, LEAVES + 1)]])
 
 
 def colliding_runs() -> bytes:
-    """Makes runs without a base, as a clean leaves them, of many pages."""
+    """Makes runs of many pages, without bases, as a clean leaves them. Their page ids collide."""
     return fitting_disk([ONE_PAIR, *[delta_leaf(pid, {b"": None}) for pid in islice(colliding_ids(), MANY) if pid != 0]])
 
 
 def tall_tree() -> bytes:
-    """Makes a tree of as many levels as there may be, of two pages each under the root."""
+    """Makes a tree of the greatest height, with two pages per level under the root."""
     left, right = 0, 1
     frames = [full_leaf(left, b"", {b"a": b"1"}), full_leaf(right, b"c", {b"c": b"3"})]
     for pid in range(2, 2 * (LEVELS - 1), 2):
@@ -106,31 +104,30 @@ def tall_tree() -> bytes:
 
 
 def many_segments() -> bytes:
-    """Makes a log of two segments fewer than there may be, each with one frame, since a second one does not fit."""
+    """Makes a log of almost the greatest number of segments, with one frame each."""
     settings = Settings(fan=4, max_key=30, max_value=10, seg_size=256, segments=65_536)
     wide = full_leaf(0, b"", {bytes([key]) * 30: b"v" * 10 for key in range(4)})
     return disk_of(settings, [*[wide] * 65_533, ONE_PAIR])
 
 
 def key_of(number: int, length: int) -> bytes:
-    """Returns a key of this length that differs from the others only in its last byte."""
     return b"k" * (length - 1) + bytes([number])
 
 
 def many_bases(leaf: Callable[..., bytes], length: int) -> list[bytes]:
-    """Returns a megabyte of leaves that the tree does not reach, with as many keys as there may be, of this length and with empty values."""
+    """Returns a megabyte of unreachable leaves with the most keys, of this length, and empty values."""
     pairs = {key_of(number, length): b"" for number in range(KEYS)}
     count = MEGABYTE // len(leaf(0, b"", pairs))
     return [leaf(pid, b"", pairs) for pid in range(1, count + 1)]
 
 
 def long_keys() -> bytes:
-    """Makes leaves that take fifty times the length of their frames, since each key shares all but its last byte with the one before."""
+    """Makes leaves that expand to fifty times their frames, because each key shares all but its last byte with the one before."""
     return fitting_disk([ONE_PAIR, *many_bases(shared_leaf, LONGEST)], version=2, settings=WIDE)
 
 
 def long_keys_again() -> bytes:
-    """Makes as many bases of one page, of which only the last one is in use."""
+    """Makes as many bases of one page; only the last is used."""
     again = many_bases(shared_leaf, LONGEST)
     return fitting_disk([again[0]] * len(again) + [shared_leaf(1, b"", {b"a": b"1"})], root=1, version=2, settings=WIDE)
 
@@ -140,7 +137,6 @@ def byte_short() -> bytes:
 
 
 def last_length() -> bytes:
-    """Makes a frame with the greatest length that the field can have."""
     return disk_of(Settings(), [ONE_PAIR, b"\2" + b"\xff" * 16])
 
 
@@ -176,7 +172,6 @@ DISKS = [
 
 
 def small_memory(programs: Programs, folder: Path) -> int:
-    """Returns the peak memory of a session on a small store."""
     path, value = folder / "small", b"v" * 250
     path.write_bytes(disk_of(Settings(), [full_leaf(0, b"", {b"a": value})]))
     with stalled([programs.store, "--disk", path], b"get a\n" * 400) as child:
@@ -184,7 +179,7 @@ def small_memory(programs: Programs, folder: Path) -> int:
 
 
 def wrong_cost(ran: RunResult, least: int, length: int) -> str | None:
-    """Returns how a session took more time or memory than the length of its file gives, beside `least` bytes of memory."""
+    """Compares a session's time and memory with the bounds for the file's length, plus `least` bytes."""
     seconds = SLOW * max(1.0, length / MEGABYTE)
     memory = least + TIMES * max(length, MEGABYTE)
     if ran.seconds > seconds:
@@ -195,20 +190,18 @@ def wrong_cost(ran: RunResult, least: int, length: int) -> str | None:
 
 
 def read_file(command: Command, path: Path, disk: bytes, ending: Ending) -> tuple[RunResult, str | None]:
-    """Runs a session that reads all of this file. Returns its result, and what is wrong with it. It may not write to the file."""
     ran = run([*command, "--disk", path], READ_ALL)
     wrong = differs(ran, *ending)
     return ran, wrong or (None if path.read_bytes() == disk else "the session wrote to the file that it only read")
 
 
 def write_file(command: Command, path: Path, line: bytes, answer: bytes, ending: Ending) -> tuple[RunResult, str | None]:
-    """Runs a session that writes to the file by this line. Returns its result, and what is wrong with it, or with what the next session reads."""
     ran = run([*command, "--disk", path], line)
     return ran, differs(ran, 0, answer) or differs(run([*command, "--disk", path], READ_ALL), *ending)
 
 
 def writing_orders(made: bytes) -> list[tuple[str, bytes, bytes]]:
-    """Returns the orders that are run on a file that is a store and was committed once: a name, the line, and the answer."""
+    """Returns the writing commands to run on a valid store with one commit: name, line, answer."""
     upgrade = ("upgraded", b"upgrade\n", b"upgraded 3\n")
     return [("cleaned", b"clean\n", b"cleaned 1\n"), *([] if read_slot(made, read_settings(made)).version else [upgrade])]
 
@@ -232,7 +225,6 @@ def check_disk(programs: Programs, number: int) -> Outcome:
 
 
 def climb(programs: Programs, workers: int) -> Outcome:
-    """Runs batches that change both leaves of the tallest tree, and empty them, and checks the answers and what the next session reads."""
     keys = [b"%c%d" % (first, number) for first in b"ac" for number in range(8)]
     put = b"".join(b"put %s 1\n" % key for key in keys) + b"go\nscan % * 100\nflush\n"
     rows = b"rows 18\n" + b"".join(b"%s %s\n" % pair for pair in sorted([(b"a", b"1"), (b"c", b"3"), *[(key, b"1") for key in keys]]))
@@ -249,7 +241,6 @@ def climb(programs: Programs, workers: int) -> Outcome:
 
 
 def compare_times(programs: Programs) -> Outcome:
-    """Checks that a megabyte of bases whose keys share beginnings is read as fast as one of whole keys of a byte each."""
     with new_folder() as folder:
         seconds = []
         kinds: list[tuple[Callable[..., bytes], int]] = [(full_leaf, 1), (shared_leaf, 1), (shared_leaf, LONGEST)]
@@ -261,7 +252,7 @@ def compare_times(programs: Programs) -> Outcome:
         return Outcome(measured if max(seconds) > SLOWER * seconds[0] + LEAST else None, measured=measured)
 
 
-# Bytes of a base of version 2 that are no frame if keys have at most 16 bytes: what is wrong, the low key, the count, and the entries of a leaf.
+# Invalid frames of version 2 for keys of at most 16 bytes: the error, low key, count, and entries of a leaf.
 NO_BASES = [
     ("a first key that shares more than its low key", b"ab", 1, "03 01 63 0000"),
     ("a first key that shares fewer bytes than it could", b"ab", 1, "01 02 62 63 0000"),
@@ -279,8 +270,7 @@ NO_BASES = [
 
 
 def refuse_frames(programs: Programs) -> Outcome:
-    """Checks that bytes which are no frame of version 2 are refused at their place, whatever follows, and that its frames are refused in a log of
-    version 1."""
+    """Checks that invalid frames of version 2 are refused at their place, and that valid ones are refused in a log of version 1."""
     refused = [(what, frame(6, 0, counted(low) + count.to_bytes(2, "big") + bytes.fromhex(entries)), 2) for what, low, count, entries in NO_BASES]
     refused += [("a shared leaf in a log of version 1", SHARED_PAIR, 0), ("a shared index page there", shared_index(0, b"", {b"": 1}), 0)]
     refused += [("a frame of kind 8", frame(8, 0), 2), ("a shared leaf that is read as an index page", b"\7" + SHARED_PAIR[1:], 2)]
@@ -296,7 +286,7 @@ def refuse_frames(programs: Programs) -> Outcome:
     return Outcome(measured=f"{len(refused)} frames")
 
 
-# Frames, and their bytes in the examples of docs/FORMAT.md.
+# Frames, and their bytes in docs/FORMAT.md.
 EXAMPLES = [
     (EMPTY, "01 0000000c 0000000000000000 0000 0000"),
     (delta_leaf(0, {b"a": None}), "02 0000000e 0000000000000000 0001 0001 61 00"),
@@ -319,7 +309,6 @@ EXAMPLES = [
 
 
 def check_writing() -> Outcome:
-    """Checks that frames are written here as the document has them."""
     wrong = [example for made, example in EXAMPLES if made != bytes.fromhex(example)]
     return Outcome(f"other bytes than {wrong[0]}" if wrong else None)
 
@@ -328,7 +317,7 @@ SMALL = Settings(fan=4, chain=3, max_key=16, max_value=16, seg_size=256, segment
 
 
 def small_leaf(chance: random.Random, pid: int, low: bytes, end: bytes, leaf: Callable[..., bytes]) -> list[bytes]:
-    """Returns the frames of a leaf whose keys begin with its low key, and of its runs. A few keys are beyond its end."""
+    """Returns a leaf's frames and runs. Some keys are outside the leaf's range."""
     drawn = [low + bytes([byte]) * chance.choice([1, 1, 2]) for byte in chance.sample(range(256), 6)]
     keys = [low, *[key for key in drawn if key < end or chance.random() < 0.01]]
     pairs = {key: chance.randbytes(chance.randrange(4)) for key in keys[: chance.randrange(5)]}
@@ -337,8 +326,7 @@ def small_leaf(chance: random.Random, pid: int, low: bytes, end: bytes, leaf: Ca
 
 
 def small_tree(chance: random.Random, version: int) -> bytes:
-    """Makes a file with a tree of three levels and frames of older pages. The runs of a page follow its base. In a log of version 2 some bases have
-    whole keys, as before an upgrade."""
+    """Makes a file with a tree of three levels and obsolete frames. In version 2 some bases have whole keys, as before an upgrade."""
     leaves: list[Callable[..., bytes]] = [full_leaf, shared_leaf][: 1 + bool(version)]
     indexes: list[Callable[..., bytes]] = [full_index, shared_index][: 1 + bool(version)]
     lows = [b"", b"c", b"cf", b"k", b"kk", b"t"]
@@ -351,7 +339,7 @@ def small_tree(chance: random.Random, version: int) -> bytes:
 
 
 def damage(chance: random.Random, disk: bytes) -> bytes:
-    """Returns a file with some bytes changed, most of them in its log; or cut off, or with bytes moved."""
+    """Damages a file: changes or moves bytes, mostly in the log, or truncates the file."""
     changed, end = bytearray(disk), len(disk.rstrip(b"\0"))
     for _ in range(chance.choice([0, 1, 1, 1, 2, 3])):
         at = chance.randrange(256) if chance.random() < 0.2 else chance.randrange(512, end)
@@ -378,7 +366,6 @@ def check_damaged(programs: Programs, part: int) -> Outcome:
 
 
 def small_store() -> bytes:
-    """Makes a file of version 2 with bases of all kinds and runs."""
     frames = [shared_leaf(0, b"", {b"a": b"1", b"aa": b"2"}), delta_leaf(0, {b"aaa": b"3", b"a": None})]
     frames += [shared_leaf(1, b"ab", {b"ab": b"", b"abc": b"5"}), full_leaf(2, b"abd", {b"abd": b"6"})]
     frames += [shared_index(3, b"", {b"": 0, b"ab": 1}), delta_index(3, {b"abd": 2}), free(4)]
@@ -386,7 +373,7 @@ def small_store() -> bytes:
 
 
 def change_each_byte(programs: Programs, part: int) -> Outcome:
-    """Reads a file of version 2 with one byte changed, for each byte that is read, in several ways."""
+    """Changes each byte that is read, in several ways, and reads the file."""
     disk, stores, count = small_store(), 0, 0
     places = [*range(64), *range(128, 256), *range(512, len(disk.rstrip(b"\0")) + 2)]
     with new_folder() as folder:

@@ -1,4 +1,4 @@
-"""Sessions under valgrind, which may leak nothing. They split and merge leaves, with one worker and with several, and upgrade."""
+"""Sessions under valgrind, which must not leak memory. They split and merge leaves, with one and several workers, and upgrade."""
 
 import random
 import shutil

@@ -1,4 +1,4 @@
-"""The checkers of Python code, `ruff` and `mypy`, on the tools of this repository, if they are installed."""
+"""Runs `ruff` and `mypy` on this repository's Python code, if they are installed."""
 
 import shutil
 import subprocess

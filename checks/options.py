@@ -1,4 +1,4 @@
-"""The options of the program that are off by default: what they print, and what is the same as without them."""
+"""The options that are off by default: their output, and what stays the same as without them."""
 
 import fcntl
 from pathlib import Path
@@ -8,7 +8,7 @@ from tools.processes import Command, Limits, RunResult, new_folder, run
 
 LONG_PUT = b"put a 0123456789abcdef\nflush\n"
 
-# The words, the input, the output (None for that of the session without the option), and the two lines of the errors.
+# Options, input, output (None: as without the option), and the two lines of errors.
 EXPLAINED: list[tuple[tuple[str, ...], bytes, bytes | None, bytes, bytes]] = [
     (
         ("--max-key=16",),
@@ -106,8 +106,7 @@ EXPLAINED: list[tuple[tuple[str, ...], bytes, bytes | None, bytes, bytes]] = [
 
 
 def print_version(programs: Programs) -> Outcome:
-    """Checks that the version is printed without reading the input, also beside words that would be refused otherwise, and that --version twice is
-    refused."""
+    """Checks that --version prints the version, does not read the input, and wins over invalid options, but is refused twice."""
     words: Command = [programs.store, "--version", "--fan=65", "--workers=0", "--disk=/no/such"]
     wrong = differs(run(words, limits=Limits(redirections="<&-")), 0, b"bwsh 0.1.0\n")
     again = run([programs.store, "--version", "--version"])
@@ -117,7 +116,7 @@ def print_version(programs: Programs) -> Outcome:
     return Outcome(wrong or differs(closed, 4, b"", b"fault 9 Device\n"))
 
 
-# What the help has to contain about the options, and about durability.
+# What the help must contain about the options and durability.
 HELP = [
     b"--version",
     b"all input is read first",
@@ -134,14 +133,13 @@ HELP = [
 
 
 def print_help(programs: Programs) -> Outcome:
-    """Checks that the help contains what it has to."""
     ran = run([programs.store, "--help"])
     missing = [words for words in HELP if words not in ran.out]
     return Outcome(f"{ran.describe()}, without {missing}" if ran.status or ran.err or missing else None)
 
 
 def explain(programs: Programs, words: tuple[str, ...], text: bytes, out: bytes | None, first: bytes, second: bytes) -> Outcome:
-    """Ends a session early, with --explain and without it: only the second line of the errors differs."""
+    """Ends a session early with and without --explain. Only the second line of errors may differ."""
     plain = run([programs.store, *words], text)
     result = run([programs.store, "--explain", *words], text)
     status = 3 if first.startswith(b"line") else 4
@@ -150,7 +148,6 @@ def explain(programs: Programs, words: tuple[str, ...], text: bytes, out: bytes 
 
 
 def explain_files(programs: Programs) -> Outcome:
-    """Explains a file that another process has locked, a folder, and a file without a store: each line begins with the path."""
     with new_folder() as folder:
         path = Path(folder) / "store"
         path.write_bytes(b"0123456789")
@@ -173,15 +170,13 @@ def run_explained(programs: Programs, path: Path, text: bytes) -> RunResult:
 
 
 def wrong_explanation(ran: RunResult, first: bytes, path: Path, end: bytes) -> str | None:
-    """Returns what is wrong with the two lines of the errors."""
     front = first + f"{path}: ".encode()
     is_right = ran.status == 4 and not ran.out and ran.err.startswith(front) and ran.err.endswith(end)
     return None if is_right else f"{ran.describe()}, where {front!r} .. {end!r} were expected"
 
 
 def explain_streams(programs: Programs) -> Outcome:
-    """Explains closed streams: the input with the system's reason, the output without one. Nothing is explained if all is done or the words are
-    refused."""
+    """Explains closed streams: the input with the system's reason, the output without. Success and refused options have no explanation."""
     words: Command = [programs.store, "--explain"]
     closed = run(words, limits=Limits(redirections="<&-"))
     wrong = differs(closed, 4, b"", b"fault 9 Device\nstandard input: Bad file descriptor (os error 9).\n")
@@ -193,13 +188,13 @@ def explain_streams(programs: Programs) -> Outcome:
     return Outcome(wrong or differs(run(words, b"put a 1\n"), 0, b"new\n"))
 
 
-MEMORY = 20_000  # KB of addresses, which are enough for a small store
+MEMORY = 20_000  # KB of address space, enough for a small store
 LONG_LINE = b"#" * 30_000_000
 UNREAD = b"fault 6 NoMemory\nline %d: There was not enough memory to read it.\n"
 
 
 def explain_long_line(programs: Programs) -> Outcome:
-    """Explains a line of a stream that is too long for the memory: that line is named, and the batches before it are answered."""
+    """Explains a stream's line for which memory is insufficient. The batches before it are answered."""
     words: Command = [programs.store, "--stream", "--explain"]
     limits = Limits(memory=MEMORY)
     wrong = None
@@ -209,7 +204,7 @@ def explain_long_line(programs: Programs) -> Outcome:
     return Outcome(wrong)
 
 
-# The lines of a log of two segments, and their answers; then lines that follow them, their answers, and the fault that ends the session, if one does.
+# Lines of a log of two segments, and their answers; further lines, their answers, and the fault that ends the session, if any.
 LOADED = b"put a 1\nput b 2\nput c 3\nput d 4\nput e 5\nflush\n" + 4 * LONG_PUT + b"put z 9\n"
 LOADED_OUT = b"".join([5 * b"new\n", b"flushed 2\n", *(b"replaced\nflushed %d\n" % number for number in range(3, 7)), b"new\n"])
 NUMBERED = [
@@ -221,7 +216,6 @@ NUMBERED = [
 
 
 def print_numbers(programs: Programs) -> Outcome:
-    """Checks --stat on a new store, and on one that was flushed and cleaned. A session that ends early prints no numbers."""
     words: Command = [programs.store, *SMALL_STORE, "--stat"]
     wrong = differs(run(words), 0, b"stat sequence 1 head 0 tail 33 segments 1 of 4 pages 1 pairs 0\n")
     for text, out, err in NUMBERED:
@@ -230,7 +224,6 @@ def print_numbers(programs: Programs) -> Outcome:
 
 
 def print_numbers_of_file(programs: Programs) -> Outcome:
-    """Checks --stat on a file that another process shares."""
     with new_folder() as folder:
         path = Path(folder) / "store"
         made = run([programs.store, *SMALL_STORE, "--disk", path, "--create"])
@@ -241,8 +234,6 @@ def print_numbers_of_file(programs: Programs) -> Outcome:
 
 
 def clean_when_full(programs: Programs) -> Outcome:
-    """Checks --clean-when-full. The eighteenth flush would leave no segment free, and one clean makes room. The order `clean` does the same as
-    without it."""
     words: Command = [programs.store, *SMALL_STORE, "--clean-when-full"]
     out = b"new\nflushed 2\n" + b"".join(b"replaced\nflushed %d\n" % number for number in range(3, 19))
     out += b"replaced\ncleaned 1\nflushed 20\nvalue 0123456789abcdef\n"
@@ -252,7 +243,7 @@ def clean_when_full(programs: Programs) -> Outcome:
 
 
 def clean_often(programs: Programs) -> Outcome:
-    """Checks --clean-when-full on a log whose segments are all written more than a hundred times. Each flush and each clean has a sequence number."""
+    """Overwrites all segments a hundred times with --clean-when-full. Each flush and each clean has a sequence number."""
     text = 1_000 * (LONG_PUT + b"put b 0123456789abcdef\nflush\n")
     ran = run([programs.store, *SMALL_STORE, "--clean-when-full"], text)
     cleans, flushes = ran.out.count(b"cleaned "), ran.out.count(b"flushed ")
@@ -261,7 +252,7 @@ def clean_often(programs: Programs) -> Outcome:
 
 
 def clean_in_vain(programs: Programs) -> Outcome:
-    """Checks --clean-when-full with pairs that need five leaves, and so five segments, where the log has four: no clean makes room."""
+    """Tries --clean-when-full with live pages of five segments in a log of four. No clean can make room."""
     puts = b"".join(b"put sixteen_bytes_%d sixteen_bytes_v1\n" % pair for pair in range(10, 30))
     ran = run([programs.store, *SMALL_STORE, "--clean-when-full"], puts + b"flush\nget a\n")
     return Outcome(differs(ran, 4, 20 * b"new\n", b"fault 10 Full\n"))

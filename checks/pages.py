@@ -1,8 +1,8 @@
-"""Checks the pages for users: runs each command and each Python session as the page shows it, looks for each function of EMBEDDING in an example,
-and follows each link.
+"""Checks the user pages: runs the commands and Python sessions that they show, looks for each code block of EMBEDDING in an example, and follows
+each link.
 
-In an indented block a line `$ COMMAND` is a command, and the lines below it, up to the next command, are what it prints. The commands of a page are
-run in their order, in a folder of their own in which `out` has the built programs.
+In an indented block, a line `$ COMMAND` is a command, and the lines up to the next command are its output. A page's commands are run in order, in
+a folder of their own, where `out` has the built programs.
 """
 
 import re
@@ -18,14 +18,12 @@ from tools.processes import TOP, abbreviate, new_folder
 EXAMPLES = TOP / "examples"
 PAGES = ["README.md", "docs/OPERATING.md", "examples/README.md"]
 CLIENT = TOP / "clients/python"
-NOT_RUN = ("./build", "./check", "cd crates/bwsh && rt ")  # these build the programs, or are the check itself
+NOT_RUN = ("./build", "./check", "cd crates/bwsh && rt ")  # they build the programs, or are the check itself
 PATIENCE = 60  # seconds that a command gets
 
 
 @dataclass
 class Command:
-    """A command of a page, with its line and what it prints."""
-
     line: int
     text: str
     due: str = ""
@@ -35,7 +33,7 @@ COMMAND = re.compile(r"( {4,})\$ (.*)")
 
 
 def commands(page: str) -> Iterator[Command]:
-    """Yields the commands of a page. What a command prints is indented at least as far as the command."""
+    """Yields a page's commands. Output is indented at least as far as its command."""
     found: Command | None = None
     indent, blanks = "", 0
     for number, line in enumerate(page.splitlines(), 1):
@@ -56,7 +54,6 @@ def commands(page: str) -> Iterator[Command]:
 
 
 def link_programs(programs: Programs, folder: Path) -> None:
-    """Links the built programs into a folder `out`, where the pages have them."""
     (folder / "out").mkdir()
     (folder / "out/bwsh").symlink_to(programs.store)
     for source in EXAMPLES.glob("*/src"):
@@ -65,7 +62,6 @@ def link_programs(programs: Programs, folder: Path) -> None:
 
 
 def run_command(command: Command, folder: Path) -> Outcome:
-    """Runs a command, which has to end with status 0, and compares what it prints. A command whose program isn't built is left out."""
     for name in re.findall(r"\bout/(\w+)", command.text):
         if not (folder / "out" / name).exists():
             return Outcome(left_out=f"{name} isn't built")
@@ -78,7 +74,6 @@ def run_command(command: Command, folder: Path) -> Outcome:
 
 
 def run_page(programs: Programs, name: str) -> Outcome:
-    """Runs the commands of a page, up to the first whose output differs."""
     with new_folder() as folder:
         link_programs(programs, Path(folder))
         for command in commands((TOP / name).read_text()):
@@ -91,7 +86,6 @@ def run_page(programs: Programs, name: str) -> Outcome:
 
 
 def run_client(programs: Programs) -> Outcome:
-    """Runs the session of the client's page."""
     with new_folder() as folder:
         link_programs(programs, Path(folder))
         words = [sys.executable, "-m", "doctest", "-o", "ELLIPSIS", str(CLIENT / "README.md")]
@@ -104,16 +98,14 @@ def run_client(programs: Programs) -> Outcome:
 
 
 def indented(text: str) -> list[str]:
-    """Returns the indented blocks of a page, without the indentation."""
     blocks = re.findall(r"(?:^    .*\n(?:\n+(?=    ))?)+", text, re.MULTILINE)
     return [re.sub(r"^    ", "", block, flags=re.MULTILINE) for block in blocks]
 
 
 def find_functions() -> Outcome:
-    """Looks for each block of the page in the sources of the examples, which are built and run."""
     sources = [path.read_text() for path in sorted(EXAMPLES.glob("*/src/*.rt.in"))]
     for block in indented((TOP / "docs/EMBEDDING.md").read_text()):
-        # A block that is only a part of a function has another indentation there.
+        # The page indents a part of a function differently.
         lines = [line.strip() for line in block.splitlines()]
         if not any(block in source or ("fn " not in block and all(line in source for line in lines)) for source in sources):
             return Outcome(f"no example has {abbreviate(block.encode())}")
@@ -126,13 +118,12 @@ LINK = re.compile(r"\]\(([^)\s]+)\)")
 
 
 def anchors(page: str) -> set[str]:
-    """Returns the anchors of a page's headings, as GitHub makes them."""
+    """Returns the anchors of a page's headings, by GitHub's rules."""
     headings = re.findall(r"^#+ (.+)$", page, re.MULTILINE)
     return {re.sub(r"[^\w\- ]", "", heading.lower()).replace(" ", "-") for heading in headings}
 
 
 def follow_links() -> Outcome:
-    """Looks for the file and the heading of each link that isn't an address."""
     wrong = []
     for page in sorted(path for path in TOP.rglob("*.md") if "out" not in path.parts):
         for target in LINK.findall(page.read_text()):

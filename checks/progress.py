@@ -1,4 +1,4 @@
-"""Progress (`--progress`): one line on standard error, rewritten in place, about once a second; all else is the same as without it."""
+"""`--progress`: a line on standard error that is rewritten about once a second. All else must be the same as without it."""
 
 import re
 import subprocess
@@ -11,18 +11,18 @@ from tools.processes import PATIENCE, Command, Dialog, Limits, PipedProgram, Run
 
 START, END = b"\r", b"\x1b[K"
 ERASED = START + END
-ORDER_RUN = START + b"1 of 1 orders run" + END  # is printed if the one order of a slow session ends a second after the last progress
+ORDER_RUN = START + b"1 of 1 orders run" + END  # printed if a slow session's last command ends a second after the last progress
 LINE = re.compile(rb"\r(\d+) of (\d+) orders run\x1b\[K")
-INTERVAL = 1.1  # seconds, after which the next line is printed
+INTERVAL = 1.1  # seconds between two updates
 VERIFIES = 300  # of a session that takes some seconds
 PAIRS = 60_000  # of its store
 LONGEST = 50  # seconds that the session may take
-SLOW = FailingCalls("none", wait=300)  # each read and write of a file takes 0.3 s more
-WIDE = ("--seg-size=512", "--max-key=16", "--max-value=16", "--fan=8")  # settings under which twelve segments hold these pairs
+SLOW = FailingCalls("none", wait=300)  # each read or write of the file takes 0.3 s more
+WIDE = ("--seg-size=512", "--max-key=16", "--max-value=16", "--fan=8")  # settings with which these pairs fill twelve segments
 LOADED = b"".join(b"put key%03d value%d\n" % (number, number) for number in range(200))
 
-# The words, the input, the status, the output and the errors of a session on a file that has `put a 1` and a flush, and whether it opens the file. A
-# session without --stream finds a bad line before it opens its file.
+# Options, input, status, output and errors of a session on a flushed file, and whether it opens the file.
+# Without --stream a bad line is found before the file is opened.
 SESSIONS = [
     ((), b"get a\nput b 2\nflush\n", 0, b"value 1\nnew\nflushed 3\n", b"", True),
     (("--stream",), b"get a\nput b 2\nflush\n", 0, b"value 1\nnew\nflushed 3\n", b"", True),
@@ -35,7 +35,6 @@ SESSIONS = [
 
 
 def progress_of(*texts: bytes) -> bytes:
-    """Returns what is written to show these texts, and to erase the last of them."""
     return b"".join([*(START + text + END for text in texts), ERASED])
 
 
@@ -46,7 +45,6 @@ def make(programs: Programs, path: Path) -> None:
 
 
 def compare_sessions(programs: Programs, number: int) -> Outcome:
-    """Runs a session on a file, with progress and without: only the progress before the errors differs."""
     words, text, status, out, err, is_opened = SESSIONS[number]
     with new_folder() as folder:
         path, other = Path(folder) / "file", Path(folder) / "other"
@@ -59,7 +57,7 @@ def compare_sessions(programs: Programs, number: int) -> Outcome:
 
 
 def print_nothing(programs: Programs) -> Outcome:
-    """Checks that a short session in memory prints no progress, nor do refused words, the help and the version. Opening a missing file is shown."""
+    """Checks that short sessions in memory, refused options, help and version print no progress. Opening a missing file does."""
     words: Command = [programs.store, "--progress"]
     wrong = differs(run(words, b"put a 1\n"), 0, b"new\n")
     wrong = wrong or differs(run([*words, "--version"]), 0, b"bwsh 0.1.0\n")
@@ -73,7 +71,7 @@ def print_nothing(programs: Programs) -> Outcome:
 
 
 def run_without_errors(programs: Programs, way: str) -> Outcome:
-    """Runs a session whose standard error is closed, a full device, or a pipe without a reader: answers and file are the same as without progress."""
+    """Runs with standard error closed, on a full device, or a broken pipe. Answers and file must not change."""
     with new_folder() as folder:
         path, other = Path(folder) / "file", Path(folder) / "other"
         make(programs, path)
@@ -87,7 +85,6 @@ def run_without_errors(programs: Programs, way: str) -> Outcome:
 
 
 def run_piped(programs: Programs, path: Path, text: bytes) -> RunResult:
-    """Runs a session whose standard error is a pipe that is closed at the other end."""
     session = PipedProgram([programs.store, "--progress", "--disk", path])
     session.errors.close()
     session.send(text)
@@ -97,8 +94,7 @@ def run_piped(programs: Programs, path: Path, text: bytes) -> RunResult:
 
 
 def count_orders(programs: Programs) -> Outcome:
-    """Runs a session of some seconds. Its lines are at least a second apart and count its orders up, and the answers are the same as without
-    progress."""
+    """Runs a session of some seconds. Its lines are at least a second apart, and their counts increase."""
     puts = b"".join(b"put k%d v\n" % number + b"go\n" * (number % 1_000 == 999) for number in range(PAIRS))
     text = puts + VERIFIES * b"verify\n"
     start = time.monotonic()
@@ -117,7 +113,7 @@ def count_orders(programs: Programs) -> Outcome:
 
 
 def count_lines(programs: Programs) -> Outcome:
-    """Checks that a stream shows its lines and batches at the first batch a second after the last progress, and at the 256th line after a batch."""
+    """Checks when a stream shows its counts: at the first batch a second later, and at the 256th line after a batch."""
     dialog = Dialog(programs.store, "--progress")
     dialog.send(b"put a 1\ngo\nput a 2\nflush\n")
     answers = [dialog.read_line(), dialog.read_line(), dialog.read_line()]
@@ -133,7 +129,6 @@ def count_lines(programs: Programs) -> Outcome:
 
 
 def kill(programs: Programs) -> Outcome:
-    """Kills a session between two batches, while its progress is shown: the next one finds the pairs of the last flush."""
     with new_folder() as folder:
         path = Path(folder) / "file"
         make(programs, path)
@@ -151,8 +146,6 @@ def kill(programs: Programs) -> Outcome:
 
 
 def make_copy(programs: Programs) -> Outcome:
-    """Checks that a session with --copy-to shows that it copies, after its answers, in memory and from a file, and shows nothing if the copy is
-    refused."""
     with new_folder() as folder:
         path, first, second = (Path(folder) / name for name in ("file", "first", "second"))
         make(programs, path)
@@ -166,8 +159,7 @@ def make_copy(programs: Programs) -> Outcome:
 
 
 def wrong_segments(ran: RunResult, path: Path, first: bytes, done: bytes, segments: int) -> str | None:
-    """Returns what is wrong with the ending of a session that read or wrote a slow file. It has to show more and more segments, at most
-    `segments`."""
+    """Checks a slow session's progress: segment counts increase, to at most `segments`."""
     text = first + str(path).encode()
     counts = [int(count) for count in re.findall(rb"\r" + re.escape(text) + rb", (\d+) segments " + done, ran.err)]
     lines = progress_of(text, *(text + b", %d segments " % count + done for count in counts))
@@ -177,7 +169,6 @@ def wrong_segments(ran: RunResult, path: Path, first: bytes, done: bytes, segmen
 
 
 def run_slow(programs: Programs, library: Path, words: tuple[str, ...]) -> Outcome:
-    """Recovers and copies a store in some seconds, since each call on its file is slow."""
     with new_folder() as folder:
         path, copy = Path(folder) / "file", Path(folder) / "copy"
         ran = run([programs.store, *WIDE, "--stat", "--create", "--disk", path], LOADED + b"flush\n")
@@ -194,7 +185,6 @@ def run_slow(programs: Programs, library: Path, words: tuple[str, ...]) -> Outco
 
 
 def full(programs: Programs) -> Outcome:
-    """Checks that a full log ends a session with progress as it does without."""
     words = ["--max-key=16", "--max-value=16", "--seg-size=512", "--segments=3", "--fan=4"]
     text = b"".join(b"put a %d\nflush\n" % number for number in range(200))
     plain = run([programs.store, *words], text)

@@ -1,7 +1,6 @@
-"""Refused allocations: tests of the crates whose comment asks for it, and sessions of the program, each run once for every allocation, which is
-refused.
+"""Refuses each allocation in turn: in the crates' tests that ask for it by a comment, and in sessions of the program.
 
-    python3 -m checks.refused PROGRAM TEST    # at the top of the repository: one test of a built program of tests
+    python3 -m checks.refused PROGRAM TEST    # at the top of the repository: one test of a built test program
 """
 
 import re
@@ -17,15 +16,14 @@ from tools.failures import ANSWERS, DEVICE, NO_MEMORY, REFUSE, REFUSED, TEXT, re
 from tools.log.reading import BadStore, read_store
 from tools.processes import TOP, Command, abbreviate, new_folder, run
 
-TESTS = TOP / "tests"  # a folder for each crate that has some
+TESTS = TOP / "tests"  # a folder for each crate that has such tests
 REQUEST = "each allocation refused in turn"  # in a comment before a test
 COMMENTED_TEST = re.compile(r"((?:^//.*\n)+)#\[test\]\n(?:#.*\n)*fn (\w+)", re.MULTILINE)
-LANES = 4  # cases of one test, each with a part of the allocations
-SESSION_BUDGET = 20  # seconds that a session may take, with its hundreds of runs
+LANES = 4  # cases per test, each with a share of the allocations
+SESSION_BUDGET = 20  # seconds that a session's hundreds of runs may take
 
 
 def requested_tests(crate: str) -> list[str]:
-    """Returns the names of the crate's tests whose comment asks for refused allocations."""
     source = TESTS / crate
     names = []
     for path in sorted(source.rglob("*.rt.in")):
@@ -41,7 +39,6 @@ def leave_out(crate: str) -> Outcome:
 
 
 def cases_of(crate: str, program: Path | None, library: Path) -> list[Case]:
-    """Returns the cases of a crate's tests whose comment asks for refused allocations."""
     names = requested_tests(crate)
     if program is None:
         return [Case(crate, leave_out, (crate,))] if names else []
@@ -49,16 +46,16 @@ def cases_of(crate: str, program: Path | None, library: Path) -> list[Case]:
     return [Case(f"{crate} {name}, part {lane} of {LANES}", refuse_each, ([program, name], library, lane, LANES)) for name in names for lane in lanes]
 
 
-EXPLANATION = re.compile(rb"([^\n]+\n)?")  # follows a fault: a line, or nothing if memory for it was refused
-FLUSHED = re.compile(rb"^flushed ", re.MULTILINE)  # begins the answer to a flush
+EXPLANATION = re.compile(rb"([^\n]+\n)?")  # follows a fault: a line, or nothing if its allocation was refused
+FLUSHED = re.compile(rb"^flushed ", re.MULTILINE)  # begins a flush's answer
 
 Pairs = dict[bytes, bytes]
 
 
 @dataclass(frozen=True)
 class RefusedSession:
-    """A session whose allocations are refused: its words, its batch file and its answers. If it runs on a file, `old` has the batch file and the
-    answers of the session that makes the file, and `states` the pairs that the file holds before, None if there is no file, and after each flush."""
+    """A session's options, batch file and answers. `old` is the batch file and the answers of the session that makes its file. `states` has the
+    file's pairs before the session (None: no file) and after each flush."""
 
     name: str
     words: tuple[str, ...]
@@ -71,15 +68,15 @@ class RefusedSession:
         return wrong_session(ran, self.answers, self.is_fault)
 
     def is_fault(self, err: bytes) -> bool:
-        """Returns whether these errors may report a refused allocation: by fault 6, or in memory also by fault 9, if it was the disk's."""
+        """Returns whether these errors are fault 6 or, in memory, fault 9, which a refused allocation of the disk causes."""
         fault = next((fault for fault in (NO_MEMORY, DEVICE) if err.startswith(fault)), None)
         if fault is None or fault == DEVICE and self.states:
             return False
         return err == fault or "--explain" in self.words and EXPLANATION.fullmatch(err, len(fault)) is not None
 
     def wrong_file(self, ran: subprocess.CompletedProcess[bytes], path: Path) -> str | None:
-        """Returns what is wrong with the file after the session. It holds the pairs of the last flush that was answered, or of the next one, if the
-        allocation for its answer was refused. A new file may hold no pairs before the first flush."""
+        """Checks the file: it has the last flush that was answered, or the next one if its answer could not be allocated. Before the first flush,
+        a new file may have no pairs."""
         flushes = len(FLUSHED.findall(ran.stdout))
         is_next = FLUSHED.match(self.answers, len(ran.stdout)) is not None
         expected = [self.states[flushes], *self.states[flushes + 1 : flushes + 1 + is_next]]
@@ -92,7 +89,7 @@ class RefusedSession:
         return None if found in expected else f"output {abbreviate(ran.stdout)}, and the file holds {found}, where one of {expected} was expected"
 
 
-FULL = 17 * b"put a 0123456789abcdef\nflush\n"  # after which the next flush leaves no segment free
+FULL = 17 * b"put a 0123456789abcdef\nflush\n"  # after these, another flush would leave no free segment
 FULL_OUT = b"new\nflushed 2\n" + b"".join(b"replaced\nflushed %d\n" % number for number in range(3, 19))
 FULL_PAIRS = {b"a": b"0123456789abcdef"}
 
@@ -121,7 +118,7 @@ SESSIONS = [
 
 
 def refuse_session(programs: Programs, library: Path, number: int) -> Outcome:
-    """Refuses each allocation of a session in turn, on a file that is the same before each run, and checks the file after it."""
+    """Refuses each allocation of a session in turn, always on an equal file, and checks the file."""
     session = SESSIONS[number]
     with new_folder() as folder:
         path, old = Path(folder) / "store", Path(folder) / "old"
@@ -144,7 +141,6 @@ def refuse_session(programs: Programs, library: Path, number: int) -> Outcome:
 
 
 def refuse_first(programs: Programs, library: Path) -> Outcome:
-    """Refuses the first allocation, so that the words of the command line cannot be read: the session ends by that fault, and reads no input."""
     for words in (["--frob"], ["--help"]):
         ran = run([programs.store, *words], TEXT, environment=refusing(library, 1))
         wrong = differs(ran, 4, b"", REFUSED + NO_MEMORY) or (f"it read {ran.read} bytes" if ran.read else None)

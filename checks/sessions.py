@@ -33,8 +33,6 @@ FILE = re.compile(r"file (\S+) (\d+|none|kept)")
 
 @dataclass
 class Step:
-    """A run of the program: what is done to files before it, its words and its input, and what is expected."""
-
     line: int
     changes: list[tuple[str, str, int]]
     words: list[list[str]] = field(default_factory=list)
@@ -45,7 +43,6 @@ class Step:
     files: list[tuple[str, str]] = field(default_factory=list)
 
     def is_begun(self) -> bool:
-        """Returns whether more than its words is known."""
         return bool(self.text or self.out or self.err or self.status or self.files)
 
 
@@ -56,7 +53,6 @@ class WrittenSession:
 
 
 def bytes_of(line: str) -> bytes:
-    """Returns the bytes that a line encodes, with its line feed."""
     body = line.encode().removesuffix(b"\\")
     if b"\\" in ESCAPE.sub(b"", body):
         raise ValueError(f"an unknown escape: {line}")
@@ -65,7 +61,7 @@ def bytes_of(line: str) -> bytes:
 
 
 def lines_of(found: re.Match[str]) -> bytes:
-    """Returns the bytes of all lines that a line encodes."""
+    """Decodes a line that may stand for several lines."""
     _, times, first, last, line = found.groups(default="")
     if first:
         return b"".join(bytes_of(line.replace("@", chr(letter))) for letter in range(ord(first), ord(last) + 1))
@@ -73,8 +69,6 @@ def lines_of(found: re.Match[str]) -> bytes:
 
 
 class SessionFileReader:
-    """Reads a file of sessions."""
-
     def __init__(self, path: Path) -> None:
         self.sessions: list[WrittenSession] = []
         self.changes: list[tuple[str, str, int]] = []
@@ -83,7 +77,7 @@ class SessionFileReader:
                 raise ValueError(f"{path.name}: line {number} does not belong to a session: {line}")
 
     def take(self, number: int, line: str) -> bool:
-        """Takes a line. Returns False if it is not one of a session."""
+        """Parses a line. Returns False if it is invalid."""
         if line.startswith("session "):
             self.sessions.append(WrittenSession(line.removeprefix("session ")))
             return not self.changes
@@ -103,7 +97,6 @@ class SessionFileReader:
 
 
 def take_in_step(step: Step, line: str) -> bool:
-    """Takes a line of a step. Returns False if it is not one."""
     if found := TEXT.fullmatch(line):
         name = {"<": "text", ">": "out", "!": "err"}[found[1]]
         setattr(step, name, getattr(step, name) + lines_of(found))
@@ -121,7 +114,6 @@ def change_file(change: str, path: Path, length: int) -> None:
 
 
 def wrong_file(path: Path, expected: str, before: bytes | None) -> str | None:
-    """Returns what is wrong with a file that had these bytes before the step."""
     now = path.read_bytes() if path.exists() else None
     if expected == "kept":
         return None if now == before and now is not None else f"{path.name} has other bytes"
@@ -152,19 +144,18 @@ def run_session(programs: Programs, session: WrittenSession) -> Outcome:
 
 
 def read_sessions() -> list[tuple[str, WrittenSession]]:
-    """Returns the sessions of all files, each with the name of its file."""
     return [(path.stem, session) for path in sorted(FOLDER.glob("*.session")) for session in SessionFileReader(path).sessions]
 
 
-# ---- Long ones.
+# ---- Generated sessions.
 
 KEYS = 1_000
 IN_A_BATCH = 10
 
 
 def grow_and_shrink() -> tuple[bytes, bytes]:
-    """Puts many keys with small pages, in batches of ten, and deletes them: the tree grows to several levels, and shrinks to an empty leaf. 389 and
-    1,000 have no divisor in common, so each key comes once, in no order."""
+    """Puts and then deletes many keys with small pages, so that the tree grows and shrinks. The step is coprime with the count: each key comes
+    once."""
     puts = [b"put %d v\n" % (place * 389 % KEYS) for place in range(KEYS)]
     deletes = [b"get %d\ndel %d\n" % (key, key) for key in range(KEYS)]
     lines = [line + (b"go\n" if at % IN_A_BATCH == IN_A_BATCH - 1 else b"") for at, line in enumerate(puts + deletes)]
@@ -172,12 +163,11 @@ def grow_and_shrink() -> tuple[bytes, bytes]:
 
 
 def full_log() -> tuple[bytes, bytes]:
-    """Flushes as in example log 15: the eighteenth flush would leave no segment free. The answers before it are printed."""
+    """Fills the log of worked example 15. The eighteenth flush is refused; the answers before it are printed."""
     out = b"new\nflushed 2\n" + b"".join(b"replaced\nflushed %d\n" % number for number in range(3, 19)) + b"replaced\n"
     return 18 * b"put a 0123456789abcdef\nflush\n", out
 
 
-# By the name: the words, what makes the input and the answers, the exit status, and the errors.
 LONG_SESSIONS: dict[str, tuple[tuple[str, ...], Callable[[], tuple[bytes, bytes]], int, bytes]] = {
     "a_tree_grows_and_shrinks": (("--fan=4",), grow_and_shrink, 0, b""),
     "a_tree_grows_and_shrinks, four workers": (("--fan=4", "--workers=4", "--grain=1"), grow_and_shrink, 0, b""),
@@ -197,7 +187,7 @@ ENTRIES = 50
 
 
 def open_folder(programs: Programs) -> Outcome:
-    """Opens a folder, which is no file. It has many entries, since a small folder may have fewer bytes than the front of a store."""
+    """Opens a folder instead of a file, with many entries, so that its size exceeds the front of a store."""
     with new_folder() as folder:
         for number in range(ENTRIES):
             (Path(folder) / f"entry {number}").touch()

@@ -1,4 +1,4 @@
-"""Random sessions with kills, crashes and failing calls, and planted faults that the comparison with the model must find."""
+"""Random sessions with failures, and planted faults that must be detected."""
 
 from pathlib import Path
 
@@ -7,7 +7,7 @@ from tools.processes import new_folder
 from tools.soak.sessions import PLANTS, Difference, Soak
 
 SEEDS, STORES = 4, 6
-MOST = 30  # stores until a planted fault must be found
+MOST = 30  # stores within which a planted fault must be found
 
 
 def run_soak(programs: Programs, seed: int, stores: int, plant: str | None = None) -> Outcome:

@@ -1,5 +1,4 @@
-"""Sessions whose standard streams are closed. A file that is opened then gets the descriptor of a stream, and could get what is written to the
-stream."""
+"""Sessions with closed standard streams. A file that is opened then gets a stream's descriptor, and must not get its output."""
 
 import re
 from collections.abc import Iterator
@@ -14,15 +13,14 @@ from tools.processes import Command, Limits, RunResult, new_folder, run
 
 CLOSED = (">&-", "<&-", "2>&-", ">&- 2>&-", "<&- >&-", "<&- 2>&-", "<&- >&- 2>&-")
 OLD = b"put a 1\nflush\nput a 2\nput b 3\nflush\n"
-IN_PLACE = re.compile(rb"\r[^\r\n]*\x1b\[K")  # a line that replaces the one before, as --progress writes it
+IN_PLACE = re.compile(rb"\r[^\r\n]*\x1b\[K")  # a line that replaces the one before it, printed by --progress
 OLD_PAIRS = [(b"a", b"2"), (b"b", b"3")]
 OLD_ANSWER = answer_to_read_all(OLD_PAIRS, 1, 1)
 
 
 @dataclass(frozen=True)
 class StreamSession:
-    """A session on an old file, or on one that it makes: its words, its batch file, and how it ends if no stream is closed, without its progress. If
-    it makes a copy, `copied` has the pairs of the copy."""
+    """A session on an old or new file: its options, batch file, and expected ending with open streams. `copied` has the pairs of its copy."""
 
     name: str
     words: tuple[str, ...]
@@ -31,7 +29,6 @@ class StreamSession:
     copied: list[tuple[bytes, bytes]] | None = None
 
     def command(self, program: Path, path: Path) -> Command:
-        """Returns the command that runs it on this file. A copy goes to a file beside it."""
         return [program, *self.words, f"--disk={path}", *([f"--copy-to={copy_of(path)}"] if self.copied is not None else [])]
 
 
@@ -61,13 +58,11 @@ def copy_of(path: Path) -> Path:
 
 
 def run_on(programs: Programs, session: StreamSession, path: Path, closed: str = "") -> RunResult:
-    """Runs a session on this file, and removes its progress from the errors."""
     ran = run(session.command(programs.store, path), session.text, Limits(redirections=closed))
     return replace(ran, err=IN_PLACE.sub(b"", ran.err)) if "--progress" in session.words else ran
 
 
 def wrong_copy(session: StreamSession, path: Path, is_done: bool) -> str | None:
-    """Returns what is wrong with a session's copy. It has to hold the pairs of the store, or to be empty or missing if the session did not do all."""
     copy = copy_of(path)
     made = copy.read_bytes() if copy.exists() else b""
     if session.copied is None or not is_done:
@@ -85,8 +80,8 @@ def make_old_file(programs: Programs, path: Path) -> bytes:
 
 
 def wrong_ending(ran: RunResult, session: StreamSession, closed: str) -> str | None:
-    """Returns what is wrong with the ending of a session with closed streams, of which the closed ones cannot be seen. A bad line that can be read is
-    found before a closed output, except with --stream. If only standard error is closed, a session may go on or end by fault 9."""
+    """Checks how a session with closed streams ends. A bad line is found before a closed output, except with --stream. With only standard error
+    closed, the session may continue or end with fault 9."""
     status, out, err = session.ending
     if closed == "2>&-" and (ran.status, ran.out) == (4, b""):
         return None
@@ -96,7 +91,7 @@ def wrong_ending(ran: RunResult, session: StreamSession, closed: str) -> str | N
 
 
 def close(programs: Programs, number: int, closed: str) -> Outcome:
-    """Runs a session with these streams closed, and the same session with all streams open, on equal files."""
+    """Runs a session with these streams closed and with all open, on equal files."""
     session = SESSIONS[number]
     with new_folder() as folder:
         path, other = Path(folder) / "file", Path(folder) / "other"
@@ -115,7 +110,6 @@ def close(programs: Programs, number: int, closed: str) -> Outcome:
 
 
 def close_and_create(programs: Programs, words: tuple[str, ...], closed: str) -> Outcome:
-    """Runs a session that makes a new file."""
     with new_folder() as folder:
         path = Path(folder) / "file"
         ran = run([programs.store, *words, "--disk", path], b"put d 5\nflush\n", Limits(redirections=closed))

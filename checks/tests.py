@@ -1,5 +1,4 @@
-"""The tests of the engine, in Rattle: calls of the engine and of the crates below it, for what no clause says. `./build engine_tests` builds them
-without proofs."""
+"""The engine's tests in Rattle, for behaviour that no contract states. `./build engine_tests` builds them without proofs."""
 
 import re
 import subprocess

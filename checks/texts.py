@@ -1,4 +1,4 @@
-"""Batch files that are made to do harm, and large ones, each run with a small stack."""
+"""Malicious and large batch files, each run with a small stack."""
 
 import random
 from collections.abc import Callable
@@ -14,13 +14,11 @@ SMALL_MEMORY = 100 * MEGABYTE
 
 @dataclass(frozen=True)
 class HostileText:
-    """A batch file, and how a session on it must end; the most processor seconds and bytes of memory that it may take."""
-
     name: str
     make: Callable[[], bytes]
     ending: Ending
     words: tuple[str, ...] = ()
-    seconds: float | None = None  # without it in proportion to the length
+    seconds: float | None = None  # None: in proportion to the length
     memory: int | None = None
 
 
@@ -36,16 +34,15 @@ NOTHING = (0, b"", b"")
 LONG = b"a" * MEGABYTE
 MILLION = 1_000_000
 
-TURNS, STEP = 1_000, 5  # how often a wipe and a scan follow one another, and how many pairs each wipe removes
+TURNS, STEP = 1_000, 5  # alternating wipes and scans, and the pairs that each wipe removes
 
 
 def puts(count: int) -> bytes:
-    """Returns a batch of puts in key order."""
     return b"".join(b"put %06d v\n" % number for number in range(count)) + b"go\n"
 
 
 def wipes_and_scans(lo: bytes) -> bytes:
-    """Returns a batch of wipes of the next pairs, each with a scan of three rows, from `lo` on; if that is empty, from the end of the wipe before."""
+    """Returns a batch of wipes of the next pairs, each followed by a scan of three rows from `lo`, or from the end of the wipe if `lo` is empty."""
     ends = [(b"%06d" % (STEP * turn), b"%06d" % (STEP * (turn + 1))) for turn in range(TURNS)]
     return puts(TURNS * STEP) + b"".join(b"wipe %s %s\nscan %s * 3\n" % (lo or first, last, lo or first) for first, last in ends)
 
@@ -56,11 +53,10 @@ def answers_to_wipes_and_scans() -> bytes:
     return b"new\n" * (TURNS * STEP) + b"".join(b"wiped %d\nrows %d\n" % (STEP, len(found)) + b"".join(found) for found in rows)
 
 
-DELETES = 20_000  # each with a scan after it, which passes over all leaves that are empty by then
+DELETES = 20_000  # each with a scan that passes over all leaves emptied so far
 
 
 def deletes_and_scans() -> bytes:
-    """Returns a batch that deletes all pairs in key order, each with a scan of one row from the first key on."""
     return puts(DELETES) + b"".join(b"del %06d\nscan %% * 1\n" % number for number in range(DELETES))
 
 
@@ -70,7 +66,7 @@ def answers_to_deletes_and_scans() -> bytes:
 
 
 SMALL = 200_000  # batches of one command
-PER_ORDER = 100  # bytes of memory that each may take, beside its text
+PER_ORDER = 100  # bytes of memory per batch, besides its text
 
 TEXTS = [
     HostileText("no bytes", lambda: b"", NOTHING),
@@ -124,12 +120,11 @@ def run_text(programs: Programs, number: int) -> Outcome:
 
 
 def ending_of_line(byte: int) -> Ending:
-    """Returns how a session ends whose batch file is a line of this byte. A line feed makes two lines."""
     return NOTHING if byte in b" \t\r\n#" else bad_line("unknown command")
 
 
 def ending_of_word(byte: int) -> Ending:
-    """Returns how a session ends that gets the key which this byte encodes."""
+    """Returns how a session ends that gets the key with this escape."""
     if byte in b" \t\r\n":
         return bad_line("wrong number of words")
     return (0, b"missing\n", b"") if 0x21 <= byte <= 0x7E else bad_line("bad token")
@@ -146,7 +141,6 @@ def run_bytes(programs: Programs) -> Outcome:
 
 
 def run_escapes(programs: Programs) -> Outcome:
-    """Puts keys and values of all bytes, and reads them back."""
     puts = b"".join(b"put %%%02x %%%02X%%%02x\n" % (byte, byte, 255 - byte) for byte in range(256))
     rows = b"".join(token(bytes([byte])) + b" " + token(bytes([byte, 255 - byte])) + b"\n" for byte in range(256))
     ran = run([programs.store], puts + b"scan % * 4294967295\n")
@@ -160,7 +154,6 @@ def run_drawn(programs: Programs, workers: int) -> Outcome:
 
 
 def run_in_memory(programs: Programs) -> Outcome:
-    """A store in memory with as many segments as there may be."""
     ran = run([programs.store, "--segments", "65536"], b"put a 1\n")
     dear = None
     if ran.seconds > SLOW or ran.memory > SMALL_MEMORY:

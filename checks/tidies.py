@@ -1,4 +1,4 @@
-"""Sessions with `--tidy`: the empty leaves of a queue are merged after each flush, and the answers are the same as without it."""
+"""`--tidy`: empty leaves of a queue are merged after each flush, and answers do not change."""
 
 import random
 import re
@@ -9,11 +9,11 @@ from tools.cases import Case, Outcome, Programs, differs
 from tools.failures import DEVICE, NO_MEMORY, REFUSED, refuse_each, refusing, wrong_session
 from tools.processes import PATIENCE, Command, Dialog, Limits, new_folder, run
 
-# With these settings a page with three entries is merged, also an index page.
+# With these settings a page of three entries is merged.
 QUEUE = ("--fan=16", "--chain=2", "--max-key=16", "--max-value=16", "--seg-size=1024")
 SMALL = (*QUEUE[:-1], "--seg-size=1024", "--segments=16")
 EACH = 50  # keys of a batch
-LANES = 8  # cases with a part of the allocations each
+LANES = 8  # cases, each with a share of the allocations
 
 
 def key(place: int) -> bytes:
@@ -21,7 +21,6 @@ def key(place: int) -> bytes:
 
 
 def queue_batch(number: int) -> bytes:
-    """Returns the lines of a batch that puts fifty keys, and deletes the fifty keys before them, if there are any."""
     lines = []
     for place in range(number * EACH, (number + 1) * EACH):
         lines.append(b"put %s %%\n" % key(place))
@@ -35,7 +34,6 @@ def queue_answers(number: int) -> bytes:
 
 
 def queue(first: int, last: int) -> tuple[bytes, bytes]:
-    """Returns the lines of these batches, and their answers."""
     return b"".join(map(queue_batch, range(first, last))), b"".join(map(queue_answers, range(first, last)))
 
 
@@ -44,18 +42,17 @@ def bytes_of(token: bytes) -> bytes:
 
 
 def pages(out: bytes) -> list[int]:
-    """Returns how many pages each verify has counted."""
     return [int(line.split()[1]) for line in out.splitlines() if line.startswith(b"ok ")]
 
 
 def without_counts(out: bytes) -> list[bytes]:
-    """Returns the answers without those that have numbers of the log or of pages."""
+    """Removes the answers that count log segments or pages."""
     return [line for line in out.splitlines() if line.split()[0] not in (b"ok", b"flushed", b"cleaned", b"stat")]
 
 
 def merge(programs: Programs, kind: str) -> Outcome:
-    """Tidies a queue through which a thousand pairs went. Its fifty pairs are in four of 61 leaves, so 68 pages become 11 after a flush. The counts
-    follow from the rules, as in the engine's own test. A second flush writes the merged pages; without the option it would write nothing."""
+    """Tidies a queue of fifty pairs after a thousand. They are in four of 61 leaves, so 68 pages become 11. The counts follow from the rules, as
+    in the engine's test. A second flush writes the merged pages."""
     text, out = queue(0, 20)
     words = ("--stream",) if kind == "stream" else ()
     ran = run([programs.store, *QUEUE, *words, "--tidy=4294967295"], text + b"verify\nflush\nverify\nflush\n")
@@ -66,7 +63,7 @@ def merge(programs: Programs, kind: str) -> Outcome:
 
 
 def keep_small(programs: Programs) -> Outcome:
-    """Tidies a queue at a flush every five batches: it has at most 21 pages. With --tidy=1 each flush merges one page."""
+    """Tidies a queue at every fifth batch, so that it has at most 21 pages. With --tidy=1 a flush merges one page."""
     text = b"".join(queue(first, first + 5)[0] + b"verify\nflush\n" for first in range(0, 40, 5))
     most = max(pages(run([programs.store, *QUEUE, "--tidy=64"], text).out))
     few = run([programs.store, *QUEUE, "--tidy=1"], queue(0, 20)[0] + 3 * b"verify\nflush\n")
@@ -76,7 +73,6 @@ def keep_small(programs: Programs) -> Outcome:
 
 
 def random_lines(seed: int) -> bytes:
-    """Returns random lines of all kinds, on few keys."""
     chance, lines = random.Random(seed), []
     for _ in range(1_500):
         place = key(chance.randrange(400))
@@ -92,7 +88,7 @@ def random_lines(seed: int) -> bytes:
 
 
 def compare_answers(programs: Programs, seed: int) -> Outcome:
-    """Checks that the answers are the same with --tidy and without it, with --stream too. With --tidy=0 the whole output is the same."""
+    """Compares answers with and without --tidy, also with --stream. With --tidy=0 the whole output is equal."""
     text = random_lines(seed)
     words: Command = [programs.store, *QUEUE, "--clean-when-full", "--stat"]
     plain = run(words, text)
@@ -105,7 +101,7 @@ def compare_answers(programs: Programs, seed: int) -> Outcome:
 
 
 def flush_merged(programs: Programs) -> Outcome:
-    """Checks that pages which are merged after the last flush of a session are not in the file, and that those merged before it are."""
+    """Checks that merges after a session's last flush are not in the file, and that earlier ones are."""
     with new_folder() as folder:
         path, text = Path(folder) / "store", queue(0, 20)[0]
         run([programs.store, *QUEUE, "--disk", path, "--create", "--tidy=999"], text + b"flush\n")
@@ -119,7 +115,7 @@ def flush_merged(programs: Programs) -> Outcome:
 
 
 def clean_often(programs: Programs) -> Outcome:
-    """Runs a queue in a small log, which is full again and again: cleans make room, and few leaves remain."""
+    """Runs a queue in a small log, which must be cleaned often, and keeps few leaves."""
     text = b"".join(queue(number, number + 1)[0] + b"flush\n" for number in range(200))
     ran = run([programs.store, *SMALL, "--clean-when-full", "--tidy=64"], text + b"verify\nscan % * 99\n")
     cleans, flushes = ran.out.count(b"cleaned "), ran.out.count(b"flushed ")
@@ -128,7 +124,6 @@ def clean_often(programs: Programs) -> Outcome:
 
 
 def stops(programs: Programs) -> Outcome:
-    """Checks that a bad line, a full log and a closed output end a session as without --tidy."""
     text, out = queue(0, 6)
     words: Command = [programs.store, *QUEUE, "--tidy=99"]
     ran = run([*words, "--stream"], text + b"flush\nfrob\nget a\n")
@@ -143,7 +138,7 @@ def stops(programs: Programs) -> Outcome:
 
 
 def close_pipe(programs: Programs) -> Outcome:
-    """Closes the pipe of the answers after a flush was answered, which comes before its pages are merged. The next flush ends the session."""
+    """Closes the answers' pipe after a flush was answered and before its merges. The next flush ends the session."""
     text, out = queue(0, 6)
     dialog = Dialog(programs.store, *QUEUE, "--tidy=99")
     dialog.send(text + b"flush\n")
@@ -155,7 +150,6 @@ def close_pipe(programs: Programs) -> Outcome:
 
 
 def kill(programs: Programs, seed: int) -> Outcome:
-    """Kills sessions with --tidy between two batches: the file has the pairs of the last flush that was answered."""
     chance = random.Random(seed)
     with new_folder() as folder:
         path, number = Path(folder) / "file", 0
@@ -176,7 +170,6 @@ def kill(programs: Programs, seed: int) -> Outcome:
     return Outcome()
 
 
-# A session with --tidy, and its answers.
 TIDIED = queue(0, 6)[0] + b"flush\nscan % * 2\nflush\n"
 ROWS = b"rows 2\n%00%FA %\n%00%FB %\n"
 TIDIED_OUT = queue(0, 6)[1] + b"flushed 2\n" + ROWS + b"flushed 3\n"
@@ -187,15 +180,14 @@ def wrong_tidied(ran: subprocess.CompletedProcess[bytes]) -> str | None:
 
 
 def refuse_last(programs: Programs, library: Path) -> Outcome:
-    """Refuses each of the last ten allocations of a session, which merge its pages. All is answered, and the session ends by fault 6 if it cannot do
-    without the allocation."""
+    """Refuses each of the session's last ten allocations, which belong to merges. All is answered, or the session ends with fault 6."""
     text, out = queue(0, 6)
 
     def run_refused(number: int) -> subprocess.CompletedProcess[bytes]:
         command: Command = [programs.store, *QUEUE, "--tidy=99"]
         return subprocess.run(command, env=refusing(library, number), input=text + b"flush\n", capture_output=True, timeout=PATIENCE)
 
-    last, none = 1, 1 << 20  # numbers of an allocation that the session makes, and of one that it does not make
+    last, none = 1, 1 << 20  # numbers of one allocation that the session makes, and of one beyond its last
     while none - last > 1:
         number = (last + none) // 2
         last, none = (number, none) if REFUSED in run_refused(number).stderr else (last, number)

@@ -1,4 +1,4 @@
-"""Upgrades of stores in files: their bytes, by docs/FORMAT.md, and what is recovered after a kill."""
+"""Upgrades of stores in files: their bytes by docs/FORMAT.md, and recovery after a kill."""
 
 import random
 from collections.abc import Callable
@@ -12,22 +12,20 @@ from tools.log.writing import Slot, append, delta_index, delta_leaf, shared_inde
 from tools.processes import PATIENCE, Command, new_folder, run, run_until
 
 SEEDS, KILLS = 4, 10
-PAIRS = 60_000  # of the stores in whose upgrades sessions are killed
+PAIRS = 60_000  # of the stores whose upgrades are killed
 SETTINGS = ["--fan", "4", "--chain", "2", "--max-value", "16", "--segments", "256"]
 ALREADY_UPGRADED = (4, b"", b"fault 19 AlreadyUpgraded\n")
-FURTHER = b"add new 1\nflush\nclean\ndel new\nflush\n"  # lines for an upgraded store, and their answers with two sequence numbers
+FURTHER = b"add new 1\nflush\nclean\ndel new\nflush\n"  # lines for an upgraded store; the answers have two sequence numbers
 ANSWERS = b"added\nflushed %d\ncleaned 1\ndeleted\nflushed %d\n"
 
 
 def upgraded_frames(pid: int, page: LoggedPage) -> list[bytes]:
-    """Returns the frames that an upgrade writes for a page."""
     encoders: dict[bool, tuple[Callable[..., bytes], Callable[..., bytes]]] = {True: (shared_leaf, delta_leaf), False: (shared_index, delta_index)}
     base, delta = encoders[page.is_leaf()]
     return [base(pid, page.base.low, dict(page.base.cells)), *[delta(pid, dict(each.cells)) for each in page.runs]]
 
 
 def upgraded_disk(disk: bytes) -> bytes:
-    """Returns the bytes of a file after an upgrade without unflushed batches."""
     settings = read_settings(disk)
     slot = read_slot(disk, settings)
     pages = pages_by_log(read_log(disk, slot, settings))
@@ -36,12 +34,10 @@ def upgraded_disk(disk: bytes) -> bytes:
 
 
 def answer_to_upgrade(slot: Slot) -> bytes:
-    """Returns what the upgrade of a store with this slot prints."""
     return b"upgraded %d\n" % (slot.sequence + 1)
 
 
 def make(programs: Programs, path: Path, text: bytes, *words: str) -> tuple[bytes, Slot, Ending]:
-    """Makes a store with this text in a file. Returns the bytes of the file, its slot, and how a session ends that reads all of it."""
     ran = run([programs.store, "--disk", path, "--create", *words], text + b"flush\n")
     if ran.status:
         raise ValueError(f"the file was not made: {ran.describe()}")
@@ -50,7 +46,7 @@ def make(programs: Programs, path: Path, text: bytes, *words: str) -> tuple[byte
 
 
 def upgrade(programs: Programs, seed: int) -> Outcome:
-    """Upgrades a random store, and compares the bytes; then upgrades it again, which is refused, and flushes and cleans it."""
+    """Upgrades a random store, and compares the bytes. A second upgrade is refused; flushes and cleans succeed."""
     chance = random.Random(seed)
     text, _ = drawn_batches(chance, batches=8, most=300, keys=400)
     size = chance.choice([512, 1024, 4096])
@@ -73,7 +69,7 @@ def upgrade(programs: Programs, seed: int) -> Outcome:
 
 
 def kill(programs: Programs, path: Path, delay: float) -> tuple[bytes, float]:
-    """Kills a session when `delay` seconds have passed since it began its upgrade. Returns its output, and how long it ran since then."""
+    """Kills a session `delay` seconds after its upgrade began. Returns its output and run time."""
     text, out = path.with_name("text"), path.with_name("out")
     text.write_bytes(b"get k\nupgrade\n")
     _, seconds = run_until([programs.store, "--disk", path], text, out, delay=delay)
@@ -81,8 +77,7 @@ def kill(programs: Programs, path: Path, delay: float) -> tuple[bytes, float]:
 
 
 def check_killed(programs: Programs, path: Path, out: bytes, slot: Slot, ending: Ending) -> tuple[bool, str | None]:
-    """Returns whether an upgrade was done in which a session was killed, and what is wrong with what is recovered: the store as it was, in one
-    version."""
+    """Returns whether a killed upgrade was complete, and an error. The recovered store must be unchanged, in one version."""
     disk = path.read_bytes()
     is_done = read_slot(disk, read_settings(disk)).version == 2
     wrong = "an upgrade was reported that was not recovered" if answer_to_upgrade(slot) in out and not is_done else None

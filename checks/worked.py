@@ -1,6 +1,6 @@
-"""The bytes of a file after worked examples, as docs/EXAMPLES.md and docs/FORMAT.md give them: its frames, and the slots of its last two commits.
+"""Compares files with docs/EXAMPLES.md and docs/FORMAT.md: the frames, and the slots of the last two commits.
 
-Before each example the file has bytes 0xff, fewer or more than a store has, and the store is made in it.
+Each store is created in a file of bytes 0xff that is shorter or longer than the store.
 """
 
 from dataclasses import dataclass
@@ -17,9 +17,6 @@ LONG = b"0123456789abcdef"
 
 @dataclass(frozen=True)
 class WorkedExample:
-    """An example of the log by its number: how many bytes the file has before, the lines, how the session ends, and the frames and the slots of the
-    file."""
-
     number: str
     held: int
     text: bytes
@@ -32,14 +29,13 @@ class WorkedExample:
 
 
 def ones(letters: bytes) -> dict[bytes, bytes]:
-    """Returns pairs of these letters with the value 1."""
     return {bytes([letter]): b"1" for letter in letters}
 
 
 PUT_FIVE = b"put a 1\nput b 2\nput c 3\nput d 4\nput e 5\n"
 PUT_LONG = b"put a 0123456789abcdef\nflush\n"
 
-# The one empty leaf of a new store, and the pages of example 4.
+# The empty leaf of a new store, and the pages of example 4.
 NEW = full_leaf(0, b"", {})
 LEFT = full_leaf(0, b"", {b"a": b"1", b"b": b"2"})
 RIGHT = full_leaf(1, b"c", {b"c": b"3", b"d": b"4", b"e": b"5"})
@@ -59,7 +55,7 @@ FIVE = [
     full_index(7, b"", {b"": 5, b"g": 6}),
 ]
 
-# A run of page 0 that gives the key a a value of sixteen bytes, and a base of the page with this value.
+# A run of page 0 that gives key a a value of sixteen bytes, and a base with that value.
 LONG_RUN = delta_leaf(0, {b"a": LONG})
 LONG_BASE = full_leaf(0, b"", {b"a": LONG, b"b": b"2"})
 

@@ -1,5 +1,5 @@
 #!/usr/bin/env python3
-"""Builds the examples into `out/`, and shows two sessions of each as they are typed at a shell."""
+"""Builds the examples into `out/`, and shows two sessions of each, as they look in a shell."""
 
 import argparse
 import shlex
@@ -12,7 +12,7 @@ sys.path.append(str(Path(__file__).resolve().parent.parent))
 
 from tools import building  # noqa: E402
 
-# What each is shown on: the lines of a first session, and those of a second one, on the file that the first left.
+# The lines of a first session, and those of a second session on the same file.
 SESSIONS: dict[str, tuple[list[str], ...]] = {
     "events": (["append 20261127 rain", "append 20261128 walk", "append 20261128 tea"], ["day 20261128", "newest 3"]),
     "people": (["add ann Rome", "add cat Rome"], ["add ann Oslo", "in Rome", "check"]),
@@ -25,7 +25,7 @@ SESSIONS: dict[str, tuple[list[str], ...]] = {
 
 
 def show(name: str) -> None:
-    """Prints two sessions as they are typed at a shell, with what they print."""
+    """Prints two sessions and their output, as they look in a shell."""
     with tempfile.TemporaryDirectory() as folder:
         for lines in SESSIONS[name]:
             text = "".join(f"{line}\n" for line in lines)
@@ -36,8 +36,8 @@ def show(name: str) -> None:
 
 def main() -> None:
     parser = argparse.ArgumentParser(description=__doc__)
-    parser.add_argument("names", nargs="*", metavar="NAME", help=f"of {', '.join(SESSIONS)}; all if none is named")
-    parser.add_argument("--proved", action="store_true", help="prove the examples, and all that they use, before they are built")
+    parser.add_argument("names", nargs="*", metavar="NAME", help=f"any of {', '.join(SESSIONS)} (default: all)")
+    parser.add_argument("--proved", action="store_true", help="prove the examples and the crates that they use before building them")
     options = parser.parse_args()
     unknown = set(options.names) - set(SESSIONS)
     if unknown:

@@ -1,1 +1,1 @@
-"""What the checks, the measurements and the scripts at the top of the repository share. This package imports none of them."""
+"""Code shared by the checks, the measurements and the top-level scripts. It imports none of them."""

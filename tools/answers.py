@@ -1,26 +1,24 @@
-"""What the program prints of a store, and how its sessions end."""
+"""The program's printed answers for a given store, and how its sessions end."""
 
 from tools.log.reading import BadStore, read_store
 
 ALL_ROWS = 4_294_967_295  # the greatest limit of a scan
-READ_ALL = b"scan % * 4294967295\nverify\n"  # orders that print all pairs and the report
-Ending = tuple[int, bytes, bytes]  # the exit status, the output and the errors
+READ_ALL = b"scan % * 4294967295\nverify\n"  # commands that print all pairs and the report
+Ending = tuple[int, bytes, bytes]  # exit status, standard output, standard error
 
 ENCODED_BYTES = [bytes([byte]) if 0x21 <= byte <= 0x7E and byte != 0x25 else b"%%%02X" % byte for byte in range(256)]
 
 
 def token(text: bytes) -> bytes:
-    """Encodes a key or a value as the program prints it."""
+    """Escapes a key or a value as the program prints it."""
     return b"".join([ENCODED_BYTES[byte] for byte in text]) or b"%"
 
 
 def rows_of(pairs: list[tuple[bytes, bytes]]) -> bytes:
-    """Returns the answer to a scan of all pairs."""
     return b"rows %d\n" % len(pairs) + b"".join(b"%s %s\n" % (token(key), token(value)) for key, value in pairs)
 
 
 def answer_to_read_all(pairs: list[tuple[bytes, bytes]], pages: int, height: int) -> bytes:
-    """Returns the answers to READ_ALL on a store with these pairs."""
     return rows_of(pairs) + b"ok %d %d %d\n" % (pages, height, len(pairs))
 
 

@@ -1,4 +1,4 @@
-"""Random batches, and what a store answers to them."""
+"""Random batches, and the expected answers."""
 
 import random
 
@@ -6,15 +6,14 @@ from tools.model import OrderedMap
 
 
 def drawn_range(chance: random.Random, key: bytes) -> tuple[bytes, bytes | None]:
-    """Returns the bounds of a range: nearly always of the keys that begin like this one, seldom of all from this beginning up to some other key or to
-    the end."""
+    """Returns random bounds: nearly always the keys with the same prefix as this one, sometimes up to another key or to the end."""
     length = max(1, len(key) - chance.choices([0, 1, 2, 3], [60, 30, 8, 2])[0])
     others = [key[:length] + b"~", b"%x" % chance.randrange(1 << 16), None]
     return key[:length], chance.choices(others, [500, 2, 1])[0]
 
 
 def drawn_command(chance: random.Random, pairs: OrderedMap, weights: list[int], keys: int, value: bytes) -> tuple[bytes, list[bytes]]:
-    """Returns the line of a put, a delete, a get, a scan or a wipe, by these weights, and the lines of its reply."""
+    """Returns the line of a random command, and the lines of its reply."""
     key = b"%x" % chance.randrange(keys)
     name = chance.choices(["put", "del", "get", "scan", "wipe"], weights)[0]
     if name == "put":
@@ -31,8 +30,8 @@ def drawn_command(chance: random.Random, pairs: OrderedMap, weights: list[int], 
 
 
 def drawn_batches(chance: random.Random, batches: int, most: int, keys: int) -> tuple[bytes, bytes]:
-    """Returns a batch file of random batches, in turn two that mostly put and two that mostly delete, with a scan of all pairs after them, and the
-    answers to it. Each batch has fewer than `most` commands, and there are `keys` keys."""
+    """Returns a file of random batches and the answers to it. Two batches that mostly put alternate with two that mostly delete; a scan of all
+    pairs follows each."""
     pairs, text, answers = OrderedMap(), bytearray(), list[bytes]()
     for batch in range(batches):
         weights = [240, 40, 40, 5, 10] if batch % 4 < 2 else [40, 240, 40, 5, 10]

@@ -1,4 +1,4 @@
-"""Programs whose system calls fail (`c/fail.c`) or whose allocations are refused (`c/refuse.c`), by libraries in front of the C library."""
+"""Runs programs whose system calls or allocations fail, by preloading `c/fail.c` or `c/refuse.c`."""
 
 import errno
 import itertools
@@ -13,9 +13,9 @@ from tools.processes import PATIENCE, Command, abbreviate
 
 FAIL, REFUSE = (Path(__file__).resolve().parent / "c" / name for name in ("fail.c", "refuse.c"))
 ALWAYS = 1_000_000  # calls
-REFUSED = b"<refused>"  # the library writes this to standard error when it refuses an allocation
+REFUSED = b"<refused>"  # the library prints this when it refuses an allocation
 NO_MEMORY, DEVICE = b"fault 6 NoMemory\n", b"fault 9 Device\n"
-BUDGET = 90  # seconds of the clock that a case may take
+BUDGET = 90  # seconds that a case may take
 # A session with an order of each kind, and its answers.
 TEXT = b"put %41 1\nget A\nscan % * 9\nverify\ndel A\nput B 1\nwipe A *\nget A\nupgrade\n"
 ANSWERS = b"new\nvalue 1\nrows 1\nA 1\nok 1 1 1\ndeleted\nnew\nwiped 1\nmissing\nupgraded 2\n"
@@ -23,8 +23,8 @@ ANSWERS = b"new\nvalue 1\nrows 1\nA 1\nok 1 1 1\ndeleted\nnew\nwiped 1\nmissing\
 
 @dataclass(frozen=True)
 class FailingCalls:
-    """Calls of one kind that fail with this error: `count` of them from the number `first` on, which is counted from 0. `cuts` has reads and writes
-    take a byte at a time. `wait` has those of the file take so many milliseconds more."""
+    """Makes `count` calls of one kind fail with this error, from call number `first` (counted from 0). With `cuts`, reads and writes transfer one
+    byte at a time. `wait` delays calls on the file, in milliseconds."""
 
     call: str
     first: int = 0
@@ -34,26 +34,23 @@ class FailingCalls:
     wait: int = 0
 
     def environment(self, library: Path, file: object) -> dict[str, str]:
-        """Returns the environment of a program whose calls on this file, or on its standard streams, fail."""
         numbers = {"FAIL_FROM": str(self.first), "FAIL_COUNT": str(self.count), "FAIL_ERROR": str(self.error), "FAIL_WAIT": str(self.wait)}
         words = {"LD_PRELOAD": str(library), "FAIL_CALL": self.call, "FAIL_FILE": str(file)}
         return {**words, **numbers, **({"FAIL_CUT": "1"} if self.cuts else {})}
 
 
 def refusing(library: Path, number: int) -> dict[str, str]:
-    """Returns the environment of a program whose allocation of this number is refused."""
     return {"LD_PRELOAD": str(library), "REFUSE": str(number)}
 
 
 def wrong_test(ran: subprocess.CompletedProcess[bytes]) -> str | None:
-    """Returns how a test failed, if it did."""
     errors = ran.stderr.replace(REFUSED, b"").strip().decode(errors="replace")[-200:]
     return f"status {ran.returncode}: {errors}" if ran.returncode else None
 
 
 def wrong_session(ran: subprocess.CompletedProcess[bytes], answers: bytes, is_fault: Callable[[bytes], bool]) -> str | None:
-    """Returns what is wrong with how a session ended. It has to answer all, or to end by one of the faults that `is_fault` accepts because an
-    allocation was refused; then its answers are a beginning of the right ones, in whole lines."""
+    """Returns what is wrong with a session's result. It must give all answers, or end by an allowed fault after a prefix of the answers, in whole
+    lines."""
     out, err = ran.stdout, ran.stderr.replace(REFUSED, b"")
     is_done = (ran.returncode, out, err) == (0, answers, b"")
     is_beginning = answers.startswith(out) and (not out or out.endswith(b"\n"))
@@ -71,8 +68,8 @@ def refuse_each(
     wrong_run: Callable[[subprocess.CompletedProcess[bytes]], str | None] = wrong_test,
     prepare: Callable[[], object] = lambda: None,
 ) -> Outcome:
-    """Runs a command again and again, with the allocation of one number refused, from `first` on in steps, until there is no allocation of that
-    number. Calls `prepare` before each run, and `wrong_run` after it, which returns what is wrong. Leaves the rest out after `budget` seconds."""
+    """Runs a command repeatedly, each time with another allocation refused, until the number exceeds the number of allocations or `budget` seconds
+    have passed."""
     failed: list[str] = []
     end = time.monotonic() + budget
     for number in itertools.count(first, step):

@@ -1,4 +1,4 @@
-"""Kills sessions on a store in a file, in and between their flushes, and compares what is recovered with what was answered."""
+"""Kills sessions on a store in a file, during and between flushes, and compares the recovered pairs with the answers."""
 
 import random
 import subprocess
@@ -13,25 +13,24 @@ from tools.answers import token
 from tools.model import OrderedMap
 from tools.processes import run_until
 
-# Small pages and segments: leaves are split and merged all the time, and every few flushes begin a segment.
+# Small pages and segments, so that leaves often split and merge, and every few flushes start a new segment.
 SETTINGS = "--fan 8 --chain 4 --max-key 16 --max-value 64 --seg-size 1024 --segments 65536".split()
 KEYS = 300
-MOST = 50_000  # flushes of a store before the next one is made: its log has room for a run more
+MOST = 50_000  # flushes before a new store is made; its log has room for one more run
 READ_BACK = b"scan % * 4294967295\nverify\nflush\n"  # prints all pairs, the report, and the number of the last flush
 
 Lines = list[bytes]
 
 
 def changes(number: int) -> dict[bytes, bytes | None]:
-    """Returns the batch of this number: to each key its new value, or None to delete it. The first change is a put, so there is always something to
-    flush; the others are puts in a hundred batches, and deletes in the next hundred."""
+    """Returns the changes of this batch by key; None deletes a key. The first change is a put, so that each flush has something to write."""
     keys = [b"k%d" % ((number * 37 + at * 11) % KEYS) for at in range(1 + number % 5)]
     value = b"%d" % number + b"." * (number % 40)
     return {key: value if at == 0 or number // 100 % 2 == 0 else None for at, key in enumerate(keys)}
 
 
 def wiped_range(number: int) -> tuple[bytes, bytes | None] | None:
-    """Returns the bounds of the wipe with which the batch of this number begins. One of ten does, and one of a hundred has no upper bound."""
+    """Returns the bounds of the batch's wipe, if it begins with one. One in ten batches does."""
     first = number * 7 % KEYS
     if number % 10 != 9:
         return None
@@ -39,7 +38,6 @@ def wiped_range(number: int) -> tuple[bytes, bytes | None] | None:
 
 
 def batch_lines(number: int) -> Iterator[bytes]:
-    """Yields the lines of the batch of this number."""
     bounds = wiped_range(number)
     if bounds:
         yield b"wipe %s %s\n" % (bounds[0], bounds[1] or b"*")
@@ -48,12 +46,11 @@ def batch_lines(number: int) -> Iterator[bytes]:
 
 
 def batch_file(numbers: Iterable[int]) -> bytes:
-    """Returns the batches of these numbers, each with a flush."""
     return b"".join(b"".join([*batch_lines(number), b"flush\n"]) for number in numbers)
 
 
 def play(pairs: OrderedMap, number: int) -> Lines:
-    """Runs a batch and its flush on the model, and returns the lines that are printed for them. Making the store has the sequence number 1."""
+    """Runs a batch and its flush on the model, and returns the expected lines. A new store has sequence number 1."""
     bounds = wiped_range(number)
     lines = pairs.wipe(*bounds) if bounds else []
     for key, value in changes(number).items():
@@ -62,7 +59,6 @@ def play(pairs: OrderedMap, number: int) -> Lines:
 
 
 def map_after(number: int) -> OrderedMap:
-    """Returns the map after the batches up to this number, from 1 on."""
     pairs = OrderedMap()
     for each in range(1, number + 1):
         play(pairs, each)
@@ -70,25 +66,23 @@ def map_after(number: int) -> OrderedMap:
 
 
 def answers(first: int, last: int) -> Lines:
-    """Returns all lines that are printed for these batches."""
     pairs = map_after(first - 1)
     return [line for number in range(first, last + 1) for line in play(pairs, number)]
 
 
 def read_back_after(number: int) -> Lines:
-    """Returns what READ_BACK prints if the store after the batches up to this number was recovered. The report is cut down to the number of pairs."""
+    """Returns what READ_BACK prints after recovery. Of the report only the number of pairs is compared."""
     pairs = map_after(number).pairs
     rows = [token(key) + b" " + token(pairs[key]) for key in sorted(pairs)]
     return [b"rows %d" % len(rows), *rows, b"ok %d" % len(rows), b"flushed %d" % (number + 1)]
 
 
 def whole_lines(output: bytes) -> Lines:
-    """Returns the lines of the output without one that the kill cut off."""
+    """Drops an incomplete last line."""
     return output.split(b"\n")[:-1]
 
 
 def count_flushes(output: bytes) -> int:
-    """Returns how many flushes were reported."""
     return sum(line.startswith(b"flushed") for line in whole_lines(output))
 
 
@@ -99,8 +93,6 @@ def first_difference(lines: Lines, expected: Lines) -> str:
 
 @dataclass
 class KilledStore:
-    """A store in a file whose sessions are killed, and how many batches it has, each of them flushed."""
-
     program: Sequence[Path]
     path: Path
     done: int = 0
@@ -113,15 +105,14 @@ class KilledStore:
         return self
 
     def run(self, batches: int, folder: Path, delay: float | None = None) -> tuple[int, bytes, float]:
-        """Runs `batches` more batches, and kills the session when `delay` seconds have passed since its first lines. Returns its status, its output,
-        and how long it ran after its first lines."""
+        """Runs batches, and kills the session `delay` seconds after its first output. Returns its status, its output and its run time."""
         text, out = folder / "batches", folder / "out"
         text.write_bytes(batch_file(range(self.done + 1, self.done + batches + 1)))
         status, seconds = run_until([*self.program, "--disk", self.path], text, out, delay=delay)
         return status, out.read_bytes(), seconds
 
     def read_back(self) -> Lines:
-        """Returns what is recovered, as `read_back_after` has it, or how the session ended that reads it."""
+        """Returns the recovered pairs, or how the reading session ended."""
         ended = subprocess.run([*self.program, "--disk", self.path], input=READ_BACK, capture_output=True)
         if ended.returncode:
             return [b"status %d: %s" % (ended.returncode, ended.stderr.strip())]
@@ -129,7 +120,7 @@ class KilledStore:
         return [b" ".join([line[0], line[-1]]) if line[:1] == [b"ok"] else b" ".join(line) for line in words]
 
     def check(self, batches: int, output: bytes) -> str | None:
-        """Returns what is wrong with the output for `batches` batches, or with what is recovered. The store continues from there."""
+        """Checks the output and the recovered pairs. The store continues from there."""
         expected = answers(self.done + 1, self.done + batches)
         lines = whole_lines(output)
         if lines != expected[: len(lines)]:
@@ -143,7 +134,7 @@ class KilledStore:
 
 
 def time_whole_run(program: Sequence[Path], batches: int, folder: Path) -> float:
-    """Returns the seconds of a run that is not killed, from its first lines on. All its batches must be recovered."""
+    """Returns the seconds of a run that is not killed, and checks that all its batches are recovered."""
     store = KilledStore(program, folder / "whole").create()
     status, output, seconds = store.run(batches, folder)
     wrong = store.check(batches, output) if status == 0 else f"status {status}"
@@ -154,7 +145,7 @@ def time_whole_run(program: Sequence[Path], batches: int, folder: Path) -> float
 
 @dataclass(frozen=True)
 class KillOptions:
-    """How often sessions are killed, and one store before the next is made; how many batches a session has, each with a flush; and the seed."""
+    """How many kills there are in all and per store, how many batches a session has, and the seed."""
 
     kills: int = 20
     lives: int = 4
@@ -163,8 +154,8 @@ class KillOptions:
 
 
 def kill_often(program: Sequence[Path], options: KillOptions, folder: Path) -> tuple[list[str], Counter[int]]:
-    """Kills the sessions of a store, each of which goes on from what was recovered; then those of the next store. Returns what went wrong, and how
-    often the store of the last flush that was reported was recovered (0), or one flush more (1)."""
+    """Kills sessions on one store after the other. Returns the errors, and counts by how many flushes recovery was ahead of the last reported
+    flush (0 or 1)."""
     chance = random.Random(options.seed)
     whole = time_whole_run(program, options.batches, folder)
     print(f"{options.batches} batches take {whole:.2f} s", file=sys.stderr)

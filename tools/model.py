@@ -1,4 +1,4 @@
-"""The model of a store, by docs/RULES.md: an ordered map, the numbers of its file, and what its orders print."""
+"""The model of a store by docs/RULES.md: an ordered map, the numbers in its file, and the output of its commands."""
 
 from bisect import bisect_left, insort
 from collections.abc import Callable
@@ -10,7 +10,7 @@ from tools.log.writing import Settings
 
 LONGEST_BATCH = 65_535  # commands
 FULL, NOTHING_TO_CLEAN, ALREADY_UPGRADED = b"fault 10 Full\n", b"fault 11 NothingToClean\n", b"fault 19 AlreadyUpgraded\n"
-BatchCommand = tuple[Any, ...]  # its name, and its words: keys and values as bytes, a missing bound as None, a limit as a number
+BatchCommand = tuple[Any, ...]  # its name and arguments; a missing bound is None
 
 
 class OrderedMap:
@@ -19,10 +19,10 @@ class OrderedMap:
     def __init__(self, pairs: dict[bytes, bytes] | None = None) -> None:
         self.pairs = dict(pairs or {})
         self.keys = sorted(self.pairs)
-        self.is_touched = False  # whether a key was written to
+        self.is_touched = False  # whether a flush would have changes to write
 
     def within(self, lo: bytes, hi: bytes | None) -> list[bytes]:
-        """Returns the keys from `lo` on, below `hi` if it is not None."""
+        """Returns the keys from `lo` up to, but not including, `hi` (None means no upper bound)."""
         return self.keys[bisect_left(self.keys, lo) : None if hi is None else bisect_left(self.keys, hi)]
 
     def set(self, key: bytes, value: bytes) -> None:
@@ -74,7 +74,7 @@ class OrderedMap:
 
 @dataclass(frozen=True)
 class StoreState:
-    """The store that a file holds: its pairs, and the numbers of its slot."""
+    """The contents of a file: the pairs, and the numbers of the slot."""
 
     pairs: dict[bytes, bytes] = field(default_factory=dict)
     sequence: int = 1
@@ -82,7 +82,7 @@ class StoreState:
     version: int = 0
 
     def describe(self, other: "StoreState | None") -> str:
-        """Describes this state in a line, with the first pair that another state has otherwise."""
+        """Describes this state in a line, with the first pair that differs from `other`."""
         pairs = sorted(set(self.pairs.items()) ^ set((other or self).pairs.items()))
         difference = f" ({len(pairs)} differ, as {pairs[0]})" if pairs else ""
         return f"sequence number {self.sequence}, head {self.head}, version {self.version}, {len(self.pairs)} pairs{difference}"
@@ -90,9 +90,9 @@ class StoreState:
 
 @dataclass(frozen=True)
 class Order:
-    """An order of a session: the lines that it prints, where `ok ?` begins a report whose numbers of pages and levels are not known, and the state of
-    the file after it. An order with an ending ends the session, with this status and these errors. An order may end the session by one of its
-    `faults`, which the model cannot foresee, since it has no pages."""
+    """A line of a session: its expected output (`ok ?` begins a report whose page numbers are unknown) and the state of the file after it.
+    `ending` is the status and the errors, if the line ends the session. The line may instead end the session by one of `faults`, which the model
+    cannot predict because it has no pages."""
 
     name: str
     printed: list[bytes]
@@ -100,20 +100,18 @@ class Order:
     ending: tuple[int, bytes] | None = None
     faults: tuple[bytes, ...] = ()
     size: int = 0  # commands of a batch
-    end: int = 0  # how many lines of the session there are up to its own
+    end: int = 0  # the session's line number up to which this belongs
 
     def is_writing(self) -> bool:
         return self.name in ("flush", "clean", "upgrade")
 
 
 class StoreModel:
-    """A store: its map, and the state of its file."""
-
     def __init__(self, state: StoreState, settings: Settings) -> None:
         self.file, self.settings, self.map = state, settings, OrderedMap(state.pairs)
 
     def fault_of(self, place: int, command: BatchCommand) -> bytes | None:
-        """Returns the fault for which the command at this place of a batch is refused, if it is."""
+        """Returns the fault that refuses the command at this place of a batch, if any."""
         name, *words = command
         keys, values = (words[:1], words[1:]) if name in ("put", "add") else (words[:2], [])
         if any(len(key) > self.settings.max_key for key in keys if key is not None):
@@ -134,8 +132,7 @@ class StoreModel:
         return Order(name, [line % getattr(self.file, number)], self.file, faults=faults)
 
     def order(self, name: str) -> Order:
-        """Runs an order that is not a batch. A flush writes only if a key was written to since the last one; a clean does not write what is
-        unflushed."""
+        """Runs a line that is not a batch. A flush writes only if there are changes. A clean does not write unflushed changes."""
         if name == "verify":
             return Order(name, [b"ok ? %d" % len(self.map.pairs)], self.file)
         if name == "clean":

@@ -1,4 +1,4 @@
-"""Starts programs under limits, feeds them, talks to them over pipes, and measures the time and the memory that they take."""
+"""Starts programs under limits, exchanges data with them over pipes, and measures their time and memory."""
 
 import contextlib
 import os
@@ -17,10 +17,10 @@ from typing import IO
 TOP = Path(__file__).resolve().parent.parent  # of the repository
 PROGRAM = TOP / "crates/bwsh/out/bwsh"  # as the gate builds it
 MEGABYTE = 1_000_000
-# KB of stack. 64 are enough for every input, but the system may leave out 8 of them, since it places the stack at random. A build without proofs
-# takes more: the environment's STACK says how much.
+# KB of stack. Programs need at most 64 KB, of which random placement by the system may take 8.
+# Builds without proofs need more; the environment variable STACK overrides this value.
 STACK = 56
-PATIENCE = 60  # seconds until a program that does not end is killed
+PATIENCE = 60  # seconds after which a program is killed
 POLL_INTERVAL = 0.002  # seconds
 MEMORY_FOLDER = Path("/dev/shm")
 
@@ -31,15 +31,15 @@ NO_VARIABLES: dict[str, str] = {}
 
 @dataclass(frozen=True)
 class Limits:
-    """The limits that a program is started with. `redirections` are written as a shell has them: `>&-` closes standard output."""
+    """The limits under which a program is started. `redirections` uses the shell's syntax: `>&-` closes standard output."""
 
-    stack: int | None = STACK  # KB; the environment's STACK, if that is more
-    memory: int | None = None  # KB of addresses
-    file_blocks: int | None = None  # blocks of 512 bytes: the greatest length of a file that the program may write
+    stack: int | None = STACK  # KB; at least the environment variable STACK
+    memory: int | None = None  # KB of address space
+    file_blocks: int | None = None  # 512-byte blocks: the greatest length of a file that the program may write
     redirections: str = ""
 
     def shell_command(self, environment: Environment) -> str:
-        """Returns the shell's command that sets the limits and becomes the program. Only the program gets `environment`."""
+        """Returns the shell command that sets the limits and then executes the program. Only the program gets `environment`."""
         commands = ["ulimit -c 0"]
         if self.file_blocks is not None:
             commands += ["trap '' XFSZ", f"ulimit -f {self.file_blocks}"]
@@ -53,17 +53,16 @@ class Limits:
 
 @dataclass(frozen=True)
 class RunResult:
-    """How a program ended and what it took. `status` is negative for a signal, `read` counts the bytes of the input that the program has read."""
+    """The result of a run. `status` is negative for a signal; `read` counts the input bytes that were consumed."""
 
     status: int
     out: bytes
     err: bytes
     seconds: float  # of the processor
-    memory: int  # bytes at the peak
+    memory: int  # peak, in bytes
     read: int = 0
 
     def is_fault(self, fault: str) -> bool:
-        """Returns whether the program ended by this fault."""
         return self.status == 4 and self.err == f"{fault}\n".encode()
 
     def describe(self) -> str:
@@ -76,8 +75,7 @@ def abbreviate(text: bytes) -> str:
 
 
 def new_folder() -> tempfile.TemporaryDirectory[str]:
-    """Makes a temporary folder. It is in memory if the machine has such a place: there a sync takes no time, so a kill comes at any point of a
-    flush."""
+    """Makes a temporary folder, in /dev/shm if there is one. Syncs take no time there, so kills are spread over the whole flush."""
     return tempfile.TemporaryDirectory(prefix="check-", dir=MEMORY_FOLDER if MEMORY_FOLDER.is_dir() else None)
 
 
@@ -87,16 +85,16 @@ def exit_if_missing(program: Path) -> None:
 
 
 def pipe_of(stream: IO[bytes] | None) -> IO[bytes]:
-    """Returns a standard stream of a child that was started with a pipe for this stream."""
+    """Returns a standard stream of a child process that was started with a pipe."""
     assert stream is not None
     return stream
 
 
-# ---- What a process takes.
+# ---- Time and memory of a process.
 
 
 def process_status(pid: int) -> dict[str, str]:
-    """Returns the fields of /proc/PID/status. There are none after the end of the process."""
+    """Returns the fields of /proc/PID/status, or none after the process has ended."""
     try:
         return dict(line.split(":\t", 1) for line in Path(f"/proc/{pid}/status").read_text().splitlines())
     except (OSError, ValueError):
@@ -104,36 +102,32 @@ def process_status(pid: int) -> dict[str, str]:
 
 
 def status_bytes(pid: int, field: str) -> int:
-    """Returns a field of /proc/PID/status that counts memory, in bytes. Raises KeyError if the process has ended."""
     return int(process_status(pid)[field].split()[0]) * 1024
 
 
 def peak_memory(pid: int, name: str) -> int:
-    """Returns the most memory that a process had, in bytes; 0 before the process has become the program of this name, and after its end."""
+    """Returns a process's peak memory in bytes: 0 before it has executed the program of this name, and after it has ended."""
     fields = process_status(pid)
     return int(fields["VmHWM"].split()[0]) * 1024 if fields.get("Name") == name[:15] and "VmHWM" in fields else 0
 
 
 def resident_memory(pid: int) -> int:
-    """Returns the memory that a process has in use, in bytes."""
     return int(Path(f"/proc/{pid}/statm").read_text().split()[1]) * os.sysconf("SC_PAGE_SIZE")
 
 
 def processor_seconds(pid: int) -> float:
-    """Returns the user and system seconds of all threads of a process. Linux has a clock for each process."""
+    """Returns the user and system seconds of all threads of a process."""
     return time.clock_gettime((~pid << 3) | 2)
 
 
 def wait_for_end(child: subprocess.Popen[bytes]) -> float:
-    """Waits until a program ends, and returns its processor seconds."""
     _, status, usage = os.wait4(child.pid, 0)
     child.returncode = os.waitstatus_to_exitcode(status)
     return float(usage.ru_utime + usage.ru_stime)
 
 
 def wait_and_measure(child: subprocess.Popen[bytes], name: str) -> tuple[float, int]:
-    """Waits until a program ends, and returns its processor seconds and its peak memory in bytes. (`ru_maxrss` would count that of its parent
-    too.)"""
+    """Waits until a program ends. Returns its processor seconds and peak memory in bytes. (`ru_maxrss` would include the parent's memory.)"""
     memory, end = 0, time.monotonic() + PATIENCE
     while True:
         pid, status, usage = os.wait4(child.pid, os.WNOHANG)
@@ -146,7 +140,7 @@ def wait_and_measure(child: subprocess.Popen[bytes], name: str) -> tuple[float, 
         time.sleep(POLL_INTERVAL)
 
 
-# ---- Programs that read a file.
+# ---- Programs with a file as standard input.
 
 
 def run(
@@ -156,7 +150,7 @@ def run(
     folder: Path | None = None,
     environment: Environment | None = None,
 ) -> RunResult:
-    """Runs a program in `folder`, with `environment` and nothing else in its environment. Its standard input is `text`, or the file of this path."""
+    """Runs a program in `folder` with only these environment variables. Standard input is `text`, or the file at this path."""
     with tempfile.TemporaryFile() as source, tempfile.TemporaryFile() as out, tempfile.TemporaryFile() as err:
         source.write(text.read_bytes() if isinstance(text, Path) else text)
         source.seek(0)
@@ -171,8 +165,6 @@ def run(
 
 @dataclass(frozen=True)
 class BackgroundRun:
-    """A program that runs beside others, and the files of its output and errors."""
-
     child: subprocess.Popen[bytes]
     out: Path
     err: Path
@@ -182,7 +174,7 @@ class BackgroundRun:
 
 
 def start(command: Command, text: bytes, folder: Path) -> BackgroundRun:
-    """Starts a program on this input, with its files in `folder`, which is made."""
+    """Starts a program in the background, with its files in a new `folder`."""
     folder.mkdir()
     source, out, err = (folder / name for name in ("source", "out", "err"))
     source.write_bytes(text)
@@ -198,8 +190,8 @@ def run_until(
     delay: float | None = None,
     is_mixed: bool = False,
 ) -> tuple[int, float]:
-    """Runs a program on a file until its output has `size` bytes and `delay` seconds have passed since, and kills it then. Without a delay it is not
-    killed. `is_mixed` sends its errors to its output. Returns its status, negative for a signal, and the seconds that it ran after those bytes."""
+    """Runs a program until it has printed `size` bytes and `delay` seconds have passed, and then kills it; without a delay it runs to the end.
+    Returns its status and the seconds after those bytes."""
     with open(source, "rb") as stdin, open(out, "wb") as stdout:
         child = subprocess.Popen(command, stdin=stdin, stdout=stdout, stderr=subprocess.STDOUT if is_mixed else None, env=NO_VARIABLES)
         end = time.monotonic() + PATIENCE
@@ -213,17 +205,17 @@ def run_until(
     return child.wait(), time.monotonic() - start
 
 
-# ---- Programs at the other end of pipes.
+# ---- Programs on pipes.
 
 
 class PipedProgram:
-    """A program whose standard input, output and errors are pipes to this process."""
+    """A program whose standard streams are pipes to this process."""
 
     def __init__(self, command: Command) -> None:
         pipe = subprocess.PIPE
         self.process = subprocess.Popen(command, stdin=pipe, stdout=pipe, stderr=pipe, bufsize=0, env=NO_VARIABLES)
         self.input, self.output, self.errors = map(pipe_of, (self.process.stdin, self.process.stdout, self.process.stderr))
-        self.unread = b""  # was read from the pipe, and belongs to later lines
+        self.unread = b""  # read from the pipe; belongs to later lines
 
     def send(self, text: bytes) -> None:
         rest = memoryview(text)
@@ -231,7 +223,7 @@ class PipedProgram:
             rest = rest[self.input.write(rest) :]
 
     def read_line(self) -> bytes:
-        """Returns the next line of the output. Returns the part of a line that there is if the program ends, or prints nothing for long."""
+        """Returns the next line of output, or an incomplete line if the program ends or prints nothing for long."""
         while b"\n" not in self.unread:
             if not select.select([self.output], [], [], PATIENCE)[0]:
                 break
@@ -243,17 +235,17 @@ class PipedProgram:
         return line + feed
 
     def is_silent(self) -> bool:
-        """Returns whether the program has printed nothing more for a tenth of a second."""
+        """Returns whether the program prints nothing for 0.1 seconds."""
         return not self.unread and not select.select([self.output], [], [], 0.1)[0]
 
     def finish(self) -> tuple[int, bytes, bytes]:
-        """Closes the input, waits until the program ends, and returns its status, the rest of its output, and its errors."""
+        """Closes the input and waits for the end. Returns the status, the remaining output and the errors."""
         self.input.close()
         out, err = self.unread + self.output.read(), self.errors.read()
         return self.process.wait(PATIENCE), out, err
 
     def finish_unread(self) -> tuple[int, bytes]:
-        """Waits until a program ends whose output was closed, and returns its status and its errors."""
+        """Waits for the end of a program whose output was closed. Returns its status and errors."""
         status, err = self.process.wait(PATIENCE), self.errors.read()
         self.input.close()
         return status, err
@@ -266,7 +258,7 @@ class PipedProgram:
 
 
 class Dialog(PipedProgram):
-    """A store's session with `--stream`, which answers each batch before it reads the next one."""
+    """A `--stream` session, which answers each batch before it reads the next."""
 
     def __init__(self, program: Path, *words: object) -> None:
         super().__init__([program, "--stream", *map(str, words)])
@@ -274,8 +266,7 @@ class Dialog(PipedProgram):
 
 @contextlib.contextmanager
 def stalled(command: Command, text: bytes) -> Iterator[subprocess.Popen[bytes]]:
-    """Starts a program on a text whose answers are more than a pipe holds, and reads only their first byte, so that the program waits. Kills it at
-    the end."""
+    """Starts a program whose answers exceed the pipe's capacity, and reads only one byte, so that the program blocks. Kills it at the end."""
     with subprocess.Popen(command, stdin=subprocess.PIPE, stdout=subprocess.PIPE, env=NO_VARIABLES) as child:
         pipe_of(child.stdin).write(text)
         pipe_of(child.stdin).close()

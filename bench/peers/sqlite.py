@@ -1,5 +1,5 @@
-"""SQLite, by Python's own module: each batch is one transaction in WAL mode. The words are those of `pairs.h`. The last word of a load sets
-`synchronous`: with FULL each commit is synced, with NORMAL only each checkpoint, so that a power cut may undo commits."""
+"""SQLite through Python's own module, in WAL mode, with one transaction per batch. The arguments are those in `pairs.h`. A load's last argument
+sets `synchronous`: FULL syncs each commit, NORMAL only checkpoints, so a power failure may undo commits."""
 
 import signal
 import sqlite3

@@ -1,1 +1,1 @@
-"""The bytes of a store's file, as docs/FORMAT.md has them: `writing` makes them, `reading` reads them by docs/RULES.md."""
+"""The file format: `writing` encodes it by docs/FORMAT.md, `reading` decodes it by docs/RULES.md."""

@@ -1,4 +1,4 @@
-"""Reads the bytes of a store's file by docs/RULES.md and docs/FORMAT.md: as a store, or as the one fault that the program reports."""
+"""Decodes a store's file by docs/RULES.md and docs/FORMAT.md. Returns the store, or the fault that the program reports."""
 
 import struct
 from dataclasses import dataclass
@@ -9,7 +9,7 @@ from tools.log.writing import HEADER, MOST, Settings, Slot, common_length, heade
 LEAVES = (1, 2, 6)
 FULL = (1, 3, 6, 7)
 SHARED = (6, 7)
-RUNS = {1: 2, 6: 2, 3: 4, 7: 4, 5: None}  # the kind of frames that runs have, by the kind of the frame that they follow
+RUNS = {1: 2, 6: 2, 3: 4, 7: 4, 5: None}  # the kind of a run's frame, by the kind of the frame before it
 DELTAS = (2, 4)
 FREE = 5
 KINDS = {0: range(1, 6), 2: range(1, 8)}  # of frames, by the version of the log
@@ -18,13 +18,11 @@ Cell = bytes | int | None  # a value, a page id, or None if the key is absent
 
 
 class BadStore(Exception):
-    """The fault that a file has, as it is printed."""
+    """The file's fault, as the program prints it."""
 
 
 @dataclass(frozen=True)
 class Frame:
-    """A frame: its kind, its page, its low key if it is a base, and its keys with their cells."""
-
     kind: int
     pid: int
     low: bytes
@@ -33,7 +31,7 @@ class Frame:
 
 @dataclass
 class LoggedPage:
-    """A page as its log has it: its base and the runs, oldest first."""
+    """A page in the log: its base and its runs, oldest first."""
 
     base: Frame
     runs: list[Frame]
@@ -42,11 +40,9 @@ class LoggedPage:
         return self.base.kind in LEAVES
 
     def pairs(self) -> list[tuple[bytes, bytes]]:
-        """Returns the pairs of a leaf."""
         return cast(list[tuple[bytes, bytes]], self.entries())
 
     def children(self) -> list[tuple[bytes, int]]:
-        """Returns the children of an index page."""
         return cast(list[tuple[bytes, int]], self.entries())
 
     def entries(self) -> list[tuple[bytes, bytes | int]]:
@@ -58,7 +54,7 @@ class LoggedPage:
 
 @dataclass
 class StoredState:
-    """The store that a file holds: its pairs in key order, how many pages and levels it has, and its slot."""
+    """The store in a file: its pairs in key order, its numbers of pages and levels, and its slot."""
 
     pairs: list[tuple[bytes, bytes]]
     pages: int
@@ -71,8 +67,6 @@ class NoFrame(Exception):
 
 
 class FrameReader:
-    """The bytes of a frame, and the place from which the next ones are read."""
-
     def __init__(self, text: bytes, at: int, end: int) -> None:
         self.text, self.at, self.end = text, at, end
 
@@ -107,7 +101,7 @@ def read_settings(disk: bytes) -> Settings:
 
 
 def read_slot_at(disk: bytes, number: int, settings: Settings) -> Slot | None:
-    """Returns the slot of this number, or None if its gate is shut. Raises BadStore if the slot is broken."""
+    """Returns the slot with this number, or None if its gate is shut. Raises BadStore if the slot is invalid."""
     text = disk[128 + 64 * number : 192 + 64 * number]
     if text[0] != 1:
         return None
@@ -139,8 +133,8 @@ def read_cell(reader: FrameReader, kind: int, settings: Settings) -> bytes | int
 
 
 def read_key(reader: FrameReader, kind: int, before: bytes, settings: Settings) -> bytes:
-    """Returns a key. In a frame whose keys share beginnings it is encoded by the number of bytes that it shares with the one before, which has to be
-    the greatest possible, and the rest."""
+    """Returns a key. A prefix-compressed key gives the length of the prefix that it shares with the key before it, which must be the greatest
+    possible."""
     if kind not in SHARED:
         return reader.counted(settings.max_key)
     shared, length = reader.number(1), reader.number(1)
@@ -165,7 +159,6 @@ def read_cells(reader: FrameReader, kind: int, low: bytes, settings: Settings) -
 
 
 def read_frame(text: bytes, at: int, end: int, version: int, settings: Settings) -> tuple[Frame, int]:
-    """Returns the frame at a place of a segment, and the place at which the next one begins."""
     reader = FrameReader(text, at, end)
     kind, length = reader.number(1), reader.number(4)
     reader = FrameReader(text, reader.at, reader.at + length)
@@ -180,7 +173,7 @@ def read_frame(text: bytes, at: int, end: int, version: int, settings: Settings)
 
 
 def read_frames(text: bytes, number: int, end: int, is_last: bool, version: int, settings: Settings) -> list[Frame]:
-    """Returns the frames of a segment, up to its end or the log's."""
+    """Returns the frames of a segment, up to its end or the end of the log."""
     if text[:HEADER] != header(number):
         raise BadStore(f"fault 14 BadSegment {number}")
     at, frames = HEADER, []
@@ -206,7 +199,6 @@ def read_log(disk: bytes, slot: Slot, settings: Settings) -> list[Frame]:
 
 
 def page_by_log(frames: list[Frame], pid: int) -> LoggedPage | None:
-    """Returns the page that the frames of this pid make."""
     starts = [at for at, each in enumerate(frames) if each.kind not in DELTAS]
     if not starts:
         return None
@@ -226,7 +218,7 @@ def pages_by_log(frames: list[Frame]) -> dict[int, LoggedPage]:
 
 @dataclass(frozen=True)
 class PlaceInTree:
-    """A place of the tree: the page that is there, and the range of keys that its parent gives it."""
+    """A page in the tree, and the key range that its parent assigns to it."""
 
     pid: int
     low: bytes
@@ -242,7 +234,7 @@ class PlaceInTree:
 
 
 def rule_broken(place: PlaceInTree, page: LoggedPage | None, level: int, is_root: bool, before: set[int], settings: Settings) -> int | None:
-    """Returns the least rule that the page at this place of the tree breaks, if it breaks one. Rule 6 holds for every page that could be read."""
+    """Returns the lowest-numbered rule that this page breaks, or None."""
     if page is None:
         return 2
     entries = page.entries()
@@ -259,7 +251,6 @@ def rule_broken(place: PlaceInTree, page: LoggedPage | None, level: int, is_root
 
 
 def leaves_by_walk(pages: dict[int, LoggedPage], slot: Slot, settings: Settings) -> list[LoggedPage]:
-    """Returns the leaves that the walk from the root visits. Raises BadStore at the first page of a level that breaks a rule."""
     level, seen = [PlaceInTree(slot.root, b"", None)], set[int]()
     for height in range(slot.height, 0, -1):
         for place in level:

@@ -1,4 +1,4 @@
-"""Writes the bytes of a store's file, as docs/FORMAT.md has them."""
+"""Encodes a store's file by docs/FORMAT.md."""
 
 import struct
 from collections.abc import Iterable
@@ -12,7 +12,7 @@ MOST = 2**62  # of positions and sequence numbers
 
 @dataclass(frozen=True)
 class Settings:
-    """The settings of a store. The defaults are the program's own."""
+    """The settings of a store. The defaults are those of `bwsh`."""
 
     fan: int = 16
     chain: int = 4
@@ -29,14 +29,13 @@ class Settings:
         return BEGIN + self.segments * self.seg_size
 
     def place(self, segment: int) -> int:
-        """Returns where this segment begins in the file."""
         return BEGIN + segment % self.segments * self.seg_size
 
 
 @dataclass(frozen=True)
 class Slot:
-    """What a commit writes: the number of commits, the first segment of the log and the end of its last frame, the root and the height of the tree,
-    and the version of the log, which is 0 for version 1 and 2 for version 2."""
+    """A commit's slot: commit count, first segment and end of the log, root, height, and log version (encoded as 0 for version 1, 2 for version
+    2)."""
 
     sequence: int
     head: int
@@ -53,7 +52,7 @@ class Slot:
 
 
 def counted(text: bytes) -> bytes:
-    """Returns a text after its length."""
+    """Encodes a byte string with its length before it."""
     return struct.pack(">H", len(text)) + text
 
 
@@ -71,12 +70,11 @@ def full(kind: int, pid: int, low: bytes, cells: list[tuple[bytes, bytes]]) -> b
 
 
 def common_length(key: bytes, before: bytes) -> int:
-    """Returns how many bytes two keys share at their beginnings."""
     return len(commonprefix([key, before]))
 
 
 def shared_key(key: bytes, before: bytes) -> bytes:
-    """Encodes a key after the one before it: how many bytes they share at their beginnings, and the rest."""
+    """Encodes a key by the length of the prefix that it shares with the key before it, and its remaining bytes."""
     shared = common_length(key, before)
     return struct.pack(">BB", shared, len(key) - shared) + key[shared:]
 
@@ -125,7 +123,7 @@ def header(segment: int) -> bytes:
 
 
 def segments_of(settings: Settings, frames: Iterable[bytes]) -> list[bytes]:
-    """Returns the segments that these frames fill from the first one on, each up to its last frame."""
+    """Returns the segments filled by these frames, each up to its last frame."""
     segments = [bytearray(header(0))]
     for each in frames:
         if len(segments[-1]) + len(each) > settings.seg_size:
@@ -135,7 +133,7 @@ def segments_of(settings: Settings, frames: Iterable[bytes]) -> list[bytes]:
 
 
 def disk_with(settings: Settings, slots: Iterable[Slot], segments: Iterable[bytes]) -> bytes:
-    """Returns a file with these slots and these first segments, and zeros everywhere else."""
+    """Returns a file with these slots and first segments, and zeros elsewhere."""
     disk = bytearray(settings.disk_length())
     disk[:64] = settings.block()
     for slot in slots:
@@ -146,21 +144,20 @@ def disk_with(settings: Settings, slots: Iterable[Slot], segments: Iterable[byte
 
 
 def disk_of(settings: Settings, frames: Iterable[bytes], root: int = 0, height: int = 1, version: int = 0) -> bytes:
-    """Returns a file whose log has these frames from its first segment on, and was committed once."""
+    """Returns a file with one commit, whose log begins in the first segment."""
     segments = segments_of(settings, frames)
     tail = (len(segments) - 1) * settings.seg_size + len(segments[-1])
     return disk_with(settings, [Slot(1, 0, tail, root, height, version)], segments)
 
 
 def fitting_disk(frames: list[bytes], root: int = 0, height: int = 1, version: int = 0, settings: Settings = Settings()) -> bytes:
-    """Returns a file that is not much longer than its log: two segments are free, one for a flush and one for a clean."""
+    """Returns a file with two free segments: one for a flush and one for a clean."""
     used = len(segments_of(settings, frames))
     return disk_of(replace(settings, segments=used + 2), frames, root, height, version)
 
 
 def append(settings: Settings, disk: bytes, slot: Slot, frames: Iterable[bytes], version: int) -> bytes:
-    """Returns the file after these frames are committed at the end of the log that `slot` describes. The tree is unchanged. At least one segment has
-    to remain free."""
+    """Commits these frames at the end of the log described by `slot`, and returns the file. At least one segment must remain free."""
     now, at = bytearray(disk), slot.tail
     for each in frames:
         segment, offset = at // settings.seg_size, at % settings.seg_size

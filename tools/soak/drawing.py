@@ -1,4 +1,4 @@
-"""Draws stores and their sessions: settings, keys, batch files, and the orders that the model expects."""
+"""Draws random settings, keys and batch files, with the lines that the model expects."""
 
 import random
 from dataclasses import replace
@@ -15,12 +15,12 @@ BAD_LINES = {
     b"bad number": [b"scan a b 4294967296", b"scan % * -1", b"scan % * 1x"],
 }
 NAMES = ("put", "add", "get", "del", "scan", "wipe")
-GROWING, SHRINKING, MIXED = (12, 4, 2, 1, 1, 0), (3, 1, 1, 12, 1, 1), (4, 2, 4, 4, 2, 1)  # weights of the names
-ORDERS = {"go": 6.0, "flush": 8.0, "clean": 3.0, "upgrade": 0.3, "verify": 1.0}  # weights
+GROWING, SHRINKING, MIXED = (12, 4, 2, 1, 1, 0), (3, 1, 1, 12, 1, 1), (4, 2, 4, 4, 2, 1)  # weights
+ORDERS = {"go": 6.0, "flush": 8.0, "clean": 3.0, "upgrade": 0.3, "verify": 1.0}
 
 
 class DrawnStore:
-    """A store's random settings and keys, and the batch files of its sessions."""
+    """A store's random settings and keys, and its sessions' batch files."""
 
     def __init__(self, chance: random.Random) -> None:
         self.chance = chance
@@ -38,7 +38,7 @@ class DrawnStore:
         return self.chance.random() < probability
 
     def bad_setting(self) -> dict[str, int]:
-        """Returns a setting that is out of range: by itself, or because the longest frame of a page does not fit in a segment."""
+        """Returns a setting that is out of range, by itself or because a page's longest frame does not fit in a segment."""
         if self.longest > 256 and self.happens(0.2):
             return {"seg_size": self.longest - 1}
         name, (least, most) = self.chance.choice(list(zip(vars(self.settings), LIMITS)))
@@ -70,8 +70,7 @@ class DrawnStore:
         return [self.command(weights) for _ in range(self.chance.choice([0, 1, 2, 5, 20, 60, 200]))]
 
     def word(self, word: bytes | int | None) -> bytes:
-        """Encodes a word of a command in one of the ways that the program accepts. The key `*` is escaped, so that it is not read as a missing
-        bound."""
+        """Encodes an argument in one of the accepted ways. The key `*` is escaped, since `*` alone is a missing bound."""
         if word is None or isinstance(word, int):
             return b"*" if word is None else b"%0*d" % (self.chance.choice([1, 12]), word)
         if word and word != b"*" and self.happens(0.9):
@@ -86,8 +85,7 @@ class DrawnStore:
         return spaces.join([b"", name.encode(), *map(self.word, words)]) + end
 
     def session(self, model: StoreModel, is_full: bool, is_long: bool) -> tuple[list[bytes], list[Order]]:
-        """Returns the lines of a session, and its orders up to the one that ends it. Begins with cleans if the log is full; seldom cleans a log that
-        is not longer than a segment."""
+        """Returns a session's lines, and its orders up to the one that ends it. Starts with cleans if the log is full."""
         names = ["clean"] * (self.chance.choice([1, 4, 20]) * is_full)
         weights = ORDERS if is_long else ORDERS | {"clean": 0.1}
         names += self.chance.choices(list(weights), list(weights.values()), k=self.chance.choice([0, 1, 3, 8, 20]))

@@ -1,4 +1,4 @@
-"""The file of a store that may crash: what it held at the last sync, what was written since, and what a crash may make of these."""
+"""Tracks a store's file: the bytes of the last sync and the writes since, and what a crash may leave."""
 
 import random
 import struct
@@ -12,12 +12,12 @@ from tools.log.reading import BadStore, read_settings, read_store
 from tools.log.writing import BEGIN, Settings
 from tools.model import StoreState
 
-FIRST_WRITE = 545  # bytes of the first write of a new store
+FIRST_WRITE = 545  # bytes of a new store's first write
 
 
 @dataclass(frozen=True)
 class FileContent:
-    """What a file holds: the store, if it is one; how a session ends that reads all of it; and whether its log has more than one segment."""
+    """A file's contents: the store, if any; how a session that reads all of it ends; and whether its log has several segments."""
 
     state: StoreState | None = None
     ending: Ending = (4, b"", DEVICE)
@@ -35,7 +35,7 @@ def read_content(disk: bytes) -> FileContent:
 
 
 def tear(chance: random.Random, before: bytes, written: bytes, kind: int) -> bytes:
-    """Returns what a crash leaves of a range that was written since the last sync. It may leave any bytes; these are of one of seven kinds."""
+    """Returns what a crash may leave of an unsynced range. Any bytes are possible; seven kinds are drawn."""
     cut, byte = chance.randint(0, len(written)), chance.choice([0, 1, 255, chance.randrange(256)])
     mixed = b"".join(chance.choice([before, written])[at : at + 512] for at in range(0, len(written), 512))
     whole = [before, written, bytes([byte]) * len(written), chance.randbytes(len(written)), mixed]
@@ -43,7 +43,7 @@ def tear(chance: random.Random, before: bytes, written: bytes, kind: int) -> byt
 
 
 class CrashingFile:
-    """The file of a store: what it held at its last sync, and the places and bytes that were written since."""
+    """A store's file: its bytes at the last sync, and the writes since then."""
 
     def __init__(self, path: Path) -> None:
         self.path, self.synced = path, b""
@@ -56,13 +56,13 @@ class CrashingFile:
         return self.path.read_bytes() if self.path.exists() else b""
 
     def begin(self) -> bytes:
-        """Returns the bytes at the beginning of a session, and takes them for what was written, also by writes that failed or were cut off."""
+        """Starts a session: any change of the file since the last one counts as a write, also of a write that failed or was cut off."""
         now = self.read()
         self.pending = [(place, now[place : place + len(written)]) for place, written in self.pending]
         return now
 
     def follow(self, record: bytes, has_syncs: bool) -> set[str]:
-        """Follows the record of calls that `c/soak.c` made of a session, and returns its letters. Without `has_syncs` its syncs are passed over."""
+        """Follows the call record of `c/soak.c` and returns its letters. Without `has_syncs`, syncs are ignored."""
         at, letters = 0, set()
         while at < len(record):
             letter, at = chr(record[at]), at + 1
@@ -80,15 +80,13 @@ class CrashingFile:
         return letters
 
     def image(self, remaining: Callable[[bytes, bytes], bytes]) -> bytes:
-        """Returns the synced bytes with each pending write applied. `remaining` returns what remains of a write, from the bytes before and those
-        written."""
+        """Returns the synced bytes with the pending writes applied, each as changed by `remaining`."""
         image = bytearray(self.synced)
         for place, written in self.pending:
             image[place : place + len(written)] = remaining(bytes(image[place : place + len(written)]), written)
         return bytes(image)
 
     def random_crash(self, chance: random.Random) -> bytes:
-        """Returns bytes that a crash may leave."""
         kinds: Sequence[int] = [chance.randrange(7)] if chance.random() < 0.5 else range(7)
         return self.image(lambda before, written: tear(chance, before, written, chance.choice(kinds)))
 
@@ -98,7 +96,7 @@ class CrashingFile:
 
 
 def widen(disk: bytes) -> tuple[bytes, Settings]:
-    """Returns the same store in a file with more segments, and the settings that it had."""
+    """Returns the same store with more segments, and its previous settings."""
     settings, slot = read_settings(disk), read_store(disk).slot
     wide = replace(settings, segments=4 * settings.segments + 100)
     image = bytearray(wide.disk_length())
@@ -110,6 +108,6 @@ def widen(disk: bytes) -> tuple[bytes, Settings]:
 
 
 def is_left_by_create(before: bytes, after: bytes, length: int) -> bool:
-    """Returns whether a file in which `--create` has failed may hold these bytes, as docs/OPERATING.md has it."""
+    """Returns whether a failed `--create` may leave these bytes, by docs/OPERATING.md."""
     is_longer = after.startswith(before) and not any(after[len(before) :])
     return is_longer or after == b"" or len(after) == length and not any(after[FIRST_WRITE:])
