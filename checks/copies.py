@@ -250,7 +250,12 @@ MANY = b"".join(b"put sixteen_bytes_%d sixteen_bytes_v1\n" % pair for pair in ra
 REFUSED_COPIES = [
     (LONG_KEY, b"new\n", b"fault 2 KeyTooLong 0\n", b"A key is too long for the copy. Use a larger --max-key."),
     (PUTS + LONG_KEY, PUT + b"new\n", b"fault 2 KeyTooLong 0\n", b"A key is too long for the copy. Use a larger --max-key."),
-    (PUTS + b"put d 0123456789abcdef0\n", PUT + b"new\n", b"fault 3 ValueTooLong 3\n", b"A value is too long for the copy. Use a larger --max-value."),
+    (
+        PUTS + b"put d 0123456789abcdef0\n",
+        PUT + b"new\n",
+        b"fault 3 ValueTooLong 3\n",
+        b"A value is too long for the copy. Use a larger --max-value.",
+    ),
     (MANY, 50 * b"new\n", b"fault 10 Full\n", b"The log of the copy has no room for all pairs. Use more --segments or a larger --seg-size."),
 ]
 
