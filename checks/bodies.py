@@ -6,10 +6,10 @@ Each file `bodies/CRATE/NAME.edit` changes the body of one function. Its first l
 a text that occurs there once, and `new:` replaces it. `function:` is the function's name as the prover prints it. `refused:` is the goal or clause
 at which the prover must refuse the function. `accepted:` marks a control, which the prover must accept.
 
-Only the changed functions and their callees are checked. Edits of different functions in one crate share a check; controls have a check of their
-own.
+Only the changed functions and their callees are checked. Edits of different functions in one crate share a check.
 """
 
+import os
 import re
 import shutil
 import subprocess
@@ -63,8 +63,11 @@ class Edit:
 
 @dataclass(frozen=True)
 class Verdict:
+    """Whether the prover answered as the edit expects, and the processor seconds of the check, which other edits may share."""
+
     edit: Edit
     wrong: str | None
+    seconds: float = 0
 
 
 def read_edit(path: Path) -> Edit:
@@ -89,7 +92,7 @@ def all_edits() -> list[Edit]:
 
 
 def groups_of(edits: list[Edit]) -> list[list[Edit]]:
-    """Groups a crate's edits for shared checks: mutants of different functions, or controls."""
+    """Groups a crate's edits of different functions for shared checks."""
     groups: list[list[Edit]] = []
     for edit in edits:
         group = next((group for group in groups if fits(edit, group)), None)
@@ -101,30 +104,36 @@ def groups_of(edits: list[Edit]) -> list[list[Edit]]:
 
 
 def fits(edit: Edit, group: list[Edit]) -> bool:
-    return edit.is_control == group[0].is_control and edit.function not in {other.function for other in group}
+    return edit.function not in {other.function for other in group}
 
 
-def run_check(workspace: kit.Workspace, crate: str, folder: Path, kept: Path, functions: list[str]) -> tuple[int, str]:
+def run_check(workspace: kit.Workspace, crate: str, folder: Path, kept: Path, functions: list[str]) -> tuple[int, str, float]:
+    """Returns the prover's exit status, what it prints, and its processor seconds."""
     names = [word for function in functions for word in ("--only", function)]
     words: list[str | Path] = [kit.RATTLE, "check", *workspace.check_words(crate), "--incremental", kept, *names]
-    ran = subprocess.run(words, cwd=folder, stdin=subprocess.DEVNULL, stdout=subprocess.PIPE, stderr=subprocess.STDOUT, text=True, errors="replace")
-    return ran.returncode, ran.stdout
+    pipe, errors, nothing = subprocess.PIPE, subprocess.STDOUT, subprocess.DEVNULL
+    with subprocess.Popen(words, cwd=folder, stdin=nothing, stdout=pipe, stderr=errors, text=True, errors="replace") as prover:
+        printed = prover.stdout.read() if prover.stdout else ""
+        _, status, usage = os.wait4(prover.pid, 0)
+        prover.returncode = os.waitstatus_to_exitcode(status)
+    return prover.returncode, printed, usage.ru_utime + usage.ru_stime
 
 
-def verdict_of(edit: Edit, status: int, printed: str) -> Verdict:
+def error_of(edit: Edit, status: int, printed: str) -> str | None:
+    """Returns why the prover's answer is not the one that the edit expects, or None."""
     full_name = f"fn {edit.crate}::{edit.function}"
     line = next((line for line in printed.splitlines() if line.startswith(f"{full_name}:")), None)
     if line is None:
-        return Verdict(edit, f"the prover has no line '{full_name}: ..'; its last line: {printed.rstrip().rsplit(chr(10), 1)[-1]}")
+        return f"the prover has no line '{full_name}: ..'; its last line: {printed.rstrip().rsplit(chr(10), 1)[-1]}"
     is_accepted = line == f"{full_name}: proved"
     refused_at = refusals_of(edit, line, printed)
     if edit.is_control:
-        return Verdict(edit, None if is_accepted else f"the right function is refused: {'; '.join(refused_at) or line}")
+        return None if is_accepted else f"the right function is refused: {'; '.join(refused_at) or line}"
     if is_accepted:
-        return Verdict(edit, "the broken function is accepted")
+        return "the broken function is accepted"
     if status != 1 or edit.goal not in refused_at:
-        return Verdict(edit, f"refused, but not at '{edit.goal}': {'; '.join(refused_at) or line}")
-    return Verdict(edit, None)
+        return f"refused, but not at '{edit.goal}': {'; '.join(refused_at) or line}"
+    return None
 
 
 def refusals_of(edit: Edit, line: str, printed: str) -> list[str]:
@@ -148,8 +157,8 @@ def check_group(workspace: kit.Workspace, group: list[Edit], kept: Path) -> list
             if (workspace.top / "crates" / crate / part).is_dir():
                 shutil.copytree(workspace.top / "crates" / crate / part, folder / part)
         wrong = {edit.label: edit.apply(folder) for edit in group}
-        status, printed = run_check(workspace, crate, folder, kept, [edit.function for edit in group])
-    return [Verdict(edit, wrong[edit.label]) if wrong[edit.label] else verdict_of(edit, status, printed) for edit in group]
+        status, printed, seconds = run_check(workspace, crate, folder, kept, [edit.function for edit in group])
+    return [Verdict(edit, wrong[edit.label] or error_of(edit, status, printed), seconds) for edit in group]
 
 
 def check_crate(workspace: kit.Workspace, edits: list[Edit]) -> list[Verdict]:
@@ -175,7 +184,7 @@ def check_all(names: list[str], lanes: int) -> tuple[int, int]:
             for verdict in verdicts:
                 passed, failed = passed + (verdict.wrong is None), failed + (verdict.wrong is not None)
                 ending = verdict.wrong or ("accepted, as it is right" if verdict.edit.is_control else "refused, as it is broken")
-                print(f"{'FAILED ' * (verdict.wrong is not None)}{verdict.edit.label}: {ending}", flush=True)
+                print(f"{'FAILED ' * (verdict.wrong is not None)}{verdict.edit.label}: {ending} (a check of {verdict.seconds:.0f} s)", flush=True)
     print(f"bodies: {passed} passed, {failed} failed, in {time.monotonic() - start:.0f} s", flush=True)
     return passed, failed
 

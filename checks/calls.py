@@ -136,7 +136,7 @@ EMPTIED = [FailingCalls("length"), FailingCalls("cut"), FailingCalls("cut", 2), 
 def stay_empty(programs: Programs, library: Path, name: str) -> Outcome:
     program = programs.examples / name
     if not program.is_file():
-        return Outcome(left_out="it is not built: python3 examples/run.py builds it")
+        return Outcome(left_out="it is not built")
     with new_folder() as folder:
         file = Path(folder) / "store"
         for fails in EMPTIED:

@@ -205,7 +205,7 @@ def kill_often(name: str, program: Path, seed: int, folder: Path) -> Outcome:
 
 
 def why_left_out(program: Path) -> str | None:
-    return None if program.is_file() else "it is not built: python3 examples/run.py builds it"
+    return None if program.is_file() else "it is not built"
 
 
 def kill_example(programs: Programs, name: str, seed: int) -> Outcome:

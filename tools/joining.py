@@ -1,0 +1,66 @@
+"""Makes one program of several: each becomes a module, and the program runs the one by whose name it is called.
+
+The compiler reads all crates of the engine for each program that it builds, so one program of all examples takes a fifth of the time that seven
+programs take.
+"""
+
+import re
+from pathlib import Path
+
+# What a `main` may use of its runtime. A module's function gets it through a type parameter, since only `main` itself may use all of it directly.
+BOUNDS = "std::rt::Runtime + AllocGlobal + std::thread::Threads + std::sync::Wait + Sync + Send + Copy + 'static"
+LIST = "Lib.antt"  # the file that lists a folder's modules
+SIGNATURE = re.compile(r"^fn main\(rt: HostRuntime\) -> (\S+) \{$", re.MULTILINE)
+MAIN = """//! Runs one of several programs: the one by whose name this program is called.
+#![tactic(auto)]
+
+{modules}
+
+use anyhow::{{Result, bail}};
+use std::env;
+use std::process::ExitCode;
+
+fn main(rt: HostRuntime) -> Result<ExitCode> {{
+    let called = env::args(&rt)?.next();
+    let path = called.as_ref().map_or("", |path| path.as_str());
+    match path.rsplit('/').next().unwrap_or(path).as_bytes() {{
+{arms}
+        _ => bail!("this program has no part of that name"),
+    }}
+}}
+"""
+
+
+class JoinError(Exception):
+    """These programs can't be joined."""
+
+
+def module_of(name: str, source: str, crate: str) -> tuple[str, str]:
+    """Returns a program's source as a module of the crate, and the arm of `match` that runs it."""
+    found = SIGNATURE.search(source)
+    if found is None:
+        raise JoinError(f"{name}: no line 'fn main(rt: HostRuntime) -> TYPE {{'")
+    signature = f"pub fn main<R: {BOUNDS}>(rt: R, mut input: std::rt::Stdin) -> {found[1]}\nwhere\n    R::File: engine::LockFile + Send,\n{{"
+    text = source[: found.start()] + signature + source[found.end() :]
+    ending = f"Ok({name}::main(rt, rt.stdin()))" if found[1] == "ExitCode" else f"{name}::main(rt, rt.stdin()).map(|()| ExitCode::SUCCESS)"
+    return text.replace("rt.stdin()", "input").replace(f"Rattle.{name}.", f"Rattle.{crate}."), f'        b"{name}" => {ending},'
+
+
+def join_programs(folders: dict[str, Path], crate: Path) -> None:
+    """Writes a crate whose program contains the programs with sources in these folders, by their names, with their specifications."""
+    (crate / "src").mkdir(parents=True)
+    lists: dict[Path, str] = {}
+    arms = []
+    for name, folder in folders.items():
+        module, arm = module_of(name, (folder / "src/main.rt.in").read_text(), crate.name)
+        (crate / f"src/{name}.rt").write_text(module)
+        arms.append(arm)
+        for source in [*folder.glob("specs/*.in"), *folder.glob("proofs/*.in")]:
+            made = crate / source.relative_to(folder).with_suffix("")
+            if made in lists and made.name != LIST:
+                raise JoinError(f"{name}: there is another {made.relative_to(crate)}")
+            lists[made] = lists.get(made, "") + source.read_text().replace(f"Rattle.{name}.", f"Rattle.{crate.name}.")
+    for made, text in lists.items():
+        made.parent.mkdir(exist_ok=True)
+        made.write_text(text)
+    (crate / "src/main.rt").write_text(MAIN.format(modules="\n".join(f"mod {name};" for name in folders), arms="\n".join(arms)))
