@@ -286,7 +286,7 @@ def refuse_frames(programs: Programs) -> Outcome:
     return Outcome(measured=f"{len(refused)} frames")
 
 
-# Frames, and their bytes in docs/FORMAT.md.
+# Frames and their bytes; docs/FORMAT.md explains some of them.
 EXAMPLES = [
     (EMPTY, "01 0000000c 0000000000000000 0000 0000"),
     (delta_leaf(0, {b"a": None}), "02 0000000e 0000000000000000 0001 0001 61 00"),

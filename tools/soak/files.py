@@ -108,6 +108,6 @@ def widen(disk: bytes) -> tuple[bytes, Settings]:
 
 
 def is_left_by_create(before: bytes, after: bytes, length: int) -> bool:
-    """Returns whether a failed `--create` may leave these bytes, by docs/OPERATING.md."""
+    """Returns whether a failed `--create` may leave these bytes, as the comment of `FileDisk::of_zeros` lists them."""
     is_longer = after.startswith(before) and not any(after[len(before) :])
     return is_longer or after == b"" or len(after) == length and not any(after[FIRST_WRITE:])
