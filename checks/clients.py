@@ -11,7 +11,7 @@ from tools.cases import SMALL_STORE, Case, Outcome, Programs
 from tools.processes import TOP, new_folder
 
 CLIENTS = TOP / "clients"
-TESTS = ("Replies", "Lasting", "Faults", "Kills", "Pipes")
+TESTS = ("Replies", "Lasting", "Faults", "Kills", "Losses", "Checks", "Opening", "Loads", "Types", "Pipes")
 PATIENCE = 300  # seconds, also on a busy machine
 SESSIONS = 40  # of the shell example, which fill such a log more than once
 

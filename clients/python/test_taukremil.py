@@ -12,13 +12,16 @@ import tempfile
 import threading
 import time
 import unittest
+import unittest.mock
 from bisect import bisect_left, insort
-from collections.abc import Callable
+from collections.abc import Callable, Iterator
 from dataclasses import dataclass, field
 from pathlib import Path
+from typing import Literal
 
 import taukremil
-from taukremil import Add, Command, Del, Get, Killed, Put, Refused, Reply, Report, Row, Scan, Store, StoreError, Wipe
+from taukremil import Add, Command, Del, Get, Killed, Lost, Put, Refused, Reply, Report, Row, Scan, Settings, Store
+from taukremil import StoreError, Wipe
 
 PROGRAM = Path(os.environ.get("BWSH", Path(__file__).resolve().parents[2] / "crates/bwsh/out/bwsh")).absolute()
 SMALL = {
@@ -130,6 +133,32 @@ class Chance:
         return [self.command() for _ in range(self.source.choice((1, 2, 10, 100, 1_000)))]
 
 
+@dataclass(frozen=True)
+class Unchecked:
+    """Is `command`, but of a class that the client does not know, so that only the program checks it."""
+
+    command: Command[Reply]
+
+    def text(self) -> bytes:
+        return self.command.text()
+
+    def reply(self, line: Callable[[], bytes]) -> Reply:
+        return self.command.reply(line)
+
+
+@dataclass(frozen=True)
+class ManyGets:
+    """Looks like one command to the client, and is `count` to the program."""
+
+    count: int
+
+    def text(self) -> bytes:
+        return b"get a\n" * self.count
+
+    def reply(self, line: Callable[[], bytes]) -> list[bytes]:
+        return [line() for _ in range(self.count)]
+
+
 class StoreTest(unittest.TestCase):
     def setUp(self) -> None:
         folder = new_folder()
@@ -137,10 +166,17 @@ class StoreTest(unittest.TestCase):
         self.folder = Path(folder.name)
         self.path = self.folder / "store"
 
-    def store(self, create: bool = False, **settings: int) -> Store:
-        store = Store(self.path, create=create, program=PROGRAM, **settings)
+    def store(self, create: bool | Literal["missing"] = False, wait: float = 0, **settings: int) -> Store:
+        store = Store(self.path, create=create, program=PROGRAM, wait=wait, **settings)
         self.addCleanup(store.close)
         return store
+
+    def program(self, text: str) -> Path:
+        """Returns the path of a program in Python."""
+        path = self.folder / "program"
+        path.write_text(f"#!{sys.executable} -I\n{text}")
+        path.chmod(0o700)
+        return path
 
 
 class Replies(StoreTest):
@@ -326,6 +362,7 @@ class Lasting(StoreTest):
             self.assertEqual(store.flush(), 2)
             self.assertEqual(store.unflushed, 0)
             store.put(b"b", b"2")
+            store.close()
         with self.store() as store:
             self.assertEqual(store.scan(), [(b"a", b"1")])
             store.put(b"b", b"2")
@@ -396,20 +433,22 @@ class Faults(StoreTest):
         store.flush()
         store.put(b"b", b"2")
         with self.assertRaises(Refused) as caught:
-            store.batch([Put(b"c", b"3"), Put(b"much too long", b"4")])
+            store.batch([Put(b"c", b"3"), Unchecked(Put(b"much too long", b"4"))])
         self.assertEqual((caught.exception.number, caught.exception.fault), (2, "fault 2 KeyTooLong 1"))
         self.assertIn("a key that is longer than max-key", caught.exception.why)
         self.assertEqual(caught.exception.unflushed, 1)
         self.assertIn("batches lost since the last flush: 1", str(caught.exception))
         self.assertIsNone(store.pid)
+        store.reopen()
         self.assertEqual(store.scan(), [(b"a", b"1")])
 
     def test_batches_before_one_that_is_refused_in_the_same_call_are_not_counted(self) -> None:
         store = self.store(create=True, max_key=4)
         store.put(b"a", b"1")
         with self.assertRaises(Refused) as caught:
-            store.batches([[Put(b"b", b"2")], [Put(b"c", b"3")], [Put(b"much too long", b"4")]])
+            store.batches([[Put(b"b", b"2")], [Put(b"c", b"3")], [Unchecked(Put(b"much too long", b"4"))]])
         self.assertEqual(caught.exception.unflushed, 1)
+        store.reopen()
         self.assertEqual(store.scan(), [])
 
     def test_exceptions_are_the_same_in_another_process(self) -> None:
@@ -420,6 +459,8 @@ class Faults(StoreTest):
             Refused("fault 9 Device", "", 1),
             Killed(signal.SIGKILL, 4),
             Killed(250),
+            Lost(5),
+            Lost(6, "a disk that failed", ", unless a flush was in progress"),
         ]
         for error in errors:
             again = pickle.loads(pickle.dumps(error))
@@ -435,8 +476,13 @@ class Faults(StoreTest):
     def test_a_batch_that_is_too_long_is_refused(self) -> None:
         store = self.store(create=True)
         self.assertEqual(len(store.batch([Get(b"a")] * 65_535)), 65_535)
-        with self.assertRaises(Refused) as caught:
+        with self.assertRaisesRegex(ValueError, "^command 65535: a batch has at most 65535 commands, not 65536$"):
             store.batch([Get(b"a")] * 65_536)
+        with self.assertRaisesRegex(ValueError, "^batch 1, command 65535: a batch has at most 65535 commands"):
+            store.batches([[Put(b"a", b"1")], [Get(b"a")] * 70_000])
+        self.assertIsNone(store.get(b"a"))
+        with self.assertRaises(Refused) as caught:
+            store.batch([ManyGets(65_536)])
         self.assertEqual(caught.exception.number, 4)
         self.assertIn("65535", caught.exception.why)
 
@@ -476,6 +522,7 @@ class Faults(StoreTest):
         with self.assertRaises(Refused) as caught:
             store.flush()
         self.assertEqual(caught.exception.number, 10)
+        store.reopen()
         self.assertEqual(store.scan(), [(b"a", b"1")])
 
     def test_a_closed_store_answers_nothing(self) -> None:
@@ -517,7 +564,17 @@ class Faults(StoreTest):
 
 
 class Kills(StoreTest):
-    def test_a_killed_program_is_reported_and_started_again(self) -> None:
+    def test_a_killed_program_is_reported_and_started_again_if_nothing_was_lost(self) -> None:
+        store = self.store(create=True)
+        store.put(b"a", b"1")
+        store.flush()
+        kill(store)
+        with self.assertRaisesRegex(Killed, "SIGKILL; what was flushed is safe$") as caught:
+            store.get(b"a")
+        self.assertEqual(caught.exception.unflushed, 0)
+        self.assertEqual(store.scan(), [(b"a", b"1")])
+
+    def test_a_killed_program_is_reported_and_started_again_by_reopen_if_batches_were_lost(self) -> None:
         store = self.store(create=True)
         store.put(b"a", b"1")
         store.flush()
@@ -527,6 +584,10 @@ class Kills(StoreTest):
             store.get(b"a")
         self.assertEqual((caught.exception.signal, caught.exception.unflushed), (signal.SIGKILL, 1))
         self.assertEqual(store.unflushed, 0)
+        with self.assertRaises(Lost) as lost:
+            store.scan()
+        self.assertEqual(lost.exception.unflushed, 1)
+        store.reopen()
         self.assertEqual(store.scan(), [(b"a", b"1")])
 
     def test_where_the_system_takes_statuses_a_fault_is_seen_and_a_kill_is_an_end(self) -> None:
@@ -534,7 +595,7 @@ class Kills(StoreTest):
         self.addCleanup(signal.signal, signal.SIGCHLD, before)
         store = self.store(create=True, max_key=4)
         with self.assertRaises(Refused) as refused:
-            store.put(b"much too long", b"1")
+            store.batch([Unchecked(Put(b"much too long", b"1"))])
         self.assertEqual(refused.exception.number, 2)
         self.assertIsNone(store.get(b"a"))
         kill(store)
@@ -631,11 +692,588 @@ class Kills(StoreTest):
                 self.play(folder / f"store {seed}", seed, commands=25_000, kills=10)
 
 
+class Losses(StoreTest):
+    """Tests that a loss is reported in all threads until somebody reopens the store."""
+
+    def calls(self, store: Store) -> list[Callable[[], object]]:
+        return [
+            lambda: store.get(b"a"),
+            lambda: store.put(b"a", b"1"),
+            lambda: store.add(b"a", b"1"),
+            lambda: store.delete(b"a"),
+            lambda: store.batch([Put(b"a", b"1"), Get(b"a")]),
+            lambda: store.batches([[Put(b"a", b"1")], [Get(b"a")]]),
+            lambda: store.load([(b"a", b"1")]),
+            store.scan,
+            store.wipe,
+            store.flush,
+            store.clean,
+            store.upgrade,
+            store.verify,
+            store.stat,
+        ]
+
+    def test_each_call_in_each_thread_is_told_until_a_reopen(self) -> None:
+        store = self.store(create=True)
+        store.put(b"a", b"1")
+        store.flush()
+        store.put(b"b", b"2")
+        store.put(b"c", b"3")
+        kill(store)
+        with self.assertRaises(Killed) as first:
+            store.get(b"a")
+        self.assertEqual(first.exception.unflushed, 2)
+        told: list[int] = []
+
+        def work() -> None:
+            for call in self.calls(store):
+                try:
+                    call()
+                except Lost as lost:
+                    told.append(lost.unflushed)
+
+        run_threads(work, 8)
+        work()
+        self.assertEqual(told, [2] * 9 * len(self.calls(store)))
+        self.assertIsNone(store.pid)
+        with self.assertRaisesRegex(Lost, r"killed by SIGKILL.*reopen\(\).*batches lost.*: 2$"):
+            store.flush()
+        store.reopen()
+        self.assertEqual(store.scan(), [(b"a", b"1")])
+        self.assertEqual(store.put(b"b", b"2"), True)
+        self.assertEqual(store.flush(), 3)
+
+    def flush_after_loss(self, lose: Callable[[Store], object], expected: type[Exception] | None) -> None:
+        """Calls `lose` in one thread while another one puts, and checks that the flush of the second fails."""
+        store = self.store(create=True)
+        half, done = threading.Event(), threading.Event()
+        raised: list[StoreError] = []
+        flushed: list[int] = []
+
+        def put_and_flush() -> None:
+            try:
+                for number in range(1_000):
+                    store.put(b"%d" % number, b"1")
+                    if number == 500:
+                        half.set()
+                        done.wait()
+                flushed.append(store.flush())
+            except StoreError as error:
+                raised.append(error)
+
+        thread = threading.Thread(target=put_and_flush)
+        thread.start()
+        half.wait()
+        try:
+            lose(store)
+        except Exception as error:
+            self.assertIs(type(error), expected)
+        done.set()
+        thread.join()
+        self.assertEqual(flushed, [])
+        (told,) = raised
+        self.assertIs(type(told), Lost if expected else Killed)
+        self.assertEqual(told.unflushed, 501)
+        store.reopen()
+        self.assertEqual(store.scan(), [])
+        store.close()
+
+    def test_a_flush_fails_after_a_request_of_another_thread_was_refused(self) -> None:
+        self.flush_after_loss(lambda store: store.clean(), Refused)
+        self.flush_after_loss(lambda store: store.batch([Unchecked(Put(b"k" * 100, b""))]), Refused)
+
+    def test_a_flush_fails_after_a_kill(self) -> None:
+        def kill_and_get(store: Store) -> None:
+            kill(store)
+            store.get(b"0")
+
+        self.flush_after_loss(kill_and_get, Killed)
+        self.flush_after_loss(kill, None)
+
+    def test_a_flush_fails_after_an_exception_in_a_call_of_another_thread(self) -> None:
+        class Interrupt(Exception):
+            pass
+
+        @dataclass(frozen=True)
+        class Interrupted:
+            def text(self) -> bytes:
+                return b"get a\n"
+
+            def reply(self, line: Callable[[], bytes]) -> bytes:
+                raise Interrupt
+
+        self.flush_after_loss(lambda store: store.batch([Interrupted()]), Interrupt)
+
+    def test_a_flush_fails_after_the_disk_has_failed(self) -> None:
+        fails = "    if line == b'flush\\n':\n        sys.exit(print('fault 9 Device\\nfull', file=sys.stderr) or 4)\n"
+        store = Store(self.path, program=self.program(ANSWERS_EACH_LINE + fails))
+        with self.assertRaises(StoreError):
+            store.put(b"a", b"1")  # whose answer is too long
+        store.batches([[Unchecked(Get(b"a"))], [Unchecked(Get(b"a"))]])
+        with self.assertRaises(Refused) as refused:
+            store.flush()
+        self.assertEqual((refused.exception.number, refused.exception.unflushed), (9, 2))
+        for _ in range(2):
+            with self.assertRaisesRegex(Lost, "fault 9 Device: full.*, unless a flush was in progress: 2"):
+                store.flush()
+        store.reopen()
+        self.assertEqual(store.get(b"a"), b"x" * 1_000)
+        store.close()
+
+    def test_a_loss_lasts_until_a_reopen_succeeds(self) -> None:
+        store = self.store(create=True)
+        store.put(b"a", b"1")
+        store.flush()
+        store.put(b"b", b"2")
+        kill(store)
+        with self.assertRaises(Killed):
+            store.flush()
+        self.path.rename(self.folder / "elsewhere")
+        with self.assertRaises(Refused):
+            store.reopen()
+        with self.assertRaises(Lost) as lost:
+            store.flush()
+        self.assertEqual(lost.exception.unflushed, 1)
+        (self.folder / "elsewhere").rename(self.path)
+        store.reopen()
+        self.assertEqual(store.scan(), [(b"a", b"1")])
+
+    def test_batches_that_reopen_and_close_drop_are_no_loss(self) -> None:
+        store = self.store(create=True)
+        store.put(b"a", b"1")
+        store.reopen()
+        self.assertEqual(store.flush(), 1)
+        store.put(b"a", b"1")
+        store.close()
+        store.reopen()
+        self.assertEqual(store.scan(), [])
+
+    def test_what_any_thread_saw_flushed_is_there_after_a_kill(self) -> None:
+        store = self.store(create=True)
+        source = random.Random(7)
+        durable: set[bytes] = set()
+        for run in range(10):
+            ends: list[type[BaseException]] = []
+
+            def work(run: int = run, ends: list[type[BaseException]] = ends) -> None:
+                put: set[bytes] = set()
+                try:
+                    for number in range(1_000_000):
+                        key = b"%d %d %d" % (run, threading.get_ident(), number)
+                        store.put(key, b"")
+                        put.add(key)
+                        if number % 20 == 19:
+                            store.flush()
+                            durable.update(put)
+                except StoreError as error:
+                    ends.append(type(error))
+
+            timer = threading.Timer(source.uniform(0.02, 0.1), kill, (store,))
+            timer.start()
+            run_threads(work, 4)
+            timer.join()
+            self.assertEqual(len(ends), 4)
+            self.assertEqual(ends.count(Killed), 1)
+            store.reopen()
+            self.assertLessEqual(durable, {key for key, _ in store.scan()})
+        self.assertGreater(len(durable), 100)
+
+
+def run_threads(work: Callable[[], object], count: int) -> None:
+    threads = [threading.Thread(target=work) for _ in range(count)]
+    for thread in threads:
+        thread.start()
+    for thread in threads:
+        thread.join()
+
+
+class Checks(StoreTest):
+    """Tests that wrong commands are refused before anything is sent."""
+
+    def test_lengths_are_checked_before_anything_is_sent(self) -> None:
+        store = self.store(create=True, max_key=4, max_value=3)
+        pid = store.pid
+        store.put(b"abcd", b"123")
+        wrong: list[Callable[[], object]] = [
+            lambda: store.put(b"abcde", b""),
+            lambda: store.add(b"abcde", b""),
+            lambda: store.get(b"abcde"),
+            lambda: store.delete(b"abcde"),
+            lambda: store.scan(b"abcde"),
+            lambda: store.scan(b"", b"abcde"),
+            lambda: store.wipe(b"abcde"),
+            lambda: store.wipe(b"", b"abcde"),
+        ]
+        for call in wrong:
+            with self.assertRaisesRegex(ValueError, "has 5 bytes, and this store's max_key is 4$"):
+                call()
+        for key, value in ((b"a", b"1234"), (b"", bytes(4))):
+            with self.assertRaisesRegex(ValueError, "the value has 4 bytes, and this store's max_value is 3$"):
+                store.put(key, value)
+            with self.assertRaisesRegex(ValueError, "the value has 4 bytes"):
+                store.add(key, value)
+        self.assertEqual((store.unflushed, store.pid), (1, pid))
+        self.assertEqual(store.scan(b"abcd", b"zzzz"), [(b"abcd", b"123")])
+        self.assertEqual(store.flush(), 2)
+
+    def test_errors_name_the_index_of_the_command(self) -> None:
+        store = self.store(create=True, max_key=4)
+        good, long = Put(b"a", b"1"), Get(b"abcde")
+        with self.assertRaisesRegex(ValueError, "^command 2: the key has 5 bytes"):
+            store.batch([good, good, long, good])
+        with self.assertRaisesRegex(ValueError, "^batch 1, command 1: the key has 5 bytes"):
+            store.batches([[good], [good, long]])
+        with self.assertRaisesRegex(ValueError, "^command 1: a limit must be 0 to"):
+            store.batch([good, Scan(limit=-1)])
+        with self.assertRaisesRegex(TypeError, "^command 3: keys and values must be bytes, not str$"):
+            store.batch([good, good, good, Get("a")])  # type: ignore[list-item, arg-type]
+        with self.assertRaisesRegex(ValueError, "^pair 2: the key has 5 bytes"):
+            store.load([(b"a", b"1"), (b"b", b"2"), (b"abcde", b"")])
+        self.assertEqual((store.unflushed, store.scan()), (0, []))
+
+    def test_the_limits_are_those_of_the_file(self) -> None:
+        with self.store(create=True, max_key=4, max_value=0):
+            pass
+        given: list[dict[str, int]] = [{}, {"max_key": 64, "max_value": 1_024}]
+        for settings in given:
+            with self.store(create=False, **settings) as store:
+                self.assertEqual((store.settings.max_key, store.settings.max_value), (4, 0))
+                self.assertTrue(store.put(b"abcd", b""))
+                with self.assertRaises(ValueError):
+                    store.put(b"abcde", b"")
+                with self.assertRaises(ValueError):
+                    store.put(b"a", b"1")
+                store.wipe()
+
+    def test_a_new_store_has_the_limits_of_the_program(self) -> None:
+        store = self.store(create=True)
+        self.assertEqual(store.settings, Settings(16, 4, 64, 256, 65_536, 4_096))
+        self.assertTrue(store.put(b"k" * 64, b"v" * 256))
+        with self.assertRaises(ValueError):
+            store.put(b"k" * 65, b"")
+        with self.assertRaises(ValueError):
+            store.put(b"k", b"v" * 257)
+
+    def test_a_reopened_store_has_the_limits_of_its_new_file(self) -> None:
+        other = Store(self.folder / "other", create=True, program=PROGRAM, max_key=9)
+        other.close()
+        store = self.store(create=True, max_key=4)
+        other.path.replace(self.path)
+        self.assertEqual(store.settings.max_key, 4)
+        store.reopen()
+        self.assertEqual(store.settings.max_key, 9)
+        self.assertTrue(store.put(b"k" * 9, b""))
+
+
+class Opening(StoreTest):
+    def test_a_with_block_flushes_at_its_end(self) -> None:
+        with self.store(create=True) as store:
+            store.put(b"a", b"1")
+        self.assertIsNone(store.pid)
+        with self.store() as store:
+            self.assertEqual(store.scan(), [(b"a", b"1")])
+        with self.store() as store:
+            self.assertEqual(store.stat().sequence, 2)  # a block without writes flushes nothing
+
+    def test_a_with_block_that_raises_does_not_flush(self) -> None:
+        class Interrupt(Exception):
+            pass
+
+        with self.assertRaises(Interrupt), self.store(create=True) as store:
+            store.put(b"a", b"1")
+            raise Interrupt
+        self.assertIsNone(store.pid)
+        with self.assertRaises(SystemExit), self.store() as store:
+            store.put(b"a", b"1")
+            sys.exit()
+        self.assertEqual(self.store().scan(), [])
+
+    def test_a_with_block_reports_a_loss_at_its_end(self) -> None:
+        with self.assertRaises(Killed), self.store(create=True) as store:
+            store.put(b"a", b"1")
+            kill(store)
+        with self.assertRaises(Lost), self.store() as store:
+            store.put(b"a", b"1")
+            kill(store)
+            with self.assertRaises(Killed):
+                store.get(b"a")
+        with self.assertRaisesRegex(StoreError, "the store is closed"):
+            store.get(b"a")
+
+    def test_a_missing_store_is_created_once(self) -> None:
+        with self.store(create="missing", max_key=7) as store:
+            store.put(b"a", b"1")
+        with self.store(create="missing", max_key=9) as store:
+            self.assertEqual(store.scan(), [(b"a", b"1")])
+            self.assertEqual(store.settings.max_key, 7)
+        self.assertEqual([path.name for path in self.folder.iterdir()], ["store"])
+        with self.assertRaisesRegex(ValueError, "create must be True, False or \"missing\", not 'Missing'"):
+            self.store(create="Missing")  # type: ignore[arg-type]
+        self.assertEqual(self.store().scan(), [(b"a", b"1")])
+
+    def test_a_store_is_created_in_an_empty_file_and_in_no_other(self) -> None:
+        self.path.touch()
+        with self.store(create="missing") as store:
+            self.assertTrue(store.put(b"a", b"1"))
+        self.path.write_bytes(bytes(5_000))
+        with self.assertRaises(Refused) as refused:
+            self.store(create="missing")
+        self.assertEqual(refused.exception.number, 12)
+        self.assertEqual(self.path.read_bytes(), bytes(5_000))
+
+    def test_a_missing_store_is_created_where_a_link_points(self) -> None:
+        link = self.folder / "link"
+        link.symlink_to(self.path)
+        with Store(link, create="missing", program=PROGRAM) as store:
+            store.put(b"a", b"1")
+        self.assertTrue(link.is_symlink())
+        self.assertEqual(self.store().scan(), [(b"a", b"1")])
+
+    def test_a_missing_store_gets_the_rights_of_any_new_file(self) -> None:
+        (self.folder / "file").touch()
+        self.store(create="missing")
+        self.assertEqual(self.path.stat().st_mode, (self.folder / "file").stat().st_mode)
+
+    def test_a_kill_while_a_missing_store_is_created_leaves_no_file(self) -> None:
+        dies = self.program("import os, signal\nos.kill(os.getpid(), signal.SIGKILL)")
+        with self.assertRaises(Killed):
+            Store(self.path, create="missing", program=dies)
+        self.assertEqual([path.name for path in self.folder.iterdir()], ["program"])
+        self.assertIsNone(self.store(create="missing").get(b"a"))
+
+    def test_stores_that_are_created_at_once_are_one(self) -> None:
+        for run in range(3):
+            path = self.folder / f"store {run}"
+            if run == 2:
+                path.touch()
+
+            numbers = iter(range(6))
+
+            def work(path: Path = path, numbers: Iterator[int] = numbers) -> None:
+                with Store(path, create="missing", program=PROGRAM, wait=taukremil.PATIENCE) as store:
+                    store.add(b"%d" % next(numbers), b"")
+
+            run_threads(work, 6)
+            with Store(path, program=PROGRAM) as store:
+                self.assertEqual(len(store.scan()), 6)
+
+    def test_a_new_store_has_4096_segments_unless_told_otherwise(self) -> None:
+        ways: list[Literal[True, "missing"]] = [True, "missing"]
+        for create in ways:
+            with self.store(create=create) as store:
+                self.assertEqual(store.stat().segments, 4_096)
+            self.path.unlink()
+            with self.store(create=create, segments=8) as store:
+                self.assertEqual(store.stat().segments, 8)
+            with self.store() as store:
+                self.assertEqual(store.stat().segments, 8)
+            self.path.unlink()
+
+    def test_a_lock_is_waited_for(self) -> None:
+        first = self.store(create=True)
+        first.put(b"a", b"1")
+        first.flush()
+        began = time.monotonic()
+        with self.assertRaises(Refused) as refused:
+            self.store(wait=0.3)
+        self.assertTrue(refused.exception.is_locked())
+        self.assertGreaterEqual(time.monotonic() - began, 0.3)
+        timer = threading.Timer(0.3, first.close)
+        timer.start()
+        second = self.store(wait=taukremil.PATIENCE)
+        timer.join()
+        self.assertEqual(second.get(b"a"), b"1")
+        second.close()
+        third = self.store()
+        timer = threading.Timer(0.3, third.close)
+        timer.start()
+        second.reopen()
+        timer.join()
+        self.assertEqual(second.get(b"a"), b"1")
+
+    def test_only_a_lock_is_waited_for(self) -> None:
+        began = time.monotonic()
+        with self.assertRaisesRegex(Refused, "No such file"):
+            self.store(wait=taukremil.PATIENCE)
+        self.assertLess(time.monotonic() - began, taukremil.PATIENCE / 2)
+
+    def test_tidy_keeps_the_pages_of_a_queue_few(self) -> None:
+        pages = []
+        for tidy in (0, 64):
+            with self.store(create=True, **SMALL, tidy=tidy) as store:
+                for number in range(50):
+                    keys = [b"%d" % (1_000 + 20 * number + at) for at in range(20)]
+                    store.batch([Put(key, b"1") for key in keys])
+                    store.batch([Del(key) for key in keys])
+                    store.flush()
+                pages.append(store.verify().pages)
+        self.assertLess(5 * pages[1], pages[0])
+
+    def test_a_program_is_found_again_from_another_folder(self) -> None:
+        before = os.getcwd()
+        self.addCleanup(os.chdir, before)
+        (self.folder / "bwsh").symlink_to(PROGRAM)
+        (self.folder / "elsewhere").mkdir()
+        search = unittest.mock.patch.dict(os.environ, {"PATH": "."})
+        programs: list[str | Path] = ["./bwsh", Path("elsewhere/../bwsh"), "bwsh"]
+        for program in programs:
+            os.chdir(self.folder)
+            with search, Store("store", create=True, program=program) as store:
+                os.chdir("elsewhere")
+                kill(store)
+                with self.assertRaises(Killed):
+                    store.get(b"a")
+                self.assertIsNone(store.get(b"a"))
+
+    def test_a_store_prints_its_path_and_its_state(self) -> None:
+        store = self.store(create=True)
+        name = f"<Store '{self.path}': "
+        self.assertEqual(repr(store), f"{name}pid {store.pid}, 0 batches not flushed>")
+        store.put(b"a", b"1")
+        self.assertEqual(repr(store), f"{name}pid {store.pid}, 1 batches not flushed>")
+        kill(store)
+        with self.assertRaises(Killed):
+            store.get(b"a")
+        self.assertEqual(repr(store), f"{name}lost 1 batches>")
+        store.reopen()
+        kill(store)
+        with self.assertRaises(Killed):
+            store.get(b"a")
+        self.assertEqual(repr(store), f"{name}not running>")
+        store.close()
+        self.assertEqual(repr(store), f"{name}closed>")
+
+
+ANSWERS_ONE_BATCH_LATE = """\
+import sys
+print("rows 0", flush=True)
+batches = [[]]
+for line in sys.stdin.buffer:
+    if line == b"go\\n":
+        batches.append([])
+        if len(batches) > 3 or len(batches) == 5:
+            print("new\\n" * len(batches[-3]), end="", flush=True)
+        if len(batches) == 5:
+            print("new\\n" * len(batches[-2]), end="", flush=True)
+    else:
+        batches[-1].append(line)
+"""
+
+
+class Loads(StoreTest):
+    def test_pairs_are_loaded_in_batches(self) -> None:
+        store = self.store(create=True)
+        pairs = [(b"%d" % number, b"value %d" % number) for number in range(1_000)]
+        self.assertEqual(store.load(iter(pairs), size=300), 1_000)
+        self.assertEqual(store.unflushed, 4)
+        self.assertEqual(store.load(pairs[:500] + [(b"new", b"")], size=501), 1)
+        self.assertEqual(store.unflushed, 5)
+        self.assertEqual(store.load([]), 0)
+        self.assertEqual(store.unflushed, 5)
+        self.assertEqual(store.scan(), sorted([*pairs, (b"new", b"")]))
+        for size in (0, 65_536):
+            with self.assertRaisesRegex(ValueError, f"1 to 65535 pairs, not {size}"):
+                store.load(pairs, size)
+
+    def test_a_load_may_be_longer_than_pipes_hold(self) -> None:
+        store = self.store(create=True, max_value=1_024, seg_size=1_048_576)
+        pairs = [(b"%05d" % number, b"\xff" * 600) for number in range(20_000)]
+        self.assertEqual(store.load(pairs, size=6_000), 20_000)
+        self.assertEqual(store.scan(), pairs)
+        self.assertEqual(store.load(pairs), 0)
+
+    def test_the_next_batch_is_sent_before_the_answer_to_the_one_before(self) -> None:
+        store = Store(self.path, program=self.program(ANSWERS_ONE_BATCH_LATE))
+        self.assertEqual(store.load([(b"%d" % number, b"") for number in range(25)], size=10), 25)
+        self.assertEqual(store.unflushed, 3)
+        store.close()
+
+    def test_a_wrong_pair_ends_a_load_after_the_batches_before(self) -> None:
+        store = self.store(create=True, max_key=4)
+        pid = store.pid
+        pairs = [(b"%d" % number, b"") for number in range(100)]
+        for wrong, kind in (((b"abcde", b""), ValueError), ((b"a", "b"), TypeError), ((b"a",), TypeError)):
+            store.wipe()
+            store.flush()
+            with self.assertRaisesRegex(kind, "^pair 75: "):
+                store.load([*pairs[:75], wrong, *pairs[75:]], size=30)  # type: ignore[list-item]
+            self.assertEqual((store.unflushed, store.pid), (2, pid))
+            self.assertEqual(store.scan(), sorted(pairs[:60]))
+
+    def test_an_exception_of_the_iterator_ends_a_load_and_loses_nothing(self) -> None:
+        store = self.store(create=True)
+
+        def pairs() -> Iterator[Row]:
+            for number in range(100):
+                yield b"%d" % number, b""
+                if number == 50:
+                    store.get(b"0")
+
+        with self.assertRaisesRegex(RuntimeError, "another call of this store is in progress"):
+            store.load(pairs(), size=10)
+        self.assertEqual((store.unflushed, len(store.scan())), (5, 50))
+
+    def test_a_kill_in_a_load_loses_all_of_it(self) -> None:
+        store = self.store(create=True)
+        store.put(b"a", b"1")
+        store.flush()
+        store.put(b"b", b"2")
+
+        def pairs() -> Iterator[Row]:
+            for number in range(100):
+                yield b"%d" % number, b""
+                if number == 50:
+                    kill(store)
+
+        with self.assertRaises(Killed) as killed:
+            store.load(pairs(), size=10)
+        self.assertEqual(killed.exception.unflushed, 1)
+        with self.assertRaises(Lost):
+            store.load(pairs(), size=10)
+        store.reopen()
+        self.assertEqual(store.scan(), [(b"a", b"1")])
+
+
+class Types(StoreTest):
+    """Tests the types of replies: `mypy --strict` checks the annotations, and that each ignored error is one."""
+
+    def test_replies_have_the_types_of_their_commands(self) -> None:
+        store = self.store(create=True)
+        put: list[bool] = store.batch([Put(b"a", b"1"), Add(b"b", b"2"), Del(b"c")])
+        got: list[bytes | None] = store.batch(Get(key) for key in (b"a", b"c"))
+        rows: list[list[Row]] = store.batch([Scan(limit=1)])
+        wiped: list[int] = store.batch([Wipe(b"b")])
+        self.assertEqual((put, got, rows, wiped), ([True, True, False], [b"1", None], [[(b"a", b"1")]], [1]))
+        store.batch([Get(b"a")])[0].decode()  # type: ignore[union-attr]
+
+    def test_mixed_batches_need_no_cast(self) -> None:
+        store = self.store(create=True)
+        value: bytes = store.batch([Put(b"a", b"1"), Get(b"a")])[1]
+        self.assertEqual(value.decode(), "1")
+        listed = [Put(b"a", b"2"), Get(b"a"), Scan()]
+        is_new, value, rows = store.batch(listed)
+        self.assertEqual((is_new, value, [key for key, _ in rows]), (False, b"2", [b"a"]))
+        ((count,), (value,)) = store.batches([[Wipe(b"b")], [Get(b"a")]])
+        self.assertEqual((count + 1, value.decode()), (1, "2"))
+        with self.assertRaises(AttributeError):
+            store.batch([b"a"])  # type: ignore[list-item]
+
+
 def scan_despite_kills(store: Store) -> list[Row]:
     """Returns all pairs of `store`, and tries again after each kill."""
     while True:
         try:
             return store.scan()
+        except Killed:
+            pass
+        except Lost:
+            reopen_despite_kills(store)
+
+
+def reopen_despite_kills(store: Store) -> None:
+    while True:
+        try:
+            return store.reopen()
         except Killed:
             pass
 
@@ -686,19 +1324,8 @@ for line in sys.stdin.buffer:
 """
 
 
-class Pipes(unittest.TestCase):
+class Pipes(StoreTest):
     """Tests the client on programs that break the protocol."""
-
-    def setUp(self) -> None:
-        folder = new_folder()
-        self.addCleanup(folder.cleanup)
-        self.folder = Path(folder.name)
-
-    def program(self, text: str) -> Path:
-        path = self.folder / "program"
-        path.write_text(f"#!{sys.executable} -I\n{text}")
-        path.chmod(0o700)
-        return path
 
     def test_answers_that_fill_their_pipe_before_all_is_sent(self) -> None:
         with Store(self.folder / "none", program=self.program(ANSWERS_EACH_LINE)) as store:

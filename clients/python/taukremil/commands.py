@@ -1,0 +1,231 @@
+"""The commands of a batch, as lines for the program and as replies."""
+
+from __future__ import annotations
+
+import operator
+from collections.abc import Callable, Iterable, Iterator, Sequence
+from dataclasses import dataclass
+from typing import Protocol, TypeVar, Union
+
+from .header import Settings
+from .program import Unexpected
+
+MOST_ROWS = 4_294_967_295  # the largest limit of a scan
+MOST_COMMANDS = 65_535  # of a batch
+
+Row = tuple[bytes, bytes]
+Reply = Union[bytes, None, int, list[Row]]  # bool is a subclass of int
+T_co = TypeVar("T_co", covariant=True)
+NextLine = Callable[[], bytes]  # returns a line of the answer without its line feed
+
+PLAIN = bytes(range(0x21, 0x7F)).replace(b"%", b"")
+
+
+def _encode(data: bytes) -> bytes:
+    """Encodes `data` unchanged if all bytes are plain, else with each byte as %XX."""
+    if not isinstance(data, (bytes, bytearray)):
+        raise TypeError(f"keys and values must be bytes, not {type(data).__name__}")
+    is_plain = data and not data.translate(None, PLAIN)
+    return data if is_plain else b"%" + data.hex("%").encode()
+
+
+def _encode_bound(data: bytes | None) -> bytes:
+    if data is None:
+        return b"*"
+    return b"%2A" if data == b"*" else _encode(data)
+
+
+def _integer(number: int) -> int:
+    try:
+        return operator.index(number)
+    except TypeError:
+        raise TypeError(f"a limit must be an integer, not {type(number).__name__}") from None
+
+
+def _decode(token: bytes) -> bytes:
+    if b"%" not in token:
+        return token
+    if token == b"%":
+        return b""
+    # Every percent sign begins an escape, so the library's fast codec can decode them.
+    return token.replace(b"\\", rb"\\").replace(b"%", rb"\x").decode("unicode_escape").encode("latin-1")
+
+
+def _parse_choice(line: bytes, yes: bytes, no: bytes) -> bool:
+    if line not in (yes, no):
+        raise Unexpected(line)
+    return line == yes
+
+
+def parse_numbers(line: bytes, word: bytes, count: int = 1) -> list[int]:
+    first, *numbers = line.split(b" ")
+    if first != word or len(numbers) != count or not all(number.isdigit() for number in numbers):
+        raise Unexpected(line)
+    return [int(number) for number in numbers]
+
+
+def _parse_row(line: bytes) -> Row:
+    key, space, value = line.partition(b" ")
+    if not (key and space and value):
+        raise Unexpected(line)
+    return _decode(key), _decode(value)
+
+
+class Command(Protocol[T_co]):
+    """Describes a command: `text` returns its line of a batch file, and `reply` parses its answer."""
+
+    def text(self) -> bytes:
+        ...
+
+    def reply(self, line: NextLine) -> T_co:
+        ...
+
+
+@dataclass(frozen=True, slots=True)
+class Put(Command[bool]):
+    """Stores `value` under `key`. The reply is whether the key is new."""
+
+    key: bytes
+    value: bytes
+
+    def text(self) -> bytes:
+        return b"put %b %b\n" % (_encode(self.key), _encode(self.value))
+
+    def reply(self, line: NextLine) -> bool:
+        return _parse_choice(line(), b"new", b"replaced")
+
+
+@dataclass(frozen=True, slots=True)
+class Add(Command[bool]):
+    """Stores `value` under `key` if the key is absent. The reply is whether it was stored."""
+
+    key: bytes
+    value: bytes
+
+    def text(self) -> bytes:
+        return b"add %b %b\n" % (_encode(self.key), _encode(self.value))
+
+    def reply(self, line: NextLine) -> bool:
+        return _parse_choice(line(), b"added", b"exists")
+
+
+@dataclass(frozen=True, slots=True)
+class Get(Command[Union[bytes, None]]):
+    """Reads `key`. The reply is its value, or None if the key is absent."""
+
+    key: bytes
+
+    def text(self) -> bytes:
+        return b"get %b\n" % _encode(self.key)
+
+    def reply(self, line: NextLine) -> bytes | None:
+        answer = line()
+        if answer.startswith(b"value "):
+            return _decode(answer[6:])
+        if answer == b"missing":
+            return None
+        raise Unexpected(answer)
+
+
+@dataclass(frozen=True, slots=True)
+class Del(Command[bool]):
+    """Deletes `key`. The reply is whether the key was present."""
+
+    key: bytes
+
+    def text(self) -> bytes:
+        return b"del %b\n" % _encode(self.key)
+
+    def reply(self, line: NextLine) -> bool:
+        return _parse_choice(line(), b"deleted", b"missing")
+
+
+@dataclass(frozen=True, slots=True)
+class Scan(Command[list[Row]]):
+    """Reads the first `limit` pairs with lo <= key < hi (None: no bound). The reply is their list in key order."""
+
+    lo: bytes = b""
+    hi: bytes | None = None
+    limit: int = MOST_ROWS
+
+    def text(self) -> bytes:
+        limit = _integer(self.limit)
+        if not 0 <= limit <= MOST_ROWS:
+            raise ValueError(f"a limit must be 0 to {MOST_ROWS}, not {limit}")
+        return b"scan %b %b %d\n" % (_encode(self.lo), _encode_bound(self.hi), limit)
+
+    def reply(self, line: NextLine) -> list[Row]:
+        (count,) = parse_numbers(line(), b"rows")
+        return [_parse_row(line()) for _ in range(count)]
+
+
+@dataclass(frozen=True, slots=True)
+class Wipe(Command[int]):
+    """Deletes all keys with lo <= key < hi (None: no bound). The reply is how many keys were deleted."""
+
+    lo: bytes = b""
+    hi: bytes | None = None
+
+    def text(self) -> bytes:
+        return b"wipe %b %b\n" % (_encode(self.lo), _encode_bound(self.hi))
+
+    def reply(self, line: NextLine) -> int:
+        (count,) = parse_numbers(line(), b"wiped")
+        return count
+
+
+def may_write(command: object) -> bool:
+    return not isinstance(command, (Get, Scan))
+
+
+def _check_length(what: str, data: bytes, setting: str, most: int) -> None:
+    if len(data) > most:
+        raise ValueError(f"the {what} has {len(data)} bytes, and this store's {setting} is {most}")
+
+
+def encode(command: Command[object], settings: Settings) -> bytes:
+    """Returns the line of `command`. Raises ValueError if a key or a value is too long for the store."""
+    line = command.text()
+    if isinstance(command, (Put, Add)):
+        _check_length("key", command.key, "max_key", settings.max_key)
+        _check_length("value", command.value, "max_value", settings.max_value)
+    elif isinstance(command, (Get, Del)):
+        _check_length("key", command.key, "max_key", settings.max_key)
+    elif isinstance(command, (Scan, Wipe)):
+        _check_length("lower bound", command.lo, "max_key", settings.max_key)
+        _check_length("upper bound", command.hi or b"", "max_key", settings.max_key)
+    return line
+
+
+def _placed(error: Exception, place: str) -> Exception:
+    kind = TypeError if isinstance(error, TypeError) else ValueError
+    return kind(f"{place}: {error}")
+
+
+def encode_batch(batch: Sequence[Command[object]], settings: Settings, place: str = "") -> bytes:
+    """Returns the lines of `batch`. Errors name the index of the wrong command, after `place`."""
+    if len(batch) > MOST_COMMANDS:
+        at = f"{place}command {MOST_COMMANDS}"
+        raise ValueError(f"{at}: a batch has at most {MOST_COMMANDS} commands, not {len(batch)}")
+    lines = []
+    for index, command in enumerate(batch):
+        try:
+            lines.append(encode(command, settings))
+        except (TypeError, ValueError) as error:
+            raise _placed(error, f"{place}command {index}") from None
+    return b"".join((*lines, b"go\n"))
+
+
+def encode_pairs(pairs: Iterable[Row], size: int, settings: Settings) -> Iterator[tuple[bytes, int]]:
+    """Yields batches of `size` puts, as text and number. Errors name the index of the wrong pair."""
+    lines = []
+    for index, pair in enumerate(pairs):
+        try:
+            lines.append(encode(Put(*pair), settings))
+        except (TypeError, ValueError) as error:
+            raise _placed(error, f"pair {index}") from None
+        if len(lines) == size:
+            yield b"".join((*lines, b"go\n")), size
+            lines.clear()
+    if lines:
+        yield b"".join((*lines, b"go\n")), len(lines)

@@ -1,0 +1,410 @@
+"""The store: its calls, and the state of its program."""
+
+from __future__ import annotations
+
+import os
+import shutil
+import threading
+import time
+import weakref
+from collections.abc import Callable, Iterable
+from dataclasses import dataclass
+from pathlib import Path
+from types import TracebackType
+from typing import Any, Literal, TypeVar, Union, overload
+
+from .commands import MOST_COMMANDS, MOST_ROWS, Add, Command, Del, Get, NextLine, Put, Row, Scan, Wipe
+from .commands import encode, encode_batch, encode_pairs, may_write, parse_numbers
+from .creation import create_if_missing
+from .errors import Lost, Refused, StoreError, error_of
+from .header import LARGEST, Settings, Stat, read_settings, read_stat
+from .loading import Loading
+from .program import Ended, Program, Unexpected
+
+OPTIONS = ("fan", "chain", "max_key", "max_value", "seg_size", "segments", "workers", "grain", "tidy")
+SEGMENTS = 4_096  # of a new store
+LOAD_SIZE = 5_000  # pairs of a batch
+PAUSE = 0.05  # seconds between tries to lock the file
+EMPTY_SCAN = Scan(limit=0)  # its answer shows that the program has opened its file
+
+T = TypeVar("T")
+
+
+@dataclass(frozen=True, slots=True)
+class Report:
+    """Gives the size of a verified store in pages, levels (`height`) and pairs."""
+
+    pages: int
+    height: int
+    pairs: int
+
+
+def _program_path(program: str | os.PathLike[str]) -> str:
+    """Returns an absolute path, because the process may change its folder before the program is started again."""
+    name = os.fspath(program)
+    found = name if os.path.dirname(name) else shutil.which(name)
+    return str(Path(found).absolute()) if found else name
+
+
+class Store:
+    """Represents an ordered map in a file, which the program locks while it runs.
+
+    If the program ends, the call raises `Refused`, `Killed` or `StoreError`. The batches since the last flush are then
+    lost. If there were any, each later call in any thread raises `Lost` until `reopen`; if there were none, the next
+    call starts the program again. An exception that interrupts a call, such as KeyboardInterrupt, has the same effect.
+    A wrong argument raises TypeError or ValueError, and nothing is sent.
+
+    A `with` block flushes at its end, and closes the store. After an exception it closes without a flush.
+
+    Threads may share a store; one call runs at a time. A signal handler that interrupts a call and uses the same store
+    gets a RuntimeError. After a fork the store is closed in the child process.
+    """
+
+    def __init__(
+        self,
+        path: str | os.PathLike[str],
+        *,
+        create: bool | Literal["missing"] = False,
+        program: str | os.PathLike[str] = "bwsh",
+        wait: float = 0,
+        **settings: int,
+    ) -> None:
+        """Starts `program`, a path or a name in PATH, on the store in the file `path`.
+
+        If `create` is True, creates a new store and overwrites the file. If it is "missing", creates a store only if
+        there is no file or an empty one. If another process has locked the file, tries again for `wait` seconds.
+        The settings are options of the program: `fan`, `chain`, `max_key` (bytes), `max_value` (bytes), `seg_size`
+        (bytes) and `segments` (4,096 by default) for a new store, and `workers`, `grain` and `tidy` for any store.
+        Raises OSError if the program cannot be started.
+        """
+        unknown = settings.keys() - set(OPTIONS)
+        if unknown:
+            raise TypeError(f"unknown setting {min(unknown)}; the settings are {', '.join(OPTIONS)}")
+        if isinstance(create, str) and create != "missing":
+            raise ValueError(f'create must be True, False or "missing", not {create!r}')
+        self.path = Path(path).absolute()
+        self._wait = wait
+        self._command = [_program_path(program), "--stream", "--clean-when-full", "--explain"]
+        self._command += [f"--{name.replace('_', '-')}={number}" for name, number in settings.items()]
+        self._for_new = ["--create"] if "segments" in settings else ["--create", f"--segments={SEGMENTS}"]
+        self._settings = LARGEST
+        self._lock = threading.RLock()
+        self._program: Program | None = None
+        self._unflushed = 0
+        self._lost: Lost | None = None
+        self._is_closed = False
+        self._is_busy = False
+        _stores.add(self)
+        self._run_alone(lambda: self._open(create))
+
+    def __enter__(self) -> Store:
+        return self
+
+    def __exit__(
+        self, kind: type[BaseException] | None, error: BaseException | None, trace: TracebackType | None
+    ) -> None:
+        try:
+            if kind is None and self._owes_flush():
+                self.flush()
+        finally:
+            self.close()
+
+    def __repr__(self) -> str:
+        program, lost = self._program, self._lost  # another thread may clear the attributes
+        if self._is_closed:
+            state = "closed"
+        elif lost:
+            state = f"lost {lost.unflushed} batches"
+        elif program:
+            state = f"pid {program.process.pid}, {self._unflushed} batches not flushed"
+        else:
+            state = "not running"
+        return f"<Store {str(self.path)!r}: {state}>"
+
+    @property
+    def pid(self) -> int | None:
+        """Returns the program's process id, or None if the program does not run."""
+        program = self._program  # another thread may clear the attribute
+        return program.process.pid if program else None
+
+    @property
+    def unflushed(self) -> int:
+        """Returns how many batches with writes were executed since the last flush."""
+        return self._unflushed
+
+    @property
+    def settings(self) -> Settings:
+        """Returns the settings in the store's file, such as `max_key` and `max_value`."""
+        return self._settings
+
+    @overload
+    def batch(self, commands: Iterable[Get]) -> list[bytes | None]:
+        ...
+
+    @overload
+    def batch(self, commands: Iterable[Union[Put, Add, Del]]) -> list[bool]:
+        ...
+
+    @overload
+    def batch(self, commands: Iterable[Scan]) -> list[list[Row]]:
+        ...
+
+    @overload
+    def batch(self, commands: Iterable[Wipe]) -> list[int]:
+        ...
+
+    @overload
+    def batch(self, commands: Iterable[Command[Any]]) -> list[Any]:
+        ...
+
+    def batch(self, commands: Iterable[Command[Any]]) -> list[Any]:
+        """Executes up to 65,535 `commands` as one batch, completely or not at all, and returns their replies.
+
+        Raises ValueError or TypeError with the index of the first wrong command.
+        """
+        listed = list(commands)
+        if not listed:
+            return []
+        text = encode_batch(listed, self._settings)
+        writing = any(map(may_write, listed))
+        return self._query(text, lambda line: [command.reply(line) for command in listed], writing)
+
+    def batches(self, batches: Iterable[Iterable[Command[Any]]]) -> list[list[Any]]:
+        """Executes `batches` in order, and returns a list of replies for each.
+
+        All are sent at once, which saves waiting for each reply; they remain separate batches.
+        """
+        listed = [list(batch) for batch in batches]
+        if not any(listed):
+            return [[] for _ in listed]
+        texts = [encode_batch(batch, self._settings, f"batch {index}, ") for index, batch in enumerate(listed)]
+        writing = sum(any(map(may_write, batch)) for batch in listed)
+        return self._query(
+            b"".join(texts), lambda line: [[command.reply(line) for command in batch] for batch in listed], writing
+        )
+
+    def load(self, pairs: Iterable[Row], size: int = LOAD_SIZE) -> int:
+        """Puts `pairs` in batches of `size`, and returns how many keys were new. Does not flush.
+
+        The next batch is sent while the program works at the one before. If `pairs` raises an error or a pair is wrong,
+        the complete batches before are executed, and the error is raised. Calls of other threads wait until the end.
+        """
+        if not 1 <= size <= MOST_COMMANDS:
+            raise ValueError(f"a batch has 1 to {MOST_COMMANDS} pairs, not {size}")
+        loading = Loading(encode_pairs(pairs, size, self._settings))
+
+        def talk(program: Program) -> tuple[int, int]:
+            loading.run(program)
+            return loading.new, loading.done
+
+        new = self._run_alone(lambda: self._talk(self._running_program(), talk))
+        if loading.error:
+            raise loading.error
+        return new
+
+    def get(self, key: bytes) -> bytes | None:
+        """Returns the value of `key`, or None if the key is absent."""
+        return self._run_one(Get(key))
+
+    def put(self, key: bytes, value: bytes) -> bool:
+        """Stores `value` under `key`, and returns whether the key is new."""
+        return self._run_one(Put(key, value))
+
+    def add(self, key: bytes, value: bytes) -> bool:
+        """Stores `value` under `key` if the key is absent, and returns whether it was stored."""
+        return self._run_one(Add(key, value))
+
+    def delete(self, key: bytes) -> bool:
+        """Deletes `key`, and returns whether the key was present."""
+        return self._run_one(Del(key))
+
+    def scan(self, lo: bytes = b"", hi: bytes | None = None, limit: int = MOST_ROWS) -> list[Row]:
+        """Returns the first `limit` pairs with lo <= key < hi (None: no bound), in key order."""
+        return self._run_one(Scan(lo, hi, limit))
+
+    def wipe(self, lo: bytes = b"", hi: bytes | None = None) -> int:
+        """Deletes all keys with lo <= key < hi (None: no bound), and returns how many."""
+        return self._run_one(Wipe(lo, hi))
+
+    def flush(self) -> int:
+        """Makes all batches so far durable, and returns the commit's sequence number. Cleans the log if it is full."""
+
+        def sequence(line: NextLine) -> int:
+            answer = line()
+            while answer.startswith(b"cleaned "):
+                answer = line()
+            return self._record_commit(answer, b"flushed")
+
+        return self._query(b"flush\n", sequence)
+
+    def clean(self) -> int:
+        """Frees the first segment of the log, and returns the number of the new first segment. Does not flush."""
+        return self._query(b"clean\n", lambda line: parse_numbers(line(), b"cleaned")[0])
+
+    def upgrade(self) -> int:
+        """Flushes, upgrades the log to version 2 irreversibly, and returns the commit's sequence number."""
+        return self._query(b"upgrade\n", lambda line: self._record_commit(line(), b"upgraded"))
+
+    def verify(self) -> Report:
+        """Checks the whole tree, and returns its size."""
+        return self._query(b"verify\n", lambda line: Report(*parse_numbers(line(), b"ok", 3)))
+
+    def stat(self) -> Stat:
+        """Returns the state of the log, which it reads from the file's header."""
+        return self._run_alone(self._read_stat)  # not during a flush
+
+    def reopen(self) -> None:
+        """Ends the program without a flush, and starts it again with the last flushed store. Ends the state `Lost`."""
+        self._run_alone(self._restart)
+
+    def close(self) -> None:
+        """Ends the program without a flush. Later requests raise `StoreError` until `reopen`."""
+        self._run_alone(self._end)
+
+    def _run_alone(self, call: Callable[[], T]) -> T:
+        """Runs `call` alone. A nested call, from a signal handler, would read its answers."""
+        with self._lock:
+            if self._is_busy:
+                raise RuntimeError("another call of this store is in progress in this thread")
+            try:
+                self._is_busy = True
+                return call()
+            finally:
+                self._is_busy = False
+
+    def _owes_flush(self) -> bool:
+        with self._lock:
+            return not self._is_closed and bool(self._unflushed or self._lost)
+
+    def _read_stat(self) -> Stat:
+        self._check_not_lost()
+        return read_stat(self.path)
+
+    def _check_not_lost(self) -> None:
+        if self._lost:
+            raise Lost(self._lost.unflushed, self._lost.reason, self._lost.unless)
+
+    def _end(self) -> None:
+        self._is_closed = True
+        program = self._program
+        self._drop_program()
+        if program:
+            program.end()
+
+    def _restart(self) -> None:
+        self._end()
+        self._is_closed = False
+        self._start()
+        self._lost = None
+
+    def _abandon(self) -> None:
+        """Closes the store in a forked child, in which no thread would release the lock."""
+        self._lock = threading.RLock()
+        self._is_closed = True
+        self._is_busy = False
+        program = self._program
+        self._drop_program()
+        if program:
+            program.abandon()
+
+    def _open(self, create: bool | Literal["missing"]) -> None:
+        if create == "missing":
+            create_if_missing(self.path, self._create)
+        self._start(self._for_new if create is True else [])
+
+    def _create(self, path: Path) -> None:
+        self._start_on(path, self._for_new)
+        self._end()
+        self._is_closed = False
+
+    def _start(self, more: list[str] | None = None) -> Program:
+        """Starts the program, and tries again while another process has locked the file."""
+        end = time.monotonic() + self._wait
+        while True:
+            try:
+                return self._start_on(self.path, more or [])
+            except Refused as refused:
+                if not refused.is_locked() or time.monotonic() >= end:
+                    raise
+            time.sleep(PAUSE)
+
+    def _start_on(self, path: Path, more: list[str]) -> Program:
+        program = self._program = Program([*self._command, f"--disk={path}", *more])
+        self._talk(program, lambda program: (_ask(program, EMPTY_SCAN.text() + b"go\n", EMPTY_SCAN.reply), 0))
+        self._settings = read_settings(path)
+        return program
+
+    def _running_program(self) -> Program:
+        if self._is_closed:
+            raise StoreError("the store is closed")
+        self._check_not_lost()
+        return self._program or self._start()
+
+    def _run_one(self, command: Command[T]) -> T:
+        text = encode(command, self._settings) + b"go\n"
+        return self._query(text, command.reply, may_write(command))
+
+    def _record_commit(self, answer: bytes, word: bytes) -> int:
+        (sequence,) = parse_numbers(answer, word)
+        self._unflushed = 0
+        return sequence
+
+    def _drop_program(self) -> int:
+        """Returns how many unflushed batches are lost."""
+        unflushed, self._unflushed, self._program = self._unflushed, 0, None
+        return unflushed
+
+    def _query(self, text: bytes, read: Callable[[NextLine], T], writing: int = 0) -> T:
+        """Sends `text`, in which `writing` batches write, and parses the answer with `read`."""
+        return self._run_alone(
+            lambda: self._talk(self._running_program(), lambda program: (_ask(program, text, read), writing))
+        )
+
+    def _talk(self, program: Program, talk: Callable[[Program], tuple[T, int]]) -> T:
+        """Runs `talk`, which returns a result and how many batches with writes were executed."""
+        try:
+            found, writing = talk(program)
+            program.check_nothing_left()
+            self._unflushed += writing
+            return found
+        except Ended as error:
+            unflushed = self._lose(error)
+            raise self._remember(error_of(*program.end(), unflushed)) from None
+        except Unexpected as error:
+            unflushed = self._lose(error)
+            program.kill()
+            raise self._remember(StoreError(str(error), unflushed)) from None
+        except BaseException as error:
+            self._lose(error)
+            program.kill()
+            raise
+
+    def _lose(self, error: BaseException) -> int:
+        """Drops the program, and returns how many unflushed batches are lost with it because of `error`."""
+        unflushed = self._drop_program()
+        if unflushed:
+            self._lost = Lost.by(error, unflushed)
+        return unflushed
+
+    def _remember(self, error: StoreError) -> StoreError:
+        """Makes later calls report `error`, if batches were lost, and returns it."""
+        if error.unflushed:
+            self._lost = Lost.by(error, error.unflushed)
+        return error
+
+
+def _ask(program: Program, text: bytes, read: Callable[[NextLine], T]) -> T:
+    program.send(text)
+    return read(program.line)
+
+
+_stores: weakref.WeakSet[Store] = weakref.WeakSet()
+
+
+def _abandon_all() -> None:
+    """Closes all stores in a forked child, so that two processes do not use one program."""
+    for store in list(_stores):
+        store._abandon()
+
+
+os.register_at_fork(after_in_child=_abandon_all)
