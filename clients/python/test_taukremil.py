@@ -905,10 +905,10 @@ class Checks(StoreTest):
             lambda: store.wipe(b"", b"abcde"),
         ]
         for call in wrong:
-            with self.assertRaisesRegex(ValueError, "has 5 bytes, and this store's max_key is 4$"):
+            with self.assertRaisesRegex(ValueError, "has 5 bytes, and this store takes at most 4$"):
                 call()
         for key, value in ((b"a", b"1234"), (b"", bytes(4))):
-            with self.assertRaisesRegex(ValueError, "the value has 4 bytes, and this store's max_value is 3$"):
+            with self.assertRaisesRegex(ValueError, "the value has 4 bytes, and this store takes at most 3$"):
                 store.put(key, value)
             with self.assertRaisesRegex(ValueError, "the value has 4 bytes"):
                 store.add(key, value)
@@ -1192,7 +1192,7 @@ class Loads(StoreTest):
         store = self.store(create=True, max_key=4)
         pid = store.pid
         pairs = [(b"%d" % number, b"") for number in range(100)]
-        for wrong, kind in (((b"abcde", b""), ValueError), ((b"a", "b"), TypeError), ((b"a",), TypeError)):
+        for wrong, kind in (((b"abcde", b""), ValueError), ((b"a", "b"), TypeError), ((b"a",), ValueError)):
             store.wipe()
             store.flush()
             with self.assertRaisesRegex(kind, "^pair 75: "):

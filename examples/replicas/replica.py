@@ -17,11 +17,10 @@ from typing import TextIO
 from batches import PREFIX, REVISION, Batch
 from gateway import Event, Gateway
 
-from taukremil import Add, Command, Killed, Put, Refused, Reply, Store
+from taukremil import Add, Command, Killed, Put, Reply, Store
 
 SETTINGS = {"fan": 32, "chain": 8, "max_key": 32, "max_value": 128, "seg_size": 65_536, "segments": 96}
 PATIENCE = 20  # seconds to wait for the program of a killed replica to unlock the file
-DEVICE = 9  # the fault if another program has locked the file
 
 
 @dataclass(frozen=True)
@@ -109,20 +108,17 @@ class Replica:
             except Killed as killed:
                 self.lags.clear()
                 self.say("killed", lost=killed.unflushed)
+                self.reopen()
             finally:
                 gateway.close()
 
-
-def open_store(path: Path, program: Path) -> Store:
-    """Opens or creates the store, and waits while a killed replica's program locks the file."""
-    end = time.monotonic() + PATIENCE
-    while True:
-        try:
-            return Store(path, create=not path.exists(), program=program, **SETTINGS)
-        except Refused as refused:
-            if refused.number != DEVICE or time.monotonic() > end:
-                raise
-            time.sleep(0.02)
+    def reopen(self) -> None:
+        """Continues with the last flushed store, also if the program is killed while it starts."""
+        while True:
+            try:
+                return self.store.reopen()
+            except Killed:
+                pass
 
 
 def main() -> None:
@@ -137,7 +133,9 @@ def main() -> None:
     parser.add_argument("--looks", type=int, default=8, help="flushes between reports of the store's bytes")
     options = parser.parse_args()
     signal.signal(signal.SIGTERM, lambda *_: sys.exit(0))
-    with open(options.log, "a") as log, open_store(options.store, options.program) as store:
+    with open(options.log, "a") as log, Store(
+        options.store, create="missing", wait=PATIENCE, program=options.program, **SETTINGS
+    ) as store:
         replica = Replica(store, log, options.every, options.looks)
         signal.signal(signal.SIGUSR1, lambda *_: kill_program(store))
         replica.follow(Gateway(options.ports))

@@ -7,7 +7,7 @@ from collections.abc import Callable, Iterable, Iterator, Sequence
 from dataclasses import dataclass
 from typing import Protocol, TypeVar, Union
 
-from .header import Settings
+from .header import LARGEST, Settings
 from .program import Unexpected
 
 MOST_ROWS = 4_294_967_295  # the largest limit of a scan
@@ -21,18 +21,26 @@ NextLine = Callable[[], bytes]  # returns a line of the answer without its line 
 PLAIN = bytes(range(0x21, 0x7F)).replace(b"%", b"")
 
 
-def _encode(data: bytes) -> bytes:
+def _encode(data: bytes, most: int, what: str = "key") -> bytes:
     """Encodes `data` unchanged if all bytes are plain, else with each byte as %XX."""
     if not isinstance(data, (bytes, bytearray)):
         raise TypeError(f"keys and values must be bytes, not {type(data).__name__}")
+    if len(data) > most:
+        raise ValueError(f"the {what} has {len(data)} bytes, and this store takes at most {most}")
     is_plain = data and not data.translate(None, PLAIN)
     return data if is_plain else b"%" + data.hex("%").encode()
 
 
-def _encode_bound(data: bytes | None) -> bytes:
-    if data is None:
-        return b"*"
-    return b"%2A" if data == b"*" else _encode(data)
+def _encode_range(lo: bytes, hi: bytes | None, most: int) -> bytes:
+    if hi is None:
+        end = b"*"
+    else:
+        end = b"%2A" if hi == b"*" else _encode(hi, most, "upper bound")
+    return b"%b %b" % (_encode(lo, most, "lower bound"), end)
+
+
+def _encode_pair(word: bytes, key: bytes, value: bytes, settings: Settings) -> bytes:
+    return b"%b %b %b\n" % (word, _encode(key, settings.max_key), _encode(value, settings.max_value, "value"))
 
 
 def _integer(number: int) -> int:
@@ -81,42 +89,53 @@ class Command(Protocol[T_co]):
         ...
 
 
+class _Checked(Command[T_co], Protocol[T_co]):
+    """Describes a command whose lengths are checked before it is sent."""
+
+    def text(self) -> bytes:
+        return self.checked_text(LARGEST)
+
+    def checked_text(self, settings: Settings) -> bytes:
+        """Returns the line. Raises ValueError if a key or a value is too long for a store with `settings`."""
+        ...
+
+
 @dataclass(frozen=True, slots=True)
-class Put(Command[bool]):
+class Put(_Checked[bool]):
     """Stores `value` under `key`. The reply is whether the key is new."""
 
     key: bytes
     value: bytes
 
-    def text(self) -> bytes:
-        return b"put %b %b\n" % (_encode(self.key), _encode(self.value))
+    def checked_text(self, settings: Settings) -> bytes:
+        return _encode_pair(b"put", self.key, self.value, settings)
 
     def reply(self, line: NextLine) -> bool:
         return _parse_choice(line(), b"new", b"replaced")
 
 
 @dataclass(frozen=True, slots=True)
-class Add(Command[bool]):
+class Add(_Checked[bool]):
     """Stores `value` under `key` if the key is absent. The reply is whether it was stored."""
 
     key: bytes
     value: bytes
 
-    def text(self) -> bytes:
-        return b"add %b %b\n" % (_encode(self.key), _encode(self.value))
+    def checked_text(self, settings: Settings) -> bytes:
+        return _encode_pair(b"add", self.key, self.value, settings)
 
     def reply(self, line: NextLine) -> bool:
         return _parse_choice(line(), b"added", b"exists")
 
 
 @dataclass(frozen=True, slots=True)
-class Get(Command[Union[bytes, None]]):
+class Get(_Checked[Union[bytes, None]]):
     """Reads `key`. The reply is its value, or None if the key is absent."""
 
     key: bytes
 
-    def text(self) -> bytes:
-        return b"get %b\n" % _encode(self.key)
+    def checked_text(self, settings: Settings) -> bytes:
+        return b"get %b\n" % _encode(self.key, settings.max_key)
 
     def reply(self, line: NextLine) -> bytes | None:
         answer = line()
@@ -128,31 +147,31 @@ class Get(Command[Union[bytes, None]]):
 
 
 @dataclass(frozen=True, slots=True)
-class Del(Command[bool]):
+class Del(_Checked[bool]):
     """Deletes `key`. The reply is whether the key was present."""
 
     key: bytes
 
-    def text(self) -> bytes:
-        return b"del %b\n" % _encode(self.key)
+    def checked_text(self, settings: Settings) -> bytes:
+        return b"del %b\n" % _encode(self.key, settings.max_key)
 
     def reply(self, line: NextLine) -> bool:
         return _parse_choice(line(), b"deleted", b"missing")
 
 
 @dataclass(frozen=True, slots=True)
-class Scan(Command[list[Row]]):
+class Scan(_Checked[list[Row]]):
     """Reads the first `limit` pairs with lo <= key < hi (None: no bound). The reply is their list in key order."""
 
     lo: bytes = b""
     hi: bytes | None = None
     limit: int = MOST_ROWS
 
-    def text(self) -> bytes:
+    def checked_text(self, settings: Settings) -> bytes:
         limit = _integer(self.limit)
         if not 0 <= limit <= MOST_ROWS:
             raise ValueError(f"a limit must be 0 to {MOST_ROWS}, not {limit}")
-        return b"scan %b %b %d\n" % (_encode(self.lo), _encode_bound(self.hi), limit)
+        return b"scan %b %d\n" % (_encode_range(self.lo, self.hi, settings.max_key), limit)
 
     def reply(self, line: NextLine) -> list[Row]:
         (count,) = parse_numbers(line(), b"rows")
@@ -160,14 +179,14 @@ class Scan(Command[list[Row]]):
 
 
 @dataclass(frozen=True, slots=True)
-class Wipe(Command[int]):
+class Wipe(_Checked[int]):
     """Deletes all keys with lo <= key < hi (None: no bound). The reply is how many keys were deleted."""
 
     lo: bytes = b""
     hi: bytes | None = None
 
-    def text(self) -> bytes:
-        return b"wipe %b %b\n" % (_encode(self.lo), _encode_bound(self.hi))
+    def checked_text(self, settings: Settings) -> bytes:
+        return b"wipe %b\n" % _encode_range(self.lo, self.hi, settings.max_key)
 
     def reply(self, line: NextLine) -> int:
         (count,) = parse_numbers(line(), b"wiped")
@@ -178,23 +197,9 @@ def may_write(command: object) -> bool:
     return not isinstance(command, (Get, Scan))
 
 
-def _check_length(what: str, data: bytes, setting: str, most: int) -> None:
-    if len(data) > most:
-        raise ValueError(f"the {what} has {len(data)} bytes, and this store's {setting} is {most}")
-
-
 def encode(command: Command[object], settings: Settings) -> bytes:
-    """Returns the line of `command`. Raises ValueError if a key or a value is too long for the store."""
-    line = command.text()
-    if isinstance(command, (Put, Add)):
-        _check_length("key", command.key, "max_key", settings.max_key)
-        _check_length("value", command.value, "max_value", settings.max_value)
-    elif isinstance(command, (Get, Del)):
-        _check_length("key", command.key, "max_key", settings.max_key)
-    elif isinstance(command, (Scan, Wipe)):
-        _check_length("lower bound", command.lo, "max_key", settings.max_key)
-        _check_length("upper bound", command.hi or b"", "max_key", settings.max_key)
-    return line
+    checked_text: Callable[[Settings], bytes] | None = getattr(command, "checked_text", None)
+    return checked_text(settings) if checked_text else command.text()
 
 
 def _placed(error: Exception, place: str) -> Exception:
@@ -221,7 +226,8 @@ def encode_pairs(pairs: Iterable[Row], size: int, settings: Settings) -> Iterato
     lines = []
     for index, pair in enumerate(pairs):
         try:
-            lines.append(encode(Put(*pair), settings))
+            key, value = pair
+            lines.append(_encode_pair(b"put", key, value, settings))
         except (TypeError, ValueError) as error:
             raise _placed(error, f"pair {index}") from None
         if len(lines) == size:
