@@ -24,6 +24,21 @@ def run_tests(programs: Programs, name: str) -> Outcome:
     return Outcome(measured=report.splitlines()[-3]) if ran.returncode == 0 else Outcome(report)
 
 
+def run_install(programs: Programs) -> Outcome:
+    """Installs the client without a network in a new environment, and uses it there."""
+    with new_folder() as folder:
+        environment, python = {**os.environ, "PYTHONDONTWRITEBYTECODE": "1"}, f"{folder}/venv/bin/python"
+        if subprocess.run([sys.executable, "-m", "venv", f"{folder}/venv"], capture_output=True).returncode:
+            return Outcome(left_out="there is no venv here")
+        install = [python, "-m", "pip", "install", "--no-index", "--no-build-isolation", str(CLIENTS / "python")]
+        use = "import sys, taukremil; print(taukremil.Store('store', create='missing', program=sys.argv[1]).put(b'a', b'1'))"
+        for command in (install, [python, "-I", "-c", use, str(programs.store)]):
+            ran = subprocess.run(command, cwd=folder, env=environment, capture_output=True, text=True, timeout=PATIENCE)
+            if ran.returncode:
+                return Outcome((ran.stdout + ran.stderr)[-1_000:])
+        return Outcome(None if ran.stdout == "True\n" else ran.stdout)
+
+
 def run_shell(programs: Programs) -> Outcome:
     """Runs the shell example on one small file until flushes have cleaned the log, and checks its output each time."""
     if shutil.which("bash") is None:
@@ -45,5 +60,6 @@ def run_shell(programs: Programs) -> Outcome:
 def cases(programs: Programs) -> list[Case]:
     return [
         *[Case(f"the Python client: {name.lower()}", run_tests, (programs, name)) for name in TESTS],
+        Case("the Python client is installed without a network", run_install, (programs,)),
         Case("the example in shell", run_shell, (programs,)),
     ]
