@@ -702,8 +702,11 @@ class Losses(StoreTest):
             lambda: store.add(b"a", b"1"),
             lambda: store.delete(b"a"),
             lambda: store.batch([Put(b"a", b"1"), Get(b"a")]),
+            lambda: store.batch([]),
             lambda: store.batches([[Put(b"a", b"1")], [Get(b"a")]]),
+            lambda: store.batches([[]]),
             lambda: store.load([(b"a", b"1")]),
+            lambda: store.load([]),
             store.scan,
             store.wipe,
             store.flush,
@@ -1128,13 +1131,13 @@ class Opening(StoreTest):
     def test_a_store_prints_its_path_and_its_state(self) -> None:
         store = self.store(create=True)
         name = f"<Store '{self.path}': "
-        self.assertEqual(repr(store), f"{name}pid {store.pid}, 0 batches not flushed>")
+        self.assertEqual(repr(store), f"{name}pid {store.pid}, unflushed 0>")
         store.put(b"a", b"1")
-        self.assertEqual(repr(store), f"{name}pid {store.pid}, 1 batches not flushed>")
+        self.assertEqual(repr(store), f"{name}pid {store.pid}, unflushed 1>")
         kill(store)
         with self.assertRaises(Killed):
             store.get(b"a")
-        self.assertEqual(repr(store), f"{name}lost 1 batches>")
+        self.assertEqual(repr(store), f"{name}lost, unflushed 1>")
         store.reopen()
         kill(store)
         with self.assertRaises(Killed):

@@ -114,9 +114,9 @@ class Store:
         if self._is_closed:
             state = "closed"
         elif lost:
-            state = f"lost {lost.unflushed} batches"
+            state = f"lost, unflushed {lost.unflushed}"
         elif program:
-            state = f"pid {program.process.pid}, {self._unflushed} batches not flushed"
+            state = f"pid {program.process.pid}, unflushed {self._unflushed}"
         else:
             state = "not running"
         return f"<Store {str(self.path)!r}: {state}>"
@@ -164,6 +164,7 @@ class Store:
         """
         listed = list(commands)
         if not listed:
+            self._run_alone(self._check_not_lost)
             return []
         text = encode_batch(listed, self._settings)
         writing = any(map(may_write, listed))
@@ -176,6 +177,7 @@ class Store:
         """
         listed = [list(batch) for batch in batches]
         if not any(listed):
+            self._run_alone(self._check_not_lost)
             return [[] for _ in listed]
         texts = [encode_batch(batch, self._settings, f"batch {index}, ") for index, batch in enumerate(listed)]
         writing = sum(any(map(may_write, batch)) for batch in listed)
@@ -381,10 +383,9 @@ class Store:
 
     def _lose(self, error: BaseException) -> int:
         """Drops the program, and returns how many unflushed batches are lost with it because of `error`."""
-        unflushed = self._drop_program()
-        if unflushed:
-            self._lost = Lost.by(error, unflushed)
-        return unflushed
+        if self._unflushed:  # before they are forgotten, because a signal handler may raise in between
+            self._lost = Lost.by(error, self._unflushed)
+        return self._drop_program()
 
     def _remember(self, error: StoreError) -> StoreError:
         """Makes later calls report `error`, if batches were lost, and returns it."""
