@@ -2,6 +2,7 @@
 
 from __future__ import annotations
 
+import fcntl
 import os
 import pickle
 import random
@@ -22,6 +23,7 @@ from typing import Literal
 import taukremil
 from taukremil import Add, Command, Del, Get, Killed, Lost, Put, Refused, Reply, Report, Row, Scan, Settings, Store
 from taukremil import StoreError, Wipe
+from taukremil.creation import create_if_missing
 
 PROGRAM = Path(os.environ.get("BWSH", Path(__file__).resolve().parents[2] / "crates/bwsh/out/bwsh")).absolute()
 SMALL = {
@@ -808,10 +810,7 @@ class Losses(StoreTest):
         self.flush_after_loss(lambda store: store.batch([Interrupted()]), Interrupt)
 
     def test_a_flush_fails_after_the_disk_has_failed(self) -> None:
-        fails = "    if line == b'flush\\n':\n        sys.exit(print('fault 9 Device\\nfull', file=sys.stderr) or 4)\n"
-        store = Store(self.path, program=self.program(ANSWERS_EACH_LINE + fails))
-        with self.assertRaises(StoreError):
-            store.put(b"a", b"1")  # whose answer is too long
+        store = Store(self.path, program=self.program(ANSWERS_EACH_LINE + FAILS_AT_FLUSH))
         store.batches([[Unchecked(Get(b"a"))], [Unchecked(Get(b"a"))]])
         with self.assertRaises(Refused) as refused:
             store.flush()
@@ -888,6 +887,17 @@ def run_threads(work: Callable[[], object], count: int) -> None:
         thread.start()
     for thread in threads:
         thread.join()
+
+
+ENDS_AT_FLUSH = """\
+    if word == b"flush":
+        sys.exit("flushed")
+"""
+FAILS_AT_FLUSH = """\
+    if word == b"flush":
+        print("fault 9 Device", "full", sep="\\n", file=sys.stderr)
+        sys.exit(4)
+"""
 
 
 class Checks(StoreTest):
@@ -975,8 +985,13 @@ class Opening(StoreTest):
         self.assertIsNone(store.pid)
         with self.store() as store:
             self.assertEqual(store.scan(), [(b"a", b"1")])
-        with self.store() as store:
-            self.assertEqual(store.stat().sequence, 2)  # a block without writes flushes nothing
+
+    def test_a_with_block_without_writes_does_not_flush(self) -> None:
+        program = self.program(ANSWERS_EACH_LINE + ENDS_AT_FLUSH)
+        with Store(self.path, program=program) as store:
+            store.get(b"a")
+        with self.assertRaisesRegex(StoreError, "flushed"), Store(self.path, program=program) as store:
+            store.batch([Unchecked(Get(b"a"))])  # of a class that may write
 
     def test_a_with_block_that_raises_does_not_flush(self) -> None:
         class Interrupt(Exception):
@@ -1060,6 +1075,23 @@ class Opening(StoreTest):
             with Store(path, program=PROGRAM) as store:
                 self.assertEqual(len(store.scan()), 6)
 
+    def test_a_file_that_another_process_creates_meanwhile_stays(self) -> None:
+        def create(path: Path) -> None:
+            path.write_bytes(b"ours")
+            self.path.write_bytes(b"theirs")
+
+        create_if_missing(self.path, create)
+        self.assertEqual(self.path.read_bytes(), b"theirs")
+
+    def test_an_empty_file_that_another_process_has_locked_stays(self) -> None:
+        with open(self.path, "wb") as file:
+            fcntl.flock(file, fcntl.LOCK_EX)
+            create_if_missing(self.path, lambda path: path.touch())
+            self.assertTrue(os.path.samestat(os.fstat(file.fileno()), self.path.stat()))
+            with self.assertRaises(Refused) as refused:
+                self.store(create="missing")
+        self.assertTrue(refused.exception.is_locked())
+
     def test_a_new_store_has_4096_segments_unless_told_otherwise(self) -> None:
         ways: list[Literal[True, "missing"]] = [True, "missing"]
         for create in ways:
@@ -1115,10 +1147,11 @@ class Opening(StoreTest):
     def test_a_program_is_found_again_from_another_folder(self) -> None:
         before = os.getcwd()
         self.addCleanup(os.chdir, before)
-        (self.folder / "bwsh").symlink_to(PROGRAM)
-        (self.folder / "elsewhere").mkdir()
-        search = unittest.mock.patch.dict(os.environ, {"PATH": "."})
-        programs: list[str | Path] = ["./bwsh", Path("elsewhere/../bwsh"), "bwsh"]
+        for name in ("programs", "elsewhere"):
+            (self.folder / name).mkdir()
+        (self.folder / "programs/bwsh").symlink_to(PROGRAM)
+        search = unittest.mock.patch.dict(os.environ, {"PATH": "programs"})
+        programs: list[str | Path] = ["programs/bwsh", Path("elsewhere/../programs/bwsh"), "bwsh"]
         for program in programs:
             os.chdir(self.folder)
             with search, Store("store", create=True, program=program) as store:
@@ -1187,7 +1220,10 @@ class Loads(StoreTest):
 
     def test_the_next_batch_is_sent_before_the_answer_to_the_one_before(self) -> None:
         store = Store(self.path, program=self.program(ANSWERS_ONE_BATCH_LATE))
+        watchdog = threading.Timer(taukremil.PATIENCE, kill, (store,))
+        watchdog.start()
         self.assertEqual(store.load([(b"%d" % number, b"") for number in range(25)], size=10), 25)
+        watchdog.cancel()
         self.assertEqual(store.unflushed, 3)
         store.close()
 

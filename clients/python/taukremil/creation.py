@@ -12,7 +12,8 @@ from pathlib import Path
 def create_if_missing(path: Path, create: Callable[[Path], None]) -> None:
     """Calls `create` with another path, and renames the new file to `path`, unless there is a file with bytes.
 
-    So a kill leaves no half of a store at `path`, and no process replaces a store that another one has created.
+    So a kill leaves no half of a store at `path`, and no process replaces a store that another one has created. The
+    file system needs hard links.
     """
     target = Path(os.path.realpath(path))
     if target.exists() and target.stat().st_size:

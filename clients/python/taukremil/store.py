@@ -369,15 +369,18 @@ class Store:
             program.check_nothing_left()
             self._unflushed += writing
             return found
-        except Ended as error:
-            unflushed = self._lose(error)
-            raise self._remember(error_of(*program.end(), unflushed)) from None
-        except Unexpected as error:
-            unflushed = self._lose(error)
+        except Ended:
+            unflushed = self._lose(StoreError("the program has ended"))
+            error = error_of(*program.end(), unflushed)
+            if unflushed:
+                self._lost = Lost.by(error, unflushed)
+            raise error from None
+        except Unexpected as unexpected:
+            unflushed = self._lose(StoreError(str(unexpected)))
             program.kill()
-            raise self._remember(StoreError(str(error), unflushed)) from None
-        except BaseException as error:
-            self._lose(error)
+            raise StoreError(str(unexpected), unflushed) from None
+        except BaseException as interrupt:
+            self._lose(interrupt)
             program.kill()
             raise
 
@@ -386,12 +389,6 @@ class Store:
         if self._unflushed:  # before they are forgotten, because a signal handler may raise in between
             self._lost = Lost.by(error, self._unflushed)
         return self._drop_program()
-
-    def _remember(self, error: StoreError) -> StoreError:
-        """Makes later calls report `error`, if batches were lost, and returns it."""
-        if error.unflushed:
-            self._lost = Lost.by(error, error.unflushed)
-        return error
 
 
 def _ask(program: Program, text: bytes, read: Callable[[NextLine], T]) -> T:
