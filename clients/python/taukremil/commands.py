@@ -5,7 +5,7 @@ from __future__ import annotations
 import operator
 from collections.abc import Callable, Iterable, Iterator, Sequence
 from dataclasses import dataclass
-from typing import Protocol, TypeVar, Union
+from typing import Generic, Protocol, TypeVar, Union
 
 from .header import LARGEST, Settings
 from .program import Unexpected
@@ -89,15 +89,23 @@ class Command(Protocol[T_co]):
         ...
 
 
-class _Checked(Command[T_co], Protocol[T_co]):
-    """Describes a command whose lengths are checked before it is sent."""
+class _Checked(Generic[T_co]):
+    """Is the base of the commands whose lengths are checked before they are sent.
+
+    It is no protocol, because `isinstance` would then take microseconds.
+    """
+
+    __slots__ = ()
 
     def text(self) -> bytes:
         return self.checked_text(LARGEST)
 
     def checked_text(self, settings: Settings) -> bytes:
         """Returns the line. Raises ValueError if a key or a value is too long for a store with `settings`."""
-        ...
+        raise NotImplementedError
+
+    def reply(self, line: NextLine) -> T_co:
+        raise NotImplementedError
 
 
 @dataclass(frozen=True, slots=True)

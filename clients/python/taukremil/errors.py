@@ -77,7 +77,8 @@ class Lost(StoreError):
     def __init__(self, unflushed: int, reason: str = "the program has ended", unless: str = "") -> None:
         self.reason = reason
         self.unless = unless
-        super().__init__(f"an earlier call failed ({reason}); reopen() continues with the last flushed store", unflushed)
+        advice = "reopen() continues with the last flushed store"
+        super().__init__(f"an earlier call failed ({reason}); {advice}", unflushed)
 
     def __reduce__(self) -> tuple[type[StoreError], tuple[object, ...]]:
         return type(self), (self.unflushed, self.reason, self.unless)
