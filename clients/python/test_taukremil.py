@@ -852,32 +852,34 @@ class Losses(StoreTest):
 
     def test_what_any_thread_saw_flushed_is_there_after_a_kill(self) -> None:
         store = self.store(create=True)
-        source = random.Random(7)
         durable: set[bytes] = set()
-        for run in range(10):
-            ends: list[type[BaseException]] = []
+        ends: list[type[BaseException]] = []
+        numbers = iter(range(1_000_000))
 
-            def work(run: int = run, ends: list[type[BaseException]] = ends) -> None:
-                put: set[bytes] = set()
-                try:
-                    for number in range(1_000_000):
-                        key = b"%d %d %d" % (run, threading.get_ident(), number)
-                        store.put(key, b"")
-                        put.add(key)
-                        if number % 20 == 19:
-                            store.flush()
-                            durable.update(put)
-                except StoreError as error:
-                    ends.append(type(error))
+        def work() -> None:
+            """Puts and flushes until an exception, which says that batches since the last flush are lost."""
+            thread, put = next(numbers), set[bytes]()
+            try:
+                for number in range(1_000_000):
+                    put.add(b"%d %d" % (thread, number))
+                    store.put(b"%d %d" % (thread, number), b"")
+                    if number % 20 == 19:
+                        store.flush()
+                        durable.update(put)
+            except (Killed, Lost) as error:
+                ends.append(type(error))
 
-            timer = threading.Timer(source.uniform(0.02, 0.1), kill, (store,))
-            timer.start()
-            run_threads(work, 4)
-            timer.join()
-            self.assertEqual(len(ends), 4)
-            self.assertEqual(ends.count(Killed), 1)
-            store.reopen()
-            self.assertLessEqual(durable, {key for key, _ in store.scan()})
+        killer = Killer(store, 7)
+        self.addCleanup(killer.stop)
+        for _ in range(10):
+            killer.is_due = True
+            run_threads(work, 4)  # after a kill without a loss, some go on until the next kill
+            killer.is_due = False
+            reopen_despite_kills(store)
+            self.assertLessEqual(durable, {key for key, _ in scan_despite_kills(store)})
+        killer.stop()
+        self.assertEqual(len(ends), 40)
+        self.assertEqual(set(ends), {Killed, Lost})
         self.assertGreater(len(durable), 100)
 
 
