@@ -765,16 +765,20 @@ class Losses(StoreTest):
                 flushed.append(store.flush())
             except StoreError as error:
                 raised.append(error)
+            finally:
+                half.set()
 
         thread = threading.Thread(target=put_and_flush)
         thread.start()
         half.wait()
+        met: type[Exception] | None = None
         try:
             lose(store)
         except Exception as error:
-            self.assertIs(type(error), expected)
+            met = type(error)
         done.set()
         thread.join()
+        self.assertIs(met, expected)
         self.assertEqual(flushed, [])
         (told,) = raised
         self.assertIs(type(told), Lost if expected else Killed)
