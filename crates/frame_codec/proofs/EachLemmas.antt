@@ -114,6 +114,13 @@ both-passed {X = X} {Y = Y} a b c d bs x following y rest h k =
     ∙ ap (λ (o : Option (Y × List ℕ)). read_where test (read_as (λ (w : Y). (x, w)) o)) second
     ∙ rw (passed, passed_too) refl
 
+-- what passes two tests passes the first
+where_first : {X : Type 0} (a b : X → Bool) (o : Option (X × List ℕ)) (x : X) (rest : List ℕ) → read_where (λ y. a y && b y) o ≡ Some (x, rest) → read_where a o ≡ Some (x, rest)
+where_first a b o x rest h =
+    let (is, both) = read_where-gave (λ y. a y && b y) o x rest h in
+    let (first, second) = and_parts (a x) (b x) both in
+    ap (read_where a) is ∙ rw first refl
+
 -- ---- entries
 
 pub not_true : (b : Bool) → (b ≡ true → ⊥) → b ≡ false
@@ -160,6 +167,14 @@ module _ {X : Type 0} (s : Settings) (short : X → Bool) (spelling : Spelling) 
       let falls : do_rise (keys_of all) ≡ false =
       not_true (do_rise (keys_of all)) (λ rise. let last = goes_last-rising built k v es ((decides-rising all).0 rise) in absurd (let wrong = sym h ∙ last in cc)) in
       fails_first (nat_le (length all) s.fan && do_rise (keys_of all)) (list_all is_entry all) (fails_last (nat_le (length all) s.fan) (do_rise (keys_of all)) falls)
+
+  bad_next : (built : List (List ℕ × X)) (e : List ℕ × X) (es : List (List ℕ × X)) → (is_entry e && goes_last e.0 built) ≡ false → are_entries s short (built ++ e ∷ es) ≡ false
+  bad_next built e es h = of (is_entry e) (goes_last e.0 built) refl refl h
+    where
+      of : (a b : Bool) → is_entry e ≡ a → goes_last e.0 built ≡ b → (a && b) ≡ false → are_entries s short (built ++ e ∷ es) ≡ false
+      of false b entry last h = bad_entry built e es entry
+      of true false entry last h = bad_order built e.0 e.1 es last
+      of true true entry last h = absurd (cc)
 
   module _ (low : List ℕ) (count : ℕ) (start : List ℕ) where
     -- what is read of all, where as many are read from these bytes
@@ -240,6 +255,19 @@ module _ {X : Type 0} (s : Settings) (short : X → Bool) (spelling : Spelling) 
           let (n, is) = one_left more in
           let (read, passed) = read_where-gave is_entry next_read (k, v) following h in
           next_is n is ∙ joined-refused (are_entries s short) built next_read (read_after n) (k, v) following read (λ es. bad_order built k v es falls)
+
+      -- the same of a run, which tests that each goes last
+      abbrev goes_next : List ℕ × X → Bool
+      goes_next e = is_entry e && goes_last e.0 built
+
+      pub read-next-last : (k : List ℕ) (v : X) (following : List ℕ) → at < count → read_where goes_next next_read ≡ Some ((k, v), following)
+          → IsReadUpTo (at + 1) (built ++ (k, v) ∷ []) following
+      read-next-last k v following more h = read-next k v following more (where_first is_entry (λ e. goes_last e.0 built) next_read (k, v) following h)
+
+      pub read-halts : at < count → read_where goes_next next_read ≡ None → read_entries ≡ None
+      read-halts more h =
+          let (n, is) = one_left more in
+          next_is n is ∙ joined-ends (are_entries s short) built next_read (read_after n) goes_next (λ e es. bad_next built e es) h
 
       pub read-done : count ≤ at → count ≤ s.fan → IsRising built → read_entries ≡ Some (built, now)
       read-done done few rising =

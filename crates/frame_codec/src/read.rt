@@ -1,7 +1,8 @@
 //! Frames read from bytes, whatever these are. Nothing is held but what a frame keeps, and no more entries than `fan`.
-ghost use Rattle.std.specs.Prelude.{◌≡◌, ◌≤◌, ◌&&◌, length, drop, None, Some, IfOk, IfSome, MatchOption};
+ghost use Rattle.std.specs.Prelude.{◌≡◌, ◌≤◌, ◌&&◌, [], ◌∷◌, ◌++◌, Option, length, drop, None, Some, IfOk, IfSome, MatchOption};
 ghost use Rattle.keys.specs.Bytes.{Bytes, Pairs};
 ghost use Rattle.keys.specs.Cells.{read_as, read_where, counted, value_cell, pid_cell};
+ghost use Rattle.delta_chain.specs.Building.{goes_last};
 ghost use Rattle.frame_codec.specs.declared.format.Spelling.TheVariants.{Shared};
 ghost use Rattle.frame_codec.specs.Codecs.{both, read_each, flagged, sharing};
 ghost use Rattle.frame_codec.specs.Frame.{read_base, full, delta, bytes_of, is_key, are_entries, is_full, is_run, is_known, is_allowed};
@@ -42,27 +43,6 @@ fn read_entry<'a, V: FrameCell>(
         return Ok(None);
     };
     Ok(Some((key, cell, rest)))
-}
-
-// The change of a run at the front, if a frame may have it, with the bytes after it.
-fn read_change<'a, V: FrameCell>(
-    alloc: Global,
-    bytes: &'a [u8],
-    settings: &Settings,
-) -> Result<Option<(&'a [u8], Option<V>, &'a [u8])>, AllocError>
-    ensures { let read =
-        read_where (λ e. is_key settings.now e.0 && of_cell (V.is_short settings.now) e.1)
-        ((both counted (flagged V.codec)).read bytes.now) in
-        IfOk result
-        (λ found. MatchOption found (read ≡ None) (λ p. read ≡ Some ((p.0.now, p.1), p.2.now))) }
-{
-    let Some((key, rest)) = read_key(bytes, settings) else {
-        return Ok(None);
-    };
-    let Some((change, rest)) = read_flagged(alloc, rest, settings)? else {
-        return Ok(None);
-    };
-    Ok(Some((key, change, rest)))
 }
 
 // As many entries as this, in a base of its own, with the bytes after them.
@@ -165,6 +145,34 @@ fn read_base<'a, V: FrameCell>(
     }
 }
 
+// Appends the change at the front to the run, if a frame may have it there, and returns the bytes after it.
+fn push_change<'a, V: FrameCell>(
+    alloc: Global,
+    run: &mut Run<V, Global>,
+    bytes: &'a [u8],
+    settings: &Settings,
+) -> Result<Option<&'a [u8]>, AllocError>
+    ensures { let test =
+        λ (e : Bytes × Option V). (is_key settings.now e.0 && of_cell (V.is_short settings.now) e.1)
+        && goes_last e.0 run.old in
+        let read = read_where test ((both counted (flagged V.codec)).read bytes.now) in
+        IfOk result
+        (λ found. MatchOption found (read ≡ None) (λ rest. (e : Bytes × Option V)
+        × (read ≡ Some (e, rest.now)) × (run.new ≡ run.old ++ e ∷ []))) }
+{
+    let Some((key, rest)) = read_key(bytes, settings) else {
+        return Ok(None);
+    };
+    let Some((change, rest)) = read_flagged(alloc, rest, settings)? else {
+        return Ok(None);
+    };
+    match run.push(Key::from_bytes(alloc, key)?, change) {
+        Ok(()) => Ok(Some(rest)),
+        Err(PushError::OutOfOrder) => Ok(None),
+        Err(PushError::NoMemory) => Err(AllocError),
+    }
+}
+
 // As many changes as this, in a run of its own, with the bytes after them.
 fn read_run<'a, V: FrameCell>(
     alloc: Global,
@@ -183,14 +191,10 @@ fn read_run<'a, V: FrameCell>(
     let mut run = Run::with_capacity(alloc, count)?;
     let mut rest = bytes;
     for _at in 0..count {
-        let Some((key, change, following)) = read_change(alloc, rest, settings)? else {
+        let Some(following) = push_change(alloc, &mut run, rest, settings)? else {
             return Ok(None);
         };
-        match run.push(Key::from_bytes(alloc, key)?, change) {
-            Ok(()) => rest = following,
-            Err(PushError::OutOfOrder) => return Ok(None),
-            Err(PushError::NoMemory) => return Err(AllocError),
-        }
+        rest = following;
     }
     let _in_order = run.len();
     Ok(Some((run, rest)))

@@ -1,6 +1,6 @@
 //! The keys at which a batch's scans may end, since before them there are certainly as many rows as each may have. So a scan
 //! goes only to the leaves before its end, and not to each that its range meets.
-ghost use Rattle.std.specs.Prelude.{◌≡◌, ◌≤◌, true, Some, map, min, IfOk, IfSome};
+ghost use Rattle.std.specs.Prelude.{◌≡◌, ◌≤◌, [], true, Some, map, min, IfOk, IfSome};
 ghost use Rattle.std.specs.Map.{keys_of};
 ghost use Rattle.std.specs.Option.{option_copied};
 ghost use Rattle.keys.specs.Bytes.{Bytes, Pairs};
@@ -13,7 +13,7 @@ ghost use Rattle.mapping.specs.Tree.{most_levels};
 ghost use Rattle.mapping.specs.TreeInMemory.{AreAllHome, tree_of};
 ghost use Rattle.scan.specs.Ends.{LacksAtMost, AreCertain, later, named_below};
 ghost use Rattle.scan.specs.Ends as ends;
-ghost use Rattle.scan.specs.Taken.{IsTaken, IsTakenBelow};
+ghost use Rattle.scan.specs.Taken.{AreReady, IsTaken, IsTakenBelow};
 
 use crate::ahead::place_from;
 use crate::leaves::Leaves;
@@ -47,9 +47,29 @@ pub fn scan_ends<'a>(
         return Ok(Vec::new(alloc));
     }
     let mut taken = Taken::before_all(alloc, commands)?;
+    all_ends(alloc, tree, commands, &mut taken)
+}
+
+// The key at which each command may end, where it is a scan. Nothing has been taken away before the first.
+fn all_ends<'a>(
+    alloc: Global,
+    tree: &'a Tree<Global>,
+    commands: &[Command<Global>],
+    taken: &mut Taken<'_>,
+) -> Result<Vec<Option<&'a [u8]>>, AllocError>
+    requires home { AreAllHome tree.now }
+    requires height { tree.now.height ≤ most_levels }
+    requires held { HoldsItsLevels (tree_of tree.now) }
+    requires levels { AreLevels (levels_of (tree_of tree.now)) }
+    requires none { IsTaken ([], []) taken.old }
+    requires ready { AreReady commands.now taken.old }
+    ensures { IfOk result
+        (λ ends. MayEndAtAll (keys_of (names (levels_of (tree_of tree.now)).level))
+        (contents (tree_of tree.now)) commands.now (map option_copied ends.items)) }
+{
     let mut ends = Vec::with_capacity(alloc, commands.len())?;
     for command in commands {
-        ends.push(end_of(alloc, tree, command, &taken))?;
+        ends.push(end_of(alloc, tree, command, taken))?;
         taken.note(command);
     }
     Ok(ends)

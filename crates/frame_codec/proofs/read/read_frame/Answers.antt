@@ -1,8 +1,16 @@
 use Rattle.std.proofs.Common.{arith}
 use Rattle.frame_codec.specs.Shown.{frame_of}
-use Rattle.frame_codec.proofs.FoundLemmas.{IsReadOf, bytes-fit, content-found, length-wrong, frame-answered}
+use Rattle.frame_codec.proofs.FoundLemmas.{IsReadOf, bytes-fit, header-none, content-none, content-found, length-wrong, frame-answered}
 use Rattle.frame_codec.proofs.SkimLemmas.{body-within}
 use Rattle.frame_codec.proofs.read.read_frame.Goals as goal
+
+pub returns-in_default-clause-found : goal.returns-in_default-clause-found
+returns-in_default-clause-found c = header-none c.args.format.now c.args.bytes.now c.in_default.ensures.header
+
+pub returns-in_default-2-clause-found : goal.returns-in_default-2-clause-found
+returns-in_default-2-clause-found c =
+    content-none c.args.format.now c.args.bytes.now c.in-Some.kind c.in-Some.len c.in-Some.pid c.in-Some.content.now
+    (bytes-fit c.args.bytes.now c.type_inv.bytes) c.in-Some.ensures.header (rw c.in_default-2.is at c.in_ok-frame.ensures)
 
 pub frame_size-requires-clause-following : goal.frame_size-requires-clause-following
 frame_size-requires-clause-following c =

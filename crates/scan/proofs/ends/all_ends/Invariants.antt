@@ -6,7 +6,7 @@ use Rattle.mapping.specs.Levels.{levels_of, names, contents}
 use Rattle.mapping.specs.TreeInMemory.{tree_of}
 use Rattle.scan.specs.Ends.{deleted, wiped}
 use Rattle.scan.specs.Taken.{IsTaken, AreReady}
-use Rattle.scan.proofs.ends.scan_ends.Given as goal
+use Rattle.scan.proofs.ends.all_ends.Given as goal
 
 -- there is an end for each command so far, and what these take away is counted
 abbrev pub invariant-loop-command : goal.invariant-loop-command
