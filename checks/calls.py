@@ -149,6 +149,30 @@ def stay_empty(programs: Programs, library: Path, name: str) -> Outcome:
     return Outcome()
 
 
+# An example that opens its store when it starts, and a line that it answers.
+OPENS, LINE, ANSWER = "put_then_get", b"a one\n", b"a is one\n"
+OPENING = ("open", "hold", "length", "sync", "read")  # the calls by which it opens the store of a file
+
+
+def fail_to_open(programs: Programs, library: Path) -> Outcome:
+    """Fails each call by which an example opens its store. The example must report the failure, and must not change the file."""
+    program = programs.examples / OPENS
+    if not program.is_file():
+        return Outcome(left_out="it is not built")
+    with new_folder() as folder:
+        file = Path(folder) / "store"
+        if wrong := differs(run([program, file], LINE, Limits(stack=256)), 0, ANSWER):
+            return Outcome(wrong)
+        before = file.read_bytes()
+        for call in OPENING:
+            environment = FailingCalls(call, cuts=True).environment(library, file)
+            ran = run([program, file], LINE, Limits(stack=256), environment=environment)
+            wrong = differs(ran, 1, b"", b"Error: the file of the store: Input/output error (os error 5)\n")
+            if wrong or file.read_bytes() != before:
+                return Outcome(f"{call}: {wrong or 'the file has other bytes'}")
+    return Outcome()
+
+
 # ---- An old file.
 
 READS, ANSWERS = b"get a\nput b 2\nverify\n", b"value 1\nnew\nok 1 1 2\n"
@@ -351,6 +375,7 @@ def cases(programs: Programs, library: Path) -> list[Case]:
         *(Case(name, fail_streams, (*arguments, name)) for name in STREAMS),
         Case("making anew fails", fail_to_create, arguments),
         *(Case(f"a file without its new store is empty, {name}", stay_empty, (*arguments, name)) for name in EXAMPLES),
+        Case(f"a file whose store is not opened stays, {OPENS}", fail_to_open, arguments),
         *(
             Case(f"calls of a file fail: {fails.call}, error {fails.error}, on {text!r}", fail_on_old_file, (*arguments, fails, text, out, err))
             for fails, text, out, err in ON_OLD_FILE

@@ -1,5 +1,5 @@
 -- Why the store of a file isn't opened.
-use Rattle.std.proofs.Common.{◌≡◌, ◌≢◌, ◌⊎◌, inl, inr, ⊎_elim, ℕ, ◌<◌, ◌-◌, ◌^◌, false, Option, None, Some, Err, arith}
+use Rattle.std.proofs.Common.{◌≡◌, ◌≢◌, ◌⊎◌, inl, inr, ⊎_elim, subst, ℕ, ◌<◌, ◌-◌, ◌^◌, false, Option, None, Some, Ok, Err, arith}
 use Rattle.std.specs.Prelude.{IsSome, MatchOption}
 use Rattle.std.specs.declared.io.Error.{Error}
 use Rattle.keys.specs.Bytes.{Bytes}
@@ -7,7 +7,10 @@ use Rattle.keys.specs.declared.fault.Fault.{Fault}
 use Rattle.keys.specs.declared.fault.Fault.TheVariants.{Device}
 use Rattle.recovery.specs.Recovered.{IsLate}
 use Rattle.recovery.specs.StoreOfDisk.{store_of_disk}
-use Rattle.engine.specs.FileStore.{IsFaultOfFile}
+use Rattle.engine.specs.FileStore.{IsFaultOfFile, IsOldStore, IsStoreFound}
+use Rattle.engine.specs.State.{State}
+use Rattle.engine.specs.declared.file_store.Found.{Found}
+use Rattle.engine.specs.declared.file_store.Found.TheVariants as found
 use Rattle.engine.specs.declared.file_store.OpenFault.{OpenFault}
 use Rattle.engine.specs.declared.file_store.OpenFault.TheVariants.{File, Store}
 
@@ -22,6 +25,10 @@ of_bytes file fault reason reported is (inl (device, by)) = by_reason reason by 
   by_reason : (reason : Option Error) → MatchOption reason (reported ≡ Store fault) (λ r. reported ≡ File r) → IsFaultOfFile reported
   by_reason None e = rw e (inr (file, is))
   by_reason (Some r) e = rw e tt
+
+-- the store that was found on a disk is the one that the bytes encode
+pub of_found : {D : Type 0} (file : Bytes) (f : Found D) (x : State D) → f ≡ found.Store x → IsStoreFound (λ x. store_of_disk file ≡ Ok (x.settings, x.store)) f → IsOldStore x
+of_found file f x e is = (file, subst (IsStoreFound (λ x. store_of_disk file ≡ Ok (x.settings, x.store))) e is)
 
 -- memory was refused, or a call of the disk failed, which has a reason then
 module _ (old new : ℕ) (fault : Fault) (reported : OpenFault) where

@@ -1,8 +1,12 @@
 //! Stores in files of the system.
-ghost use Rattle.std.specs.Prelude.{◌≡◌, ◌≢◌, ◌⊎◌, None, Err, IsTrue, IfOk, MatchOption, MatchResult, false};
+ghost use Rattle.std.specs.Prelude.{◌≡◌, ◌≢◌, ◌⊎◌, None, Ok, Err, IsTrue, IfOk, MatchOption, MatchResult, false};
+ghost use Rattle.keys.specs.Bytes.{Bytes};
 ghost use Rattle.keys.specs.Limits.{first_bad_field};
 ghost use Rattle.crew.specs.Crew.{is_crew};
-ghost use Rattle.engine.specs.FileStore.{IsStoreOfFile, IsFaultOfFile};
+ghost use Rattle.flush_log.specs.Disk.{IsSettled};
+ghost use Rattle.recovery.specs.Recovered.{IsReadOf, IsLate};
+ghost use Rattle.recovery.specs.StoreOfDisk.{store_of_disk};
+ghost use Rattle.engine.specs.FileStore.{IsStoreOfFile, IsNewStore, IsOldStore, IsStoreFound, IfStoreFound, IsFaultOfFile};
 ghost use Rattle.engine.specs.declared.file_store.OpenFault.TheVariants.{Locked};
 ghost use Rattle.engine.specs.declared.file_store.OpenFault.TheVariants as open_fault;
 
@@ -84,7 +88,8 @@ fn new_store<F: Read + Write + Seek + OpenFile + LockFile + Drop>(
     settings: Settings,
 ) -> Result<Store<FileDisk<F>>, OpenFault>
     requires good { first_bad_field settings ≡ None }
-    ensures opened { MatchResult result (IsStoreOfFile settings) IsFaultOfFile }
+    requires empty { (⟦<FileDisk<F> as Disk>⟧.view disk).size ≡ 0 }
+    ensures made { MatchResult result (IsNewStore settings) IsFaultOfFile }
     ensures fine { IfOk result (λ store. store.has_failed ≡ false) }
 {
     let disk = disk.zeroed(disk_size(&settings))?;
@@ -98,19 +103,58 @@ fn new_store<F: Read + Write + Seek + OpenFile + LockFile + Drop>(
     }
 }
 
-// The store that the disk of a file holds.
-fn old_store<F: Read + Write + Seek + OpenFile + LockFile + Drop>(
+/// What a disk is found to hold.
+#[derive(Drop)]
+pub(crate) enum Found<D: Disk> {
+    /// The store that its bytes encode.
+    Store(Store<D>),
+    /// No bytes.
+    Nothing(D),
+}
+
+// Opens the store of a disk that has bytes, as `Store::open` does. Of a file no clause says which bytes it has, or that they are synced;
+// so this is written for any disk.
+fn find_store<D: Disk>(
+    rt: &(impl Threads + Sync),
+    alloc: Global,
+    disk: D,
+    crew: Crew,
+) -> Result<Found<D>, (Fault, D)>
+    requires crew { IsTrue (is_crew crew) }
+    ensures nothing { (D.view disk).size ≡ 0 → result ≡ Ok (Found.Nothing disk) }
+    ensures read { (D.view disk).size ≢ 0 →
+        (file : Bytes) × IsReadOf (D.view disk) file
+        × MatchResult result
+        (IsStoreFound (λ x. store_of_disk file ≡ Ok (x.settings, x.store)))
+        (λ e. (store_of_disk file ≡ Err e.0) ⊎ IsLate (D.failed disk) (D.failed e.1) e.0) }
+    ensures settled { (D.view disk).size ≢ 0 → IsTrue (D.view disk).is_honest →
+        IfOk result (IsStoreFound (λ x. IsSettled (D.view x.disk))) }
+    ensures fine { IfOk result (IfStoreFound (λ x. x.has_failed ≡ false)) }
+{
+    if disk.len() == 0 {
+        return Ok(Found::Nothing(disk));
+    }
+    Ok(Found::Store(Store::open(rt, alloc, disk, crew)?))
+}
+
+// The store of a file that is held: a new one if the file has no bytes, and otherwise the one that its bytes encode.
+fn store_of<F: Read + Write + Seek + OpenFile + LockFile + Drop>(
     rt: &(impl AllocGlobal + Threads + Sync),
     crew: Crew,
     disk: FileDisk<F>,
     settings: Settings,
 ) -> Result<Store<FileDisk<F>>, OpenFault>
     requires crew { IsTrue (is_crew crew) }
-    ensures opened { MatchResult result (IsStoreOfFile settings) IsFaultOfFile }
+    requires good { first_bad_field settings ≡ None }
+    ensures new { (⟦<FileDisk<F> as Disk>⟧.view disk).size ≡ 0 →
+        MatchResult result (IsNewStore settings) IsFaultOfFile }
+    ensures old { (⟦<FileDisk<F> as Disk>⟧.view disk).size ≢ 0 →
+        MatchResult result IsOldStore IsFaultOfFile }
     ensures fine { IfOk result (λ store. store.has_failed ≡ false) }
 {
-    match Store::open(rt, rt.alloc(), disk, crew) {
-        Ok(store) => Ok(store),
+    match find_store(rt, rt.alloc(), disk, crew) {
+        Ok(Found::Store(store)) => Ok(store),
+        Ok(Found::Nothing(disk)) => new_store(rt.alloc(), disk, settings),
         Err(refused) => Err(with_reason(refused.0, refused.1.last_error())),
     }
 }
@@ -148,9 +192,5 @@ where
     let mut how = OpenOptions::new();
     how.read(true).write(true).create(true);
     let disk = FileDisk::of_file(how.open(rt, path)?)?;
-    if disk.len() == 0 {
-        new_store(rt.alloc(), disk, settings)
-    } else {
-        old_store(rt, crew, disk, settings)
-    }
+    store_of(rt, crew, disk, settings)
 }
