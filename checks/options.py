@@ -100,7 +100,7 @@ EXPLAINED: list[tuple[tuple[str, ...], bytes, bytes | None, bytes, bytes]] = [
         None,
         b"fault 10 Full\n",
         b"line 36: The log has no room for the flush. A line clean in front of it makes room, as --clean-when-full does. "
-        b"If all of the log is in use, copy the store with --copy-to to a file with a larger log.\n",
+        b"If all of the log is in use, copy the store with --copy-to to a file with more --segments.\n",
     ),
 ]
 

@@ -148,7 +148,7 @@ fn order_rule(fault: &Fault) -> &'static str {
         Fault::NoMemory => "There was not enough memory to run it. Smaller batches need less.",
         Fault::Full => {
             "The log has no room for the flush. A line clean in front of it makes room, as --clean-when-full does. \
-            If all of the log is in use, copy the store with --copy-to to a file with a larger log."
+            If all of the log is in use, copy the store with --copy-to to a file with more --segments."
         }
         Fault::NothingToClean => "The log is in one segment, so there is nothing to clean.",
         Fault::AlreadyUpgraded => "The log has version 2 already.",

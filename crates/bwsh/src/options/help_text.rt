@@ -5,7 +5,7 @@ pub const ABOUT: &str =
 
 pub const FAN: &str = "Entries of a page before it splits, 4 to 64";
 
-pub const CHAIN: &str = "Runs on a page before they are merged into it, 1 to 16";
+pub const CHAIN: &str = "Lists of changes on a page before they are merged into it, 1 to 16";
 
 pub const MAX_KEY: &str = "Longest key in bytes, 1 to 255";
 
@@ -13,17 +13,17 @@ pub const MAX_VALUE: &str = "Longest value in bytes, 0 to 1024";
 
 pub const SEG_SIZE: &str = "Bytes of a log segment, 256 to 1048576; must hold a full page";
 
-pub const SEGMENTS: &str = "Segments of the log, 3 to 65536";
+pub const SEGMENTS: &str = "Segments of the log, 3 to 65536; they are fixed when the store is created";
 
 pub const WORKERS: &str = "Threads that work on a batch, 1 to 64";
 
 pub const GRAIN: &str = "Pages that a thread claims at a time, 1 to 65535";
 
-pub const TIDY: &str = "Emptied leaves to merge after each flush, at most";
+pub const TIDY: &str = "Emptied pages to merge after each flush, at most";
 
 pub const DISK: &str = "File of the store; without it the store is in memory, and is lost at exit";
 
-pub const COPY_TO: &str = "Copies the store to this new or empty file after all orders";
+pub const COPY_TO: &str = "Copies the store to this new or empty file after all lines";
 
 pub const CREATE: &str = "Creates the file of the store; what the file held is lost";
 
@@ -48,7 +48,7 @@ Lines of a batch file:
   del K             Deletes K
   scan LO HI LIMIT  Reads at most LIMIT pairs from LO up to, but not including, HI; * is no bound
   wipe LO HI        Deletes the keys from LO up to, but not including, HI
-  go                Runs the commands since the last batch as one batch; the next four do so first
+  go                Runs the commands since the last batch as one batch; the four lines below do so first
   flush             Writes all changes to the log; only flushed changes survive the program
   clean             Frees the first segment of the log
   upgrade           Flushes, and upgrades the log to version 2 (compressed keys); irreversible
