@@ -46,9 +46,9 @@ impl fmt::Display for Counts {
 #[derive(Clone, Copy, Debug, PartialEq, Eq)]
 pub enum LineEffect {
     Nothing,
-    /// An order, but no batch.
+    /// An order that is no batch.
     Order,
-    /// A batch, and perhaps an order after it.
+    /// A batch, and perhaps another order after it.
     Batch,
 }
 
@@ -196,8 +196,8 @@ impl Progress {
         }
     }
 
-    /// Counts a completed order. Shows this count and `read`, the number of orders in the input, at
-    /// most once a second.
+    /// Counts a completed order (a batch is one, too). Shows this count and `read`, the number of
+    /// orders in the input, at most once a second.
     pub fn order_done<R: Clock, E: Write>(&mut self, rt: &R, read: usize, err: &mut E)
         ensures { Shows E.contents self.old.is_shown err.old self.new.is_shown err.new }
     {

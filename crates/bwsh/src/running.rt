@@ -1,4 +1,5 @@
-//! Running orders on a store. Each order is answered before the next one runs.
+//! Running the orders of a session (batches, flushes and the like) on a store. Each is answered
+//! before the next one runs.
 ghost use Rattle.std.specs.Prelude.{false, true, IsTrue, ◌≡◌, ◌≢◌, ◌⊎◌, [], ◌∷◌, Some, Err, IfOk, IfSome, None, OnOk};
 ghost use Rattle.std.specs.Option.{option_map};
 ghost use Rattle.crew.specs.Crew.{is_crew};

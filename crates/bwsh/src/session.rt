@@ -493,7 +493,7 @@ where
 
     // The exit status and the output are those defined for this command line and this input, unless
     // an allocation or a device fails. Standard error gets the report of an error, or a prefix of
-    // it. No clause says how a fault other than 9 is reported.
+    // it. Clauses say what the report is only for a bad line and for fault 9.
     ensures ends { EndsReported (map string_bytes words.now)
         (I.remaining input.old) (O.contents out.old) (O.contents out.new)
         (E.contents err.old) (E.contents err.new)

@@ -1,5 +1,5 @@
-//! A stream: lines are read one at a time, and each batch or order is run and answered before the
-//! next line is read.
+//! A stream: lines are read one at a time, and each order is run and answered before the next line
+//! is read.
 ghost use Rattle.std.specs.Prelude.{◌≡◌, ◌⊎◌, [], ◌∷◌, ◌++◌, false, IsTrue, IfOk, IfErr, IfSome, None, OnOk};
 ghost use Rattle.std.specs.Option.{option_map};
 ghost use Rattle.std.specs.Io.KnownBytes.{Keeps};

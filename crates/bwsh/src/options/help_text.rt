@@ -46,7 +46,7 @@ Lines of a batch file:
   add K V           Stores V under K unless K exists
   get K             Reads the value of K
   del K             Deletes K
-  scan LO HI LIMIT  Reads at most LIMIT pairs from LO up to, but not including, HI; * is no bound
+  scan LO HI LIMIT  Reads at most LIMIT pairs from LO up to, but not including, HI
   wipe LO HI        Deletes the keys from LO up to, but not including, HI
   go                Runs the commands since the last batch as one batch; the four lines below do so first
   flush             Writes all changes to the log; only flushed changes survive the program
@@ -54,6 +54,7 @@ Lines of a batch file:
   upgrade           Flushes, and upgrades the log to version 2 (compressed keys); irreversible
   verify            Checks the whole tree
   # ...             A comment
+HI may be *, which is no bound; LO may be %, which is the least key, the empty one.
 Keys and values are words of printable ASCII; %XX is a byte in hexadecimal, and % alone is the empty string.
 
 Exit status:
