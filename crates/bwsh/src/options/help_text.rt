@@ -54,7 +54,7 @@ Lines of a batch file:
   upgrade           Flushes, and upgrades the log to version 2 (compressed keys); irreversible
   verify            Checks the whole tree
   # ...             A comment
-HI may be *, which is no bound; LO may be %, which is the least key, the empty one.
+HI may be *, which is no bound; LO may be %, the least key.
 Keys and values are words of printable ASCII; %XX is a byte in hexadecimal, and % alone is the empty string.
 
 Exit status:
