@@ -1,5 +1,5 @@
 #!/usr/bin/env python3
-"""Measures the speedup by more workers, by the clock. README.md describes the measurement and how to build the program."""
+"""Measures the speedup by more workers, by the clock. README.md describes the measurement."""
 
 import argparse
 import itertools

@@ -2,9 +2,7 @@
 """Measures the engine against its performance goals and its peers, and writes the figures to files. README.md describes the measurement."""
 
 import argparse
-import contextlib
 import datetime
-import io
 import itertools
 import json
 import os
@@ -12,7 +10,7 @@ import subprocess
 import sys
 import tempfile
 import time
-from collections.abc import Callable, Iterable, Iterator, Mapping, Sequence
+from collections.abc import Iterable, Iterator, Mapping, Sequence
 from pathlib import Path
 from typing import Any
 
@@ -327,34 +325,12 @@ def print_goals(figures: Figures) -> None:
     print_table([UNIT, PEER, *(head for name in SETTINGS for head in (name, "is, of what is wanted"))], rows)
 
 
-def shown_tables(figures: Figures) -> dict[str, str]:
-    tables: dict[str, tuple[Callable[[Figures], None], Figures]] = {"goals": (print_goals, figures)}
+def print_tables(figures: Figures) -> None:
+    print_goals(figures)
     if "persistent" in figures:
-        tables["stores"] = persistent.show_stores, figures["persistent"]
-    shown = {}
-    for name, (show, taken) in tables.items():
-        printed = io.StringIO()
-        with contextlib.redirect_stdout(printed):
-            show(taken)
-        shown[name] = printed.getvalue().strip()
-    return shown
-
-
-def as_in_readme(line: str) -> str:
-    return line.removeprefix("| ").removesuffix(" |").removeprefix("|").removesuffix("|") if line.startswith("|") else line
-
-
-def write_readme(shown: Mapping[str, str]) -> None:
-    """Replaces the tables in the README, each between two comments with its name."""
-    path = HERE / "README.md"
-    text = path.read_text()
-    for name, tables in shown.items():
-        start, end = f"<!-- {name} -->\n", f"<!-- end of {name} -->"
-        before, _, rest = text.partition(start)
-        _, _, after = rest.partition(end)
-        tables = "\n".join(as_in_readme(line) for line in tables.splitlines())
-        text = f"{before}{start}\n{tables}\n\n{end}{after}"
-    path.write_text(text)
+        print()
+        persistent.show_stores(figures["persistent"])
+        persistent.show_beside(figures["persistent"])
 
 
 def arguments() -> argparse.Namespace:
@@ -369,7 +345,6 @@ def arguments() -> argparse.Namespace:
     parser.add_argument("--figures", type=Path, default=HERE / "goals.json", help="file for the figures")
     parser.add_argument("--plot", type=Path, default=HERE / "goals.svg", help="file for the plot")
     parser.add_argument("--note", default="", help="a remark that is printed with the figures")
-    parser.add_argument("--readme", action="store_true", help="also update the tables in README.md")
     parser.add_argument("--show", action="store_true", help="do not measure; print and draw the existing figures")
     return parser.parse_args()
 
@@ -380,12 +355,7 @@ def main() -> None:
         exit_if_missing(options.program)
         measure(options)
     figures = json.loads(options.figures.read_text())
-    shown = shown_tables(figures)
-    print("\n\n".join(shown.values()))
-    if "persistent" in figures:
-        persistent.show_beside(figures["persistent"])
-    if options.readme:
-        write_readme(shown)
+    print_tables(figures)
     options.plot.write_text(plot.goals(figures, list(SETTINGS)))
 
 

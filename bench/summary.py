@@ -1,4 +1,3 @@
-# Draws summary.svg from goals.json, and writes the same figures into README.md as a table of ten rows.
 """Draws summary.svg from the figures in goals.json, and puts the same figures into README.md as a table of ten rows."""
 
 import json
