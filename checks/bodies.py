@@ -2,11 +2,10 @@
 
     python3 -m checks.bodies [CRATE | CRATE/NAME ..]    # at the top of a repository whose libraries the gate has built
 
-Each file `bodies/CRATE/NAME.edit` changes the body of one function. Its first line describes the change. `file:` names the source; each `old:` is
-a text that occurs there once, and `new:` replaces it. `function:` is the function's name as the prover prints it. `refused:` is the goal or clause
-at which the prover must refuse the function. `accepted:` marks a control, which the prover must accept.
-
-Only the changed functions and their callees are checked. Edits of different functions in one crate share a check.
+Each file `bodies/CRATE/NAME.edit` changes the body of one function, and describes the change in its first line. `file:` names the source; each
+`old:` is a text that occurs there once, and `new:` replaces it. `function:` is the function's name as the prover prints it. `refused:` is the goal
+or clause at which the prover must refuse the function, and `accepted:` marks a control, which it must accept. Only the changed functions and their
+callees are checked.
 """
 
 import os
@@ -24,22 +23,20 @@ from tools import kit
 
 TOP = Path(__file__).resolve().parent.parent
 EDITS = Path(__file__).resolve().parent / "bodies"
-PARTS = ("src", "specs", "proofs")  # of a crate
+PARTS = ("src", "specs", "proofs")
 # An error at a proof step that cites a name which the edit removed.
 OF_FORM = re.compile(r"has no field|is not in scope|has no `|was not admitted|depends on")
 
 
 @dataclass(frozen=True)
 class Edit:
-    """A changed function. Without a `goal` it is a control, which must be accepted."""
-
     crate: str
     name: str
     reason: str
     file: str
     changes: tuple[tuple[str, str], ...]
     function: str
-    goal: str | None
+    goal: str | None  # None for a control
 
     @property
     def is_control(self) -> bool:
@@ -50,7 +47,7 @@ class Edit:
         return f"{self.crate}/{self.name}"
 
     def apply(self, folder: Path) -> str | None:
-        """Applies the edit to a copy of the crate. Returns an error text if it does not apply."""
+        """Returns an error if the edit does not apply."""
         path = folder / self.file
         text = path.read_text()
         for old, new in self.changes:
@@ -63,11 +60,9 @@ class Edit:
 
 @dataclass(frozen=True)
 class Verdict:
-    """Whether the prover answered as the edit expects, and the processor seconds of the check, which other edits may share."""
-
     edit: Edit
     wrong: str | None
-    seconds: float = 0
+    seconds: float = 0  # of the processor; edits of different functions share a check
 
 
 def read_edit(path: Path) -> Edit:
@@ -92,7 +87,6 @@ def all_edits() -> list[Edit]:
 
 
 def groups_of(edits: list[Edit]) -> list[list[Edit]]:
-    """Groups a crate's edits of different functions for shared checks."""
     groups: list[list[Edit]] = []
     for edit in edits:
         group = next((group for group in groups if fits(edit, group)), None)
@@ -108,7 +102,7 @@ def fits(edit: Edit, group: list[Edit]) -> bool:
 
 
 def run_check(workspace: kit.Workspace, crate: str, folder: Path, kept: Path, functions: list[str]) -> tuple[int, str, float]:
-    """Returns the prover's exit status, what it prints, and its processor seconds."""
+    """Returns the prover's exit status, output and processor seconds."""
     names = [word for function in functions for word in ("--only", function)]
     words: list[str | Path] = [kit.RATTLE, "check", *workspace.check_words(crate), "--incremental", kept, *names]
     pipe, errors, nothing = subprocess.PIPE, subprocess.STDOUT, subprocess.DEVNULL
@@ -120,7 +114,6 @@ def run_check(workspace: kit.Workspace, crate: str, folder: Path, kept: Path, fu
 
 
 def error_of(edit: Edit, status: int, printed: str) -> str | None:
-    """Returns why the prover's answer is not the one that the edit expects, or None."""
     full_name = f"fn {edit.crate}::{edit.function}"
     line = next((line for line in printed.splitlines() if line.startswith(f"{full_name}:")), None)
     if line is None:
@@ -137,8 +130,8 @@ def error_of(edit: Edit, status: int, printed: str) -> str | None:
 
 
 def refusals_of(edit: Edit, line: str, printed: str) -> list[str]:
-    """Returns the goals that the prover could not prove, and those whose proof fails. Steps that cite a name which the edit removed do not count:
-    they say nothing about a contract."""
+    """Returns the goals that were not proved. Proof steps that cite a name which the edit removed do not count: they say nothing about a
+    contract."""
     found = re.search(r"did not prove ((?:`[^`]+`(?:, )?)+)", line)
     goals = re.findall(r"`([^`]+)`", found[1]) if found else []
     folder = f"proofs/{edit.function.replace('::', '/')}/"
@@ -171,7 +164,7 @@ def chosen(edits: list[Edit], names: list[str]) -> list[Edit]:
 
 
 def check_all(names: list[str], lanes: int) -> tuple[int, int]:
-    """Checks the named edits, or all, several crates in parallel. Prints a line for each. Returns how many passed and failed."""
+    """Checks the named edits, or all. Returns how many passed and failed."""
     workspace = kit.Workspace(TOP)
     by_crate: dict[str, list[Edit]] = {}
     for edit in chosen(all_edits(), names):

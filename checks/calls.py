@@ -15,8 +15,8 @@ from tools.failures import ALWAYS, DEVICE, FailingCalls
 from tools.processes import NO_VARIABLES, PATIENCE, Command, Dialog, Limits, RunResult, new_folder, pipe_of, run
 
 CREW = ("--workers=2", "--grain=1")
-OTHER = ("--fan=65", *CREW)  # for an old file, whose settings the command line must not name
-LENGTH = 1_536  # bytes of a small store's file: a front of 512, and four segments
+OTHER = ("--fan=65", *CREW)  # an invalid --fan, which must not matter for an old file
+LENGTH = 1_536  # bytes of a small store's file
 EXAMPLES = ("cache", "events", "people")
 NONE = FailingCalls("none")
 
@@ -58,7 +58,6 @@ PUT_AND_GET = b"put a 1\ngo\nget a\n"
 BOTH = b"new\nvalue 1\n"
 
 # Failing calls, input, exit status, output, errors. An empty write comes first; it tests whether the output is open.
-# Nothing is written after a fault. Interrupted calls are repeated.
 STREAMS = {
     "the input fails": [
         (FailingCalls("input"), b"put a 1\ngo\n", 4, b"", DEVICE),
@@ -100,9 +99,9 @@ def fail_streams(programs: Programs, library: Path, name: str) -> Outcome:
     return Outcome()
 
 
-# ---- A store that is made in an old file.
+# ---- Making a store in an old file.
 
-# Failing calls, and the file afterwards: the number of its old bytes that remain, and its length (the rest is zeros).
+# Failing calls, the number of old bytes that remain, and the file's length. The rest is zeros.
 ON_CREATE = [
     (FailingCalls("open"), LENGTH, LENGTH),
     (FailingCalls("hold"), LENGTH, LENGTH),
@@ -115,7 +114,7 @@ ON_CREATE = [
 
 
 def fail_to_create(programs: Programs, library: Path) -> Outcome:
-    """Fails to make a store in an old file, and checks the file. If only zeros follow a store, the file still has that store."""
+    """If only zeros follow the old store, it can still be opened."""
     with failing_store(programs, library) as store:
         for fails, kept, length in ON_CREATE:
             store.make(b"put a 1\nflush\n", b"new\nflushed 2\n")
@@ -149,13 +148,13 @@ def stay_empty(programs: Programs, library: Path, name: str) -> Outcome:
     return Outcome()
 
 
-# An example that opens its store when it starts, and a line that it answers.
+# An example that opens its store when it starts.
 OPENS, LINE, ANSWER = "put_then_get", b"a one\n", b"a is one\n"
-OPENING = ("open", "hold", "length", "sync", "read")  # the calls by which it opens the store of a file
+OPENING = ("open", "hold", "length", "sync", "read")
 
 
 def fail_to_open(programs: Programs, library: Path) -> Outcome:
-    """Fails each call by which an example opens its store. The example must report the failure, and must not change the file."""
+    """The example must report the failure, and must not change the file."""
     program = programs.examples / OPENS
     if not program.is_file():
         return Outcome(left_out="it is not built")
@@ -178,8 +177,7 @@ def fail_to_open(programs: Programs, library: Path) -> Outcome:
 READS, ANSWERS = b"get a\nput b 2\nverify\n", b"value 1\nnew\nok 1 1 2\n"
 NO_SYNC, READ_ONLY = errno.EINVAL, errno.EROFS
 
-# Failing calls, lines, answers, and the fault that ends the session, if any. Reading sessions do not write, do not need
-# an exclusive lock, and tolerate a file that cannot be synced. All others also need their first sync.
+# Failing calls, lines, answers, and the fault, if any. Reading sessions need no exclusive lock, and tolerate a file that cannot be synced.
 ON_OLD_FILE = [
     (FailingCalls("open"), READS, ANSWERS, b""),
     (FailingCalls("hold"), READS, ANSWERS, b""),
@@ -212,7 +210,7 @@ def fail_on_old_file(programs: Programs, library: Path, fails: FailingCalls, tex
 
 
 def fail_third(programs: Programs, library: Path, call: str) -> Outcome:
-    """Interrupts the third call, which must be repeated, or fails it. Each call transfers one byte."""
+    """An interrupted call must be repeated. Each call transfers one byte."""
     with failing_store(programs, library) as store:
         for error, err in ((errno.EINTR, b""), (errno.EIO, DEVICE)):
             fails = FailingCalls(call, 2, 1, error, cuts=True)
@@ -230,7 +228,7 @@ def fail_third(programs: Programs, library: Path, call: str) -> Outcome:
 
 
 def cut_file(programs: Programs, library: Path) -> Outcome:
-    """Truncates a file while a session has it open. A read past the end must be a fault."""
+    """A read past the end of a truncated file must be a fault."""
     with failing_store(programs, library) as store:
         changes = b"".join(b"put a 0123456789abcdef\nflush\n" for _ in range(9))
         store.make(changes, b"new\nflushed 2\n" + b"".join(b"replaced\nflushed %d\n" % number for number in range(3, 11)))
@@ -244,8 +242,7 @@ def cut_file(programs: Programs, library: Path) -> Outcome:
         return Outcome(None if (first, ended) == (b"ok 1 1 1\n", (4, b"", DEVICE)) else f"{first!r}, and then {ended}")
 
 
-# Number of syncs by session. An old file is synced before it is read, and a new store once; a flush or an upgrade needs three.
-# new store once; a flush and an upgrade make three syncs, or none if there is nothing to write.
+# Whether the store is new, lines, and syncs: one when the store is made or opened, and three for a flush or an upgrade that writes.
 SYNCS = [
     (True, b"", 1),
     (False, b"get a\n", 1),
@@ -267,12 +264,12 @@ def count_syncs(programs: Programs, library: Path) -> Outcome:
     return Outcome()
 
 
-# ---- How many threads a session starts: one fewer than the workers, if there is enough work.
+# ---- Threads: one fewer than the workers, if there is enough work.
 
 ENDED = 99  # status of a session that is ended when it starts a thread
 LEAVES = 100
 
-# Leaves of a batch, options, and whether threads are started. A work item has `grain` leaves.
+# Leaves of a batch, options, and whether threads are started.
 HELPED = [
     (LEAVES, "", False),  # one worker
     (LEAVES, "--workers=1 --grain=1", False),
@@ -285,7 +282,7 @@ HELPED = [
 
 
 def count_helpers(store: FailingStore, leaves: int, words: str) -> int:
-    """Returns how many threads a session of two batches starts. The first makes leaves of four pairs, the second overwrites all pairs."""
+    """The first of two batches makes leaves of four pairs, and the second overwrites all pairs."""
     puts = b"".join(b"put %06d v\n" % number for number in range(4 * leaves))
     for first in range(ALWAYS):
         ran = store.run(FailingCalls("thread", first, error=ENDED), puts + b"go\n" + puts, *SMALL_STORE, *words.split())
@@ -313,7 +310,6 @@ LOCKED = [b"put a 1\nflush\n", b"clean\n", b"upgrade\n"]
 
 
 def lock(programs: Programs, library: Path) -> Outcome:
-    """Runs reading, writing and creating sessions while another process holds an exclusive or a shared lock, and afterwards."""
     with failing_store(programs, library) as store:
         store.make(b"", b"")
         before = store.file.read_bytes()
@@ -349,8 +345,8 @@ def full_pipe() -> tuple[int, int]:
 
 
 def close_first(programs: Programs, library: Path) -> Outcome:
-    """Checks that a session closes its file before it writes a fault. Standard error is a full pipe, so the write blocks. This way the line cannot
-    reach the file through a reused descriptor."""
+    """Checks that a session closes its file before it writes a fault, so that the line cannot reach the file through a reused descriptor. Standard
+    error is a full pipe, so the write blocks."""
     with failing_store(programs, library) as store:
         store.make(b"", b"")
         reader, writer = full_pipe()

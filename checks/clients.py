@@ -12,8 +12,8 @@ from tools.processes import TOP, new_folder
 
 CLIENTS = TOP / "clients"
 TESTS = ("Replies", "Lasting", "Faults", "Kills", "Losses", "Checks", "Opening", "Loads", "Types", "Pipes")
-PATIENCE = 300  # seconds, also on a busy machine
-SESSIONS = 40  # of the shell example, which fill such a log more than once
+PATIENCE = 300  # seconds
+SESSIONS = 40  # of the shell example, which fill the log more than once
 
 
 def run_tests(programs: Programs, name: str) -> Outcome:
@@ -25,7 +25,6 @@ def run_tests(programs: Programs, name: str) -> Outcome:
 
 
 def run_install(programs: Programs) -> Outcome:
-    """Installs the client without a network in a new environment, and uses it there."""
     with new_folder() as folder:
         environment, python = {**os.environ, "PYTHONDONTWRITEBYTECODE": "1"}, f"{folder}/venv/bin/python"
         if subprocess.run([sys.executable, "-m", "venv", f"{folder}/venv"], capture_output=True).returncode:
@@ -40,7 +39,6 @@ def run_install(programs: Programs) -> Outcome:
 
 
 def run_shell(programs: Programs) -> Outcome:
-    """Runs the shell example on one small file until flushes have cleaned the log, and checks its output each time."""
     if shutil.which("bash") is None:
         return Outcome(left_out="there is no bash here")
     with new_folder() as folder:

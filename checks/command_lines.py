@@ -33,7 +33,7 @@ OUT_OF_RANGE = [
 # Whether the crew is in range.
 CREWS = [("--fan 8", True), ("--workers 8 --grain 2", True), ("--grain=0 --disk 8", False), ("--workers=0 --grain 2", False)]
 
-# The file of a command line, if any, and whether a store is created in it.
+# The file, and whether a store is created in it.
 FILES: list[tuple[str, str | None, bool]] = [
     ("", None, False),
     ("--disk a", "a", False),
@@ -80,7 +80,6 @@ REFUSED = [
 
 ASK_FOR_HELP = ["--help", "-h", "--fan 8 -h --flan", "--disk a --create -h --create"]
 
-# What the help must contain: forms of the command line, segment size, crew ranges, exit statuses.
 HELP = [
     b"put K V",
     b"add K V",
@@ -145,7 +144,7 @@ def check_crews(programs: Programs) -> Outcome:
 
 
 def find_file(programs: Programs, line: str, path: str | None, is_made: bool) -> Outcome:
-    """Checks that exactly this file is created, or opened; a missing file is not created without --create."""
+    """A missing file is not created without --create."""
     with new_folder() as folder:
         ran = start(programs, folder, line, b"put a 1\nflush\n")
         names = [each.name for each in Path(folder).iterdir()]
@@ -176,7 +175,6 @@ def refuse_words(programs: Programs) -> Outcome:
 
 
 def refuse_bytes(programs: Programs) -> Outcome:
-    """Passes a word that is not UTF-8, at each position. It must be refused."""
     for words in ([b"\xff"], [b"--help", b"\xff"], [b"--disk", b"a\xff"]):
         ran = run([programs.store, *words], TEXT)
         wrong = differs(ran, 2, b"", b"error: a word of the command line is no text\n") or (f"it read {ran.read} bytes" if ran.read else None)

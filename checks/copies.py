@@ -18,7 +18,7 @@ PUTS, PUT = b"put a 1\nput b 2\nput c 3\n", b"new\nnew\nnew\n"
 SCAN, SCANNED = b"scan % * 9\n", b"rows 3\na 1\nb 2\nc 3\n"
 KILLS = 25  # of copies of one store
 
-# The stream that is redirected to the copy's file, the options, and the file's first bytes.
+# A redirection to the copy's file, the options, and the file's first bytes.
 REDIRECTED: list[tuple[str, tuple[str, ...], bytes]] = [
     (">", (), b"replaced\n" * 3),
     (">", ("--stream",), b"replaced\n" * 3),
@@ -53,7 +53,7 @@ def make(programs: Programs, path: Path, *words: str) -> bytes:
 
 
 def copy_all(programs: Programs, words: tuple[str, ...]) -> Outcome:
-    """Copies a store in memory and one in a file, flushed or not, with other settings. A reading session does not write to its file."""
+    """Copies a store in memory and one in a file, with other settings. A reading session does not write to its file."""
     with new_folder() as folder:
         store, memory, file, last, again = (Path(folder) / name for name in ("store", "memory", "file", "last", "again"))
         wrong = differs(run([programs.store, *words, *LARGE, "--copy-to", memory], PUTS), 0, PUT)
@@ -71,7 +71,7 @@ def copy_all(programs: Programs, words: tuple[str, ...]) -> Outcome:
 
 
 def copy_with_numbers(programs: Programs) -> Outcome:
-    """Copies an empty store with --stat, which prints the store's numbers before the copy."""
+    """--stat prints the store's numbers before the copy."""
     with new_folder() as folder:
         copy = Path(folder) / "copy"
         ran = run([programs.store, *SMALL_STORE, "--stat", "--copy-to", copy])
@@ -80,7 +80,7 @@ def copy_with_numbers(programs: Programs) -> Outcome:
 
 
 def copy_many(programs: Programs) -> Outcome:
-    """Copies a store with many pairs and many empty pages. The copy has fewer pages."""
+    """The copy of a store with many empty pages has fewer pages."""
     puts = b"".join(b"put k%05d v%d\n" % (number, number) for number in range(20_000)) + b"wipe k15000 *\n"
     with new_folder() as folder:
         copy = Path(folder) / "copy"
@@ -96,7 +96,7 @@ def copy_many(programs: Programs) -> Outcome:
 
 
 def copy_of_stream(programs: Programs) -> Outcome:
-    """Copies a stream's store at the end. Until then the copy's file is locked and empty."""
+    """Until the stream ends, the copy's file is locked and empty."""
     with new_folder() as folder:
         copy = Path(folder) / "copy"
         dialog = Dialog(programs.store, *SMALL_STORE, f"--copy-to={copy}")
@@ -113,7 +113,7 @@ def copy_of_stream(programs: Programs) -> Outcome:
 
 
 def copy_over(programs: Programs) -> Outcome:
-    """Copies to an existing file. A non-empty file, even the store's own, keeps its bytes and nothing is run; an empty one becomes the copy."""
+    """A non-empty file, even the store's own, keeps its bytes and nothing is run; an empty one becomes the copy."""
     with new_folder() as folder:
         store, copy = Path(folder) / "store", Path(folder) / "copy"
         before = make(programs, store)
@@ -133,7 +133,7 @@ def copy_over(programs: Programs) -> Outcome:
 
 
 def create_over_copy(programs: Programs) -> Outcome:
-    """Uses one file for the store and its copy, by the same path, another path and a link. Nothing is run."""
+    """Nothing is run if the store and its copy have the same file."""
     with new_folder() as folder:
         new, link = Path(folder) / "new", Path(folder) / "link"
         link.symlink_to(new)
@@ -146,7 +146,6 @@ def create_over_copy(programs: Programs) -> Outcome:
 
 
 def copy_to_no_file(programs: Programs) -> Outcome:
-    """Copies to a path in a missing folder, a folder, a pipe and a device. Nothing is run, and the errors have the reason."""
     with new_folder() as folder:
         pipe = Path(folder) / "pipe"
         os.mkfifo(pipe)
@@ -181,7 +180,7 @@ def copy_over_locked(programs: Programs) -> Outcome:
 
 
 def redirect_to_copy(programs: Programs, stream: str, words: tuple[str, ...], begins: bytes) -> Outcome:
-    """Redirects a stream to the copy's file. If the file is not empty when the copy starts, it keeps its bytes."""
+    """If the file is not empty when the copy starts, it keeps its bytes."""
     with new_folder() as folder:
         store, copy = Path(folder) / "store", Path(folder) / "copy"
         make(programs, store)
@@ -192,7 +191,7 @@ def redirect_to_copy(programs: Programs, stream: str, words: tuple[str, ...], be
 
 
 def write_to_copy(programs: Programs) -> Outcome:
-    """Writes to the copy's file from this process, without a lock. The file keeps these bytes, and there is no copy."""
+    """The file keeps what another process writes without a lock."""
     with new_folder() as folder:
         copy = Path(folder) / "copy"
         dialog = Dialog(programs.store, "--copy-to", copy)
@@ -207,7 +206,7 @@ def write_to_copy(programs: Programs) -> Outcome:
 
 # ---- Sessions without a copy.
 
-# Options, input, exit status, output and first line of errors. The copy's file is empty.
+# Options, input, exit status, output and errors.
 END_EARLY = [
     ((), b"put a 1\nclean\nput b 2\n", 4, b"new\n", b"fault 11 NothingToClean\n"),
     (("--stream",), b"put a 1\nclean\nput b 2\n", 4, b"new\n", b"fault 11 NothingToClean\n"),
@@ -217,7 +216,7 @@ END_EARLY = [
 
 
 def end_early(programs: Programs, words: tuple[str, ...], text: bytes, status: int, out: bytes, err: bytes) -> Outcome:
-    """Ends sessions early. Nothing is copied; otherwise the session ends as without --copy-to."""
+    """The session ends as without --copy-to, and nothing is copied."""
     with new_folder() as folder:
         copy = Path(folder) / "copy"
         wrong = differs(run([programs.store, *words], text), status, out, err)
@@ -261,7 +260,7 @@ REFUSED_COPIES = [
 
 
 def refuse_copy(programs: Programs, text: bytes, out: bytes, err: bytes, end: bytes) -> Outcome:
-    """Copies pairs that do not fit the copy's settings or its log. All answers are printed, the copy's file is empty, and the store is unchanged."""
+    """All answers are printed, the copy's file is empty, and the store is unchanged."""
     with new_folder() as folder:
         store, copy = Path(folder) / "store", Path(folder) / "copy"
         made = run([programs.store, "--create", "--disk", store], text + b"flush\n")
@@ -299,7 +298,7 @@ CALLS = [
 
 
 def fail_calls(programs: Programs, library: Path, fails: FailingCalls, is_done: bool, length: int | None) -> Outcome:
-    """Fails calls on the copy's file. The store's file never changes, and the copy's file is emptied if possible."""
+    """The store's file never changes, and the copy's file is emptied if possible."""
     with new_folder() as folder:
         store, copy = Path(folder) / "store", Path(folder) / "copy"
         make(programs, store)
@@ -318,7 +317,7 @@ def fail_calls(programs: Programs, library: Path, fails: FailingCalls, is_done: 
 
 
 def refuse_allocations(programs: Programs, library: Path, lane: int) -> Outcome:
-    """Refuses each allocation in turn. The copy is complete if the session succeeds; otherwise its file is empty or missing."""
+    """The copy is complete if the session succeeds; otherwise its file is empty or missing."""
     with new_folder() as folder:
         store, copy = Path(folder) / "store", Path(folder) / "copy"
         before = make(programs, store)
@@ -345,7 +344,7 @@ def refuse_allocations(programs: Programs, library: Path, lane: int) -> Outcome:
 
 
 def close(programs: Programs, closed: str) -> Outcome:
-    """Closes streams, so that the copy's file may get a stream's descriptor. It must contain only the store, or be empty or missing."""
+    """The copy's file may get the descriptor of a closed stream. It must contain only the store, or be empty or missing."""
     with new_folder() as folder:
         store, copy = Path(folder) / "store", Path(folder) / "copy"
         make(programs, store)
@@ -370,7 +369,7 @@ def closed_pipe(programs: Programs) -> Outcome:
 
 
 def check_killed(programs: Programs, copy: Path, pairs: int) -> tuple[str | None, str]:
-    """Checks the copy's file after a kill. Returns an error, and what the file is: empty, no store, an empty store, or the copy."""
+    """Returns an error, and what the file is: empty, no store, an empty store, or the copy."""
     if not copy.exists() or copy.stat().st_size == 0:
         return None, "no bytes"
     ran = run([programs.store, "--disk", copy, "--stat"])
@@ -383,7 +382,6 @@ def check_killed(programs: Programs, copy: Path, pairs: int) -> tuple[str | None
 
 
 def kill(programs: Programs) -> Outcome:
-    """Kills sessions while they copy. The store's file never changes."""
     puts = b"".join(b"put k%06d v%d\n" % (number, number) for number in range(60_000)) + b"flush\n"
     found: Counter[str] = Counter()
     with new_folder() as folder:

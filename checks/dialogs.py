@@ -7,7 +7,7 @@ from tools.cases import SMALL_STORE, Case, Outcome, Programs
 from tools.processes import PATIENCE, Dialog, new_folder, peak_memory
 
 LONG = 20_000  # batches of a long stream
-MEMORY = 40_000_000  # bytes of memory that a long stream may use
+MEMORY = 40_000_000  # bytes that a long stream may use
 KILLS = 12
 
 
@@ -69,7 +69,7 @@ def close_answers(programs: Programs) -> Outcome:
 
 
 def run_long_stream(programs: Programs) -> Outcome:
-    """Runs many small batches, whose memory must not grow, and many flushes of a small log, which must be cleaned automatically."""
+    """Memory must not grow with the number of batches, and the small log must be cleaned automatically."""
     with new_folder() as folder:
         dialog = Dialog(programs.store, "--disk", Path(folder) / "file", "--create", "--clean-when-full", *SMALL_STORE)
         cleans = 0
@@ -114,7 +114,7 @@ def kill(programs: Programs, seed: int) -> Outcome:
 
 
 def lock(programs: Programs) -> Outcome:
-    """Checks that a session locks its file before it reads a line, and that a kill releases the lock."""
+    """A session locks its file before it reads a line, and a kill releases the lock."""
     with new_folder() as folder:
         path = Path(folder) / "file"
         Dialog(programs.store, "--disk", path, "--create").finish()

@@ -1,4 +1,4 @@
-"""The programs of `examples/`: sessions that are killed at random and read back by a new session; and the first programs of docs/EMBEDDING.md."""
+"""The programs of `examples/`: killed sessions, closed streams, and the first programs of docs/EMBEDDING.md."""
 
 import random
 from collections.abc import Callable
@@ -120,7 +120,7 @@ MODELS: dict[str, Callable[[], ExampleModel]] = {"events": EventsModel, "people"
 
 
 def play(name: str, restarts: list[int], commands: int) -> ExampleModel:
-    """Returns the model after this many commands. A new session began before each command in `restarts`."""
+    """A new session begins before each command in `restarts`."""
     model = MODELS[name]()
     for number in range(commands):
         if number in restarts:
@@ -130,7 +130,7 @@ def play(name: str, restarts: list[int], commands: int) -> ExampleModel:
 
 
 def run_killed(program: Path, path: Path, lines: Lines, size: int | None) -> tuple[int, Lines]:
-    """Runs these lines, and kills the session when it has printed `size` bytes. Returns its status and its whole lines of output."""
+    """Kills the session when it has printed `size` bytes. Returns its status and its whole lines of output."""
     source, out = path.with_suffix(".lines"), path.with_suffix(".out")
     source.write_bytes(text_of(lines))
     status, _ = run_until([program, path], source, out, size, delay=0, is_mixed=True)
@@ -151,8 +151,7 @@ class KilledExample:
     restarts: list[int] = field(default_factory=list)
 
     def kill(self, count: int, share: float | None) -> tuple[str | None, bool]:
-        """Runs commands, kills the session after this share of the answers, and checks the file. Returns an error, and whether the session ended
-        before the kill."""
+        """Kills the session after this share of the answers. Returns an error, and whether the session ended before the kill."""
         model = play(self.name, self.restarts, self.done)
         opened = model.open()
         commands = [model.next(self.done + at) for at in range(count)]
@@ -167,7 +166,7 @@ class KilledExample:
         return self.check(commands, max(len(printed) - len(opened), 0)), status == 0
 
     def check(self, commands: list[ExampleCommand], answered: int) -> str | None:
-        """Checks the file after a kill. It must hold all commands up to the last durable one, or one more."""
+        """The file must hold all commands up to the last durable one, or one more."""
         ends = [0, *(at for at, command in enumerate(commands, 1) if command.is_durable)]
         last, further = (self.done + max(end for end in ends if end <= most) for most in (answered, answered + 1))
         wrong = self.wrong_file(last)
@@ -217,7 +216,7 @@ def kill_example(programs: Programs, name: str, seed: int) -> Outcome:
 
 
 def close(programs: Programs, name: str, closed: str) -> Outcome:
-    """Closes the output or the input of an example. It must not create a file, nor write answers to an old file, nor read lines from it."""
+    """An example with a closed input or output must not create a file, and must not change one."""
     program = programs.examples / name
     if why := why_left_out(program):
         return Outcome(left_out=why)

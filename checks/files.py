@@ -42,7 +42,7 @@ def make(programs: Programs, path: Path, text: bytes, *words: str) -> None:
 
 
 def after_writer(ran: RunResult, puts: list[tuple[bytes, bytes]], pairs: Pairs) -> tuple[Pairs, str | None]:
-    """Returns the pairs after a writing session, and an error. The session must do everything, or be refused and do nothing."""
+    """Returns the pairs afterwards, and an error. The session must do everything, or be refused and do nothing."""
     if ran.is_fault(FAULT) and not ran.out:
         return pairs, None
     lines = ran.out.splitlines()
@@ -94,7 +94,6 @@ MUCH = b"get x\ngo\n" * 60_000  # more replies than a pipe holds
 
 
 def run_beside(programs: Programs, text: bytes, is_shared: bool) -> Outcome:
-    """Starts sessions beside one that holds a lock, and one after that session was killed."""
     sessions = {READ_ALL: is_shared, b"put b 2\nflush\n": False, b"clean\n": False, b"upgrade\n": False}
     with new_folder() as folder:
         path = Path(folder) / "file"
@@ -150,7 +149,7 @@ BLOCKS = 256  # 512-byte blocks, fewer than a default store takes
 
 
 def fail_to_create(programs: Programs, length: int | None) -> Outcome:
-    """Fails to create a store because of a file size limit. An old file keeps its bytes; a new file is empty or missing."""
+    """An old file keeps its bytes; a new file is empty or missing."""
     with new_folder() as folder:
         path = Path(folder) / "file"
         before = b"" if length is None else b"\xa5" * length
@@ -164,7 +163,7 @@ def fail_to_create(programs: Programs, length: int | None) -> Outcome:
 
 @contextlib.contextmanager
 def small_device(size: int) -> Iterator[Path | None]:
-    """Mounts a small tmpfs and yields its folder, or None if that is not permitted."""
+    """Yields the folder of a small tmpfs, or None if mounting is not permitted."""
     with new_folder() as folder:
         mount = ["mount", "-t", "tmpfs", "-o", f"size={size}", "tmpfs", folder]
         is_mounted = bool(shutil.which("mount")) and subprocess.run(mount, capture_output=True).returncode == 0
@@ -182,7 +181,6 @@ def fill(path: Path) -> None:
 
 
 def full_device(programs: Programs) -> Outcome:
-    """Checks that on a full device no store is created, flushes are refused, and the last flushed pairs are recovered."""
     refused = f"{FAULT}\n".encode()
     with small_device(1 << 20) as folder:
         if folder is None:

@@ -16,22 +16,22 @@ from tools.processes import MEGABYTE, Command, Limits, RunResult, new_folder, pe
 
 DEEP = 200_000  # runs of a page
 RUN = 80  # bytes of memory per run
-ROOM = 262_144 * RUN  # bytes of such a page in memory; its capacity doubles from 16 on
+ROOM = 262_144 * RUN  # bytes of such a page in memory; its capacity doubles
 MANY = 100_000  # free frames
 LEAVES = 61_680  # empty leaves, with 1 MiB of frames
 SLOT, SLOTS = 256, 65_536  # bytes per page in the page table, and the table's capacity, which doubles
 TIMES = 10  # greatest memory, in multiples of the file's length
 LEVELS = 64  # limit of a tree
-CLIMBING = 88  # KB of stack. A tree of 64 levels, read by recursion, needs at most 96 KB, of which the system may take 8.
+CLIMBING = 88  # KB of stack: the 96 that a tree of 64 levels needs at most, without the 8 that the system may take
 DAMAGED, PARTS = 400, 8
 WIDE = Settings(fan=64, max_key=255)  # the setting with which prefix-compressed keys expand most
 KEYS, LONGEST = 64, 255  # such keys per base, and their bytes
-SLOWER, LEAST = 2, 0.05  # greatest ratio of its reading time to that of a log of whole keys, and seconds that are always allowed
+SLOWER, LEAST = 2, 0.05  # greatest ratio of the reading times of shared and whole keys, and seconds that are always allowed
 
 EMPTY = full_leaf(0, b"", {})
 ONE_PAIR = full_leaf(0, b"", {b"a": b"1"})
 SHARED_PAIR = shared_leaf(0, b"", {b"a": b"1"})
-LONG_KEYS = 60 * MEGABYTE  # memory of a megabyte of bases with the longest keys, after expansion
+LONG_KEYS = 60 * MEGABYTE  # memory of a megabyte of bases after expansion
 TOO_DEEP = b"fault 16 BadStructure 7 %d\n"  # rule 7: the depth is above chain
 NO_STORE = (4, b"", b"fault 12 NotAStore\n")
 LOST_PAGE = (4, b"", b"fault 16 BadStructure 10 1\n")  # rule 10: the tree does not reach the page
@@ -39,13 +39,11 @@ LOST_PAGE = (4, b"", b"fault 16 BadStructure 10 1\n")  # rule 10: the tree does 
 
 @dataclass(frozen=True)
 class HostileDisk:
-    """A malicious file, and how a session that reads all of it must end. If it is a valid store, it is also cleaned and upgraded."""
-
     name: str
     make: Callable[[], bytes]
-    ending: Ending
+    ending: Ending  # of READ_ALL
     words: tuple[str, ...] = ()
-    is_store: bool = False
+    is_store: bool = False  # then it is also cleaned and upgraded
     pages: int = 0  # bytes of memory for its pages
 
 
@@ -60,7 +58,6 @@ def deep_index() -> bytes:
 
 
 def deep_leaves() -> bytes:
-    """Makes eight leaves whose runs alternate in the log."""
     lows = {bytes([ord("a") + pid]) if pid else b"": pid for pid in range(8)}
     bases = [full_leaf(pid, low, {}) for low, pid in lows.items()]
     runs = [delta_leaf(pid, {low: None}) for low, pid in lows.items()]
@@ -88,12 +85,11 @@ def empty_leaves() -> bytes:
 
 
 def colliding_runs() -> bytes:
-    """Makes runs of many pages, without bases, as a clean leaves them. Their page ids collide."""
+    """A clean leaves such runs without bases."""
     return fitting_disk([ONE_PAIR, *[delta_leaf(pid, {b"": None}) for pid in islice(colliding_ids(), MANY) if pid != 0]])
 
 
 def tall_tree() -> bytes:
-    """Makes a tree of the greatest height, with two pages per level under the root."""
     left, right = 0, 1
     frames = [full_leaf(left, b"", {b"a": b"1"}), full_leaf(right, b"c", {b"c": b"3"})]
     for pid in range(2, 2 * (LEVELS - 1), 2):
@@ -104,7 +100,6 @@ def tall_tree() -> bytes:
 
 
 def many_segments() -> bytes:
-    """Makes a log of almost the greatest number of segments, with one frame each."""
     settings = Settings(fan=4, max_key=30, max_value=10, seg_size=256, segments=65_536)
     wide = full_leaf(0, b"", {bytes([key]) * 30: b"v" * 10 for key in range(4)})
     return disk_of(settings, [*[wide] * 65_533, ONE_PAIR])
@@ -115,19 +110,19 @@ def key_of(number: int, length: int) -> bytes:
 
 
 def many_bases(leaf: Callable[..., bytes], length: int) -> list[bytes]:
-    """Returns a megabyte of unreachable leaves with the most keys, of this length, and empty values."""
+    """Returns a megabyte of unreachable leaves, full of keys of this length."""
     pairs = {key_of(number, length): b"" for number in range(KEYS)}
     count = MEGABYTE // len(leaf(0, b"", pairs))
     return [leaf(pid, b"", pairs) for pid in range(1, count + 1)]
 
 
 def long_keys() -> bytes:
-    """Makes leaves that expand to fifty times their frames, because each key shares all but its last byte with the one before."""
+    """The leaves expand to fifty times their frames, because each key shares all but its last byte with the one before."""
     return fitting_disk([ONE_PAIR, *many_bases(shared_leaf, LONGEST)], version=2, settings=WIDE)
 
 
 def long_keys_again() -> bytes:
-    """Makes as many bases of one page; only the last is used."""
+    """Only the last base of the page is used."""
     again = many_bases(shared_leaf, LONGEST)
     return fitting_disk([again[0]] * len(again) + [shared_leaf(1, b"", {b"a": b"1"})], root=1, version=2, settings=WIDE)
 
@@ -179,7 +174,7 @@ def small_memory(programs: Programs, folder: Path) -> int:
 
 
 def wrong_cost(ran: RunResult, least: int, length: int) -> str | None:
-    """Compares a session's time and memory with the bounds for the file's length, plus `least` bytes."""
+    """`least` is the memory that is always allowed, in bytes."""
     seconds = SLOW * max(1.0, length / MEGABYTE)
     memory = least + TIMES * max(length, MEGABYTE)
     if ran.seconds > seconds:
@@ -201,7 +196,7 @@ def write_file(command: Command, path: Path, line: bytes, answer: bytes, ending:
 
 
 def writing_orders(made: bytes) -> list[tuple[str, bytes, bytes]]:
-    """Returns the writing commands to run on a valid store with one commit: name, line, answer."""
+    """Returns each writing command's name, line and answer."""
     upgrade = ("upgraded", b"upgrade\n", b"upgraded 3\n")
     return [("cleaned", b"clean\n", b"cleaned 1\n"), *([] if read_slot(made, read_settings(made)).version else [upgrade])]
 
@@ -252,7 +247,7 @@ def compare_times(programs: Programs) -> Outcome:
         return Outcome(measured if max(seconds) > SLOWER * seconds[0] + LEAST else None, measured=measured)
 
 
-# Invalid frames of version 2 for keys of at most 16 bytes: the error, low key, count, and entries of a leaf.
+# Invalid leaves of version 2, for keys of at most 16 bytes: the error, low key, count and entries.
 NO_BASES = [
     ("a first key that shares more than its low key", b"ab", 1, "03 01 63 0000"),
     ("a first key that shares fewer bytes than it could", b"ab", 1, "01 02 62 63 0000"),
@@ -270,7 +265,7 @@ NO_BASES = [
 
 
 def refuse_frames(programs: Programs) -> Outcome:
-    """Checks that invalid frames of version 2 are refused at their place, and that valid ones are refused in a log of version 1."""
+    """Checks that invalid frames are refused at their place, and valid ones of version 2 in a log of version 1."""
     refused = [(what, frame(6, 0, counted(low) + count.to_bytes(2, "big") + bytes.fromhex(entries)), 2) for what, low, count, entries in NO_BASES]
     refused += [("a shared leaf in a log of version 1", SHARED_PAIR, 0), ("a shared index page there", shared_index(0, b"", {b"": 1}), 0)]
     refused += [("a frame of kind 8", frame(8, 0), 2), ("a shared leaf that is read as an index page", b"\7" + SHARED_PAIR[1:], 2)]
@@ -317,7 +312,7 @@ SMALL = Settings(fan=4, chain=3, max_key=16, max_value=16, seg_size=256, segment
 
 
 def small_leaf(chance: random.Random, pid: int, low: bytes, end: bytes, leaf: Callable[..., bytes]) -> list[bytes]:
-    """Returns a leaf's frames and runs. Some keys are outside the leaf's range."""
+    """Some keys are outside the leaf's range."""
     drawn = [low + bytes([byte]) * chance.choice([1, 1, 2]) for byte in chance.sample(range(256), 6)]
     keys = [low, *[key for key in drawn if key < end or chance.random() < 0.01]]
     pairs = {key: chance.randbytes(chance.randrange(4)) for key in keys[: chance.randrange(5)]}
@@ -326,7 +321,7 @@ def small_leaf(chance: random.Random, pid: int, low: bytes, end: bytes, leaf: Ca
 
 
 def small_tree(chance: random.Random, version: int) -> bytes:
-    """Makes a file with a tree of three levels and obsolete frames. In version 2 some bases have whole keys, as before an upgrade."""
+    """Makes three levels and obsolete frames. In version 2 some bases have whole keys, as before an upgrade."""
     leaves: list[Callable[..., bytes]] = [full_leaf, shared_leaf][: 1 + bool(version)]
     indexes: list[Callable[..., bytes]] = [full_index, shared_index][: 1 + bool(version)]
     lows = [b"", b"c", b"cf", b"k", b"kk", b"t"]
@@ -339,7 +334,6 @@ def small_tree(chance: random.Random, version: int) -> bytes:
 
 
 def damage(chance: random.Random, disk: bytes) -> bytes:
-    """Damages a file: changes or moves bytes, mostly in the log, or truncates the file."""
     changed, end = bytearray(disk), len(disk.rstrip(b"\0"))
     for _ in range(chance.choice([0, 1, 1, 1, 2, 3])):
         at = chance.randrange(256) if chance.random() < 0.2 else chance.randrange(512, end)
@@ -373,7 +367,6 @@ def small_store() -> bytes:
 
 
 def change_each_byte(programs: Programs, part: int) -> Outcome:
-    """Changes each byte that is read, in several ways, and reads the file."""
     disk, stores, count = small_store(), 0, 0
     places = [*range(64), *range(128, 256), *range(512, len(disk.rstrip(b"\0")) + 2)]
     with new_folder() as folder:

@@ -106,7 +106,7 @@ EXPLAINED: list[tuple[tuple[str, ...], bytes, bytes | None, bytes, bytes]] = [
 
 
 def print_version(programs: Programs) -> Outcome:
-    """Checks that --version prints the version, does not read the input, and wins over invalid options, but is refused twice."""
+    """--version does not read the input, and wins over invalid options."""
     words: Command = [programs.store, "--version", "--fan=65", "--workers=0", "--disk=/no/such"]
     wrong = differs(run(words, limits=Limits(redirections="<&-")), 0, b"bwsh 0.1.0\n")
     again = run([programs.store, "--version", "--version"])
@@ -116,7 +116,6 @@ def print_version(programs: Programs) -> Outcome:
     return Outcome(wrong or differs(closed, 4, b"", b"fault 9 Device\n"))
 
 
-# What the help must contain about the options and durability.
 HELP = [
     b"--version",
     b"all input is read first",
@@ -139,7 +138,7 @@ def print_help(programs: Programs) -> Outcome:
 
 
 def explain(programs: Programs, words: tuple[str, ...], text: bytes, out: bytes | None, first: bytes, second: bytes) -> Outcome:
-    """Ends a session early with and without --explain. Only the second line of errors may differ."""
+    """--explain must only add the second line of errors."""
     plain = run([programs.store, *words], text)
     result = run([programs.store, "--explain", *words], text)
     status = 3 if first.startswith(b"line") else 4
@@ -176,7 +175,7 @@ def wrong_explanation(ran: RunResult, first: bytes, path: Path, end: bytes) -> s
 
 
 def explain_streams(programs: Programs) -> Outcome:
-    """Explains closed streams: the input with the system's reason, the output without. Success and refused options have no explanation."""
+    """Only a closed input is explained with the system's reason. Success and refused options have no explanation."""
     words: Command = [programs.store, "--explain"]
     closed = run(words, limits=Limits(redirections="<&-"))
     wrong = differs(closed, 4, b"", b"fault 9 Device\nstandard input: Bad file descriptor (os error 9).\n")
@@ -194,7 +193,7 @@ UNREAD = b"fault 6 NoMemory\nline %d: There was not enough memory to read it.\n"
 
 
 def explain_long_line(programs: Programs) -> Outcome:
-    """Explains a stream's line for which memory is insufficient. The batches before it are answered."""
+    """Memory is insufficient for the stream's last line. The batches before it are answered."""
     words: Command = [programs.store, "--stream", "--explain"]
     limits = Limits(memory=MEMORY)
     wrong = None
@@ -204,7 +203,7 @@ def explain_long_line(programs: Programs) -> Outcome:
     return Outcome(wrong)
 
 
-# Lines of a log of two segments, and their answers; further lines, their answers, and the fault that ends the session, if any.
+# Lines that make a log of two segments; further lines, their answers, and the fault, if any.
 LOADED = b"put a 1\nput b 2\nput c 3\nput d 4\nput e 5\nflush\n" + 4 * LONG_PUT + b"put z 9\n"
 LOADED_OUT = b"".join([5 * b"new\n", b"flushed 2\n", *(b"replaced\nflushed %d\n" % number for number in range(3, 7)), b"new\n"])
 NUMBERED = [
@@ -243,7 +242,7 @@ def clean_when_full(programs: Programs) -> Outcome:
 
 
 def clean_often(programs: Programs) -> Outcome:
-    """Overwrites all segments a hundred times with --clean-when-full. Each flush and each clean has a sequence number."""
+    """Each flush and each clean has a sequence number."""
     text = 1_000 * (LONG_PUT + b"put b 0123456789abcdef\nflush\n")
     ran = run([programs.store, *SMALL_STORE, "--clean-when-full"], text)
     cleans, flushes = ran.out.count(b"cleaned "), ran.out.count(b"flushed ")
@@ -252,7 +251,7 @@ def clean_often(programs: Programs) -> Outcome:
 
 
 def clean_in_vain(programs: Programs) -> Outcome:
-    """Tries --clean-when-full with live pages of five segments in a log of four. No clean can make room."""
+    """The live pages need five segments, and the log has four."""
     puts = b"".join(b"put sixteen_bytes_%d sixteen_bytes_v1\n" % pair for pair in range(10, 30))
     ran = run([programs.store, *SMALL_STORE, "--clean-when-full"], puts + b"flush\nget a\n")
     return Outcome(differs(ran, 4, 20 * b"new\n", b"fault 10 Full\n"))

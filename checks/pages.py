@@ -2,7 +2,7 @@
 each link.
 
 In an indented block, a line `$ COMMAND` is a command, and the lines up to the next command are its output. A page's commands are run in order, in
-a folder of their own, where `out` has the built programs.
+one folder, where `out` has the built programs.
 """
 
 import re
@@ -19,7 +19,7 @@ EXAMPLES = TOP / "examples"
 PAGES = ["README.md", "docs/OPERATING.md", "examples/README.md"]
 CLIENT = TOP / "clients/python"
 NOT_RUN = ("./build", "./check", "cd crates/bwsh && rt ")  # they build the programs, or are the check itself
-PATIENCE = 60  # seconds that a command gets
+PATIENCE = 60  # seconds
 
 
 @dataclass
@@ -33,7 +33,7 @@ COMMAND = re.compile(r"( {4,})\$ (.*)")
 
 
 def commands(page: str) -> Iterator[Command]:
-    """Yields a page's commands. Output is indented at least as far as its command."""
+    """Output is indented at least as far as its command."""
     found: Command | None = None
     indent, blanks = "", 0
     for number, line in enumerate(page.splitlines(), 1):

@@ -17,12 +17,11 @@ INTERVAL = 1.1  # seconds between two updates
 VERIFIES = 300  # of a session that takes some seconds
 PAIRS = 60_000  # of its store
 LONGEST = 50  # seconds that the session may take
-SLOW = FailingCalls("none", wait=300)  # each read or write of the file takes 0.3 s more
+SLOW = FailingCalls("none", wait=300)  # each read or write takes 0.3 s more
 WIDE = ("--seg-size=512", "--max-key=16", "--max-value=16", "--fan=8")  # settings with which these pairs fill twelve segments
 LOADED = b"".join(b"put key%03d value%d\n" % (number, number) for number in range(200))
 
-# Options, input, status, output and errors of a session on a flushed file, and whether it opens the file.
-# Without --stream a bad line is found before the file is opened.
+# Options, input, status, output, errors, and whether the file is opened. Without --stream a bad line is found first.
 SESSIONS = [
     ((), b"get a\nput b 2\nflush\n", 0, b"value 1\nnew\nflushed 3\n", b"", True),
     (("--stream",), b"get a\nput b 2\nflush\n", 0, b"value 1\nnew\nflushed 3\n", b"", True),
@@ -57,7 +56,7 @@ def compare_sessions(programs: Programs, number: int) -> Outcome:
 
 
 def print_nothing(programs: Programs) -> Outcome:
-    """Checks that short sessions in memory, refused options, help and version print no progress. Opening a missing file does."""
+    """Short sessions in memory print no progress, but opening a missing file does."""
     words: Command = [programs.store, "--progress"]
     wrong = differs(run(words, b"put a 1\n"), 0, b"new\n")
     wrong = wrong or differs(run([*words, "--version"]), 0, b"bwsh 0.1.0\n")
@@ -71,7 +70,7 @@ def print_nothing(programs: Programs) -> Outcome:
 
 
 def run_without_errors(programs: Programs, way: str) -> Outcome:
-    """Runs with standard error closed, on a full device, or a broken pipe. Answers and file must not change."""
+    """Answers and file must not change."""
     with new_folder() as folder:
         path, other = Path(folder) / "file", Path(folder) / "other"
         make(programs, path)
@@ -94,7 +93,7 @@ def run_piped(programs: Programs, path: Path, text: bytes) -> RunResult:
 
 
 def count_orders(programs: Programs) -> Outcome:
-    """Runs a session of some seconds. Its lines are at least a second apart, and their counts increase."""
+    """Lines are at least a second apart, and their counts increase."""
     puts = b"".join(b"put k%d v\n" % number + b"go\n" * (number % 1_000 == 999) for number in range(PAIRS))
     text = puts + VERIFIES * b"verify\n"
     start = time.monotonic()
@@ -113,7 +112,7 @@ def count_orders(programs: Programs) -> Outcome:
 
 
 def count_lines(programs: Programs) -> Outcome:
-    """Checks when a stream shows its counts: at the first batch a second later, and at the 256th line after a batch."""
+    """A stream shows its counts at the first batch a second later, and at the 256th line after a batch."""
     dialog = Dialog(programs.store, "--progress")
     dialog.send(b"put a 1\ngo\nput a 2\nflush\n")
     answers = [dialog.read_line(), dialog.read_line(), dialog.read_line()]
@@ -159,7 +158,7 @@ def make_copy(programs: Programs) -> Outcome:
 
 
 def wrong_segments(ran: RunResult, path: Path, first: bytes, done: bytes, segments: int) -> str | None:
-    """Checks a slow session's progress: segment counts increase, to at most `segments`."""
+    """Segment counts increase, to at most `segments`."""
     text = first + str(path).encode()
     counts = [int(count) for count in re.findall(rb"\r" + re.escape(text) + rb", (\d+) segments " + done, ran.err)]
     lines = progress_of(text, *(text + b", %d segments " % count + done for count in counts))

@@ -16,11 +16,11 @@ from tools.failures import ANSWERS, DEVICE, NO_MEMORY, REFUSE, REFUSED, TEXT, re
 from tools.log.reading import BadStore, read_store
 from tools.processes import TOP, Command, abbreviate, new_folder, run
 
-TESTS = TOP / "tests"  # a folder for each crate that has such tests
+TESTS = TOP / "tests"
 REQUEST = "each allocation refused in turn"  # in a comment before a test
 COMMENTED_TEST = re.compile(r"((?:^//.*\n)+)#\[test\]\n(?:#.*\n)*fn (\w+)", re.MULTILINE)
 LANES = 4  # cases per test, each with a share of the allocations
-SESSION_BUDGET = 20  # seconds that a session's hundreds of runs may take
+SESSION_BUDGET = 20  # seconds for a session's hundreds of runs
 
 
 def requested_tests(crate: str) -> list[str]:
@@ -54,8 +54,8 @@ Pairs = dict[bytes, bytes]
 
 @dataclass(frozen=True)
 class RefusedSession:
-    """A session's options, batch file and answers. `old` is the batch file and the answers of the session that makes its file. `states` has the
-    file's pairs before the session (None: no file) and after each flush."""
+    """`old` has the batch file and the answers of the session that makes the file. `states` has the file's pairs before the session (None: no file)
+    and after each flush."""
 
     name: str
     words: tuple[str, ...]
@@ -68,15 +68,15 @@ class RefusedSession:
         return wrong_session(ran, self.answers, self.is_fault)
 
     def is_fault(self, err: bytes) -> bool:
-        """Returns whether these errors are fault 6 or, in memory, fault 9, which a refused allocation of the disk causes."""
+        """A refused allocation is fault 6 or, for a store in memory, fault 9 of the disk."""
         fault = next((fault for fault in (NO_MEMORY, DEVICE) if err.startswith(fault)), None)
         if fault is None or fault == DEVICE and self.states:
             return False
         return err == fault or "--explain" in self.words and EXPLANATION.fullmatch(err, len(fault)) is not None
 
     def wrong_file(self, ran: subprocess.CompletedProcess[bytes], path: Path) -> str | None:
-        """Checks the file: it has the last flush that was answered, or the next one if its answer could not be allocated. Before the first flush,
-        a new file may have no pairs."""
+        """The file has the last flush that was answered, or the next one if its answer could not be allocated. Before the first flush, a new file
+        may have no pairs."""
         flushes = len(FLUSHED.findall(ran.stdout))
         is_next = FLUSHED.match(self.answers, len(ran.stdout)) is not None
         expected = [self.states[flushes], *self.states[flushes + 1 : flushes + 1 + is_next]]
@@ -118,7 +118,6 @@ SESSIONS = [
 
 
 def refuse_session(programs: Programs, library: Path, number: int) -> Outcome:
-    """Refuses each allocation of a session in turn, always on an equal file, and checks the file."""
     session = SESSIONS[number]
     with new_folder() as folder:
         path, old = Path(folder) / "store", Path(folder) / "old"

@@ -1,17 +1,15 @@
-"""Sessions that are written down in `checks/sessions/`: each is run on the built program, in a folder of its own. Long ones are made here.
-
-The beginning of a line says what it is; empty lines and those that begin with # are comments.
+"""Runs the sessions of `checks/sessions/`, each in a folder of its own, and long ones that are made here.
 
     session NAME        begins a session, which is a list of steps
     $ bwsh WORDS        begins a step: the program is run with these words; if several such lines follow one another, once for each of them
-    < LINE              a line of its input
-    > LINE              a line that is expected on its standard output; `! LINE`, one on its standard error. Their order is free
-    exit N              the status that is expected; without it 0
-    file NAME N         afterwards this file has N bytes; `none`, there is no such file; `kept`, it has the bytes that it had before the step
+    < LINE              a line of input
+    > LINE              a line of standard output; `! LINE`, one of standard error. Their order is free
+    exit N              the status, if it is not 0
+    file NAME N         afterwards this file has N bytes; `none`, there is no such file; `kept`, it is unchanged
     zeros NAME N        before the next step this file is made of N zeros; `cut NAME N`, it is cut to this length
 
 In a line, \\t, \\r and \\xFF are bytes, and \\ at its end means that no line feed follows. `<*3 LINE` is three such lines, and `<a-q LINE` one for
-each letter, which replaces the @.
+each letter, which replaces the @. Empty lines and lines that begin with # are comments.
 """
 
 import re
@@ -61,7 +59,6 @@ def bytes_of(line: str) -> bytes:
 
 
 def lines_of(found: re.Match[str]) -> bytes:
-    """Decodes a line that may stand for several lines."""
     _, times, first, last, line = found.groups(default="")
     if first:
         return b"".join(bytes_of(line.replace("@", chr(letter))) for letter in range(ord(first), ord(last) + 1))
@@ -77,7 +74,7 @@ class SessionFileReader:
                 raise ValueError(f"{path.name}: line {number} does not belong to a session: {line}")
 
     def take(self, number: int, line: str) -> bool:
-        """Parses a line. Returns False if it is invalid."""
+        """Returns whether the line is valid."""
         if line.startswith("session "):
             self.sessions.append(WrittenSession(line.removeprefix("session ")))
             return not self.changes
@@ -154,8 +151,7 @@ IN_A_BATCH = 10
 
 
 def grow_and_shrink() -> tuple[bytes, bytes]:
-    """Puts and then deletes many keys with small pages, so that the tree grows and shrinks. The step is coprime with the count: each key comes
-    once."""
+    """The step is coprime with the count, so each key comes once."""
     puts = [b"put %d v\n" % (place * 389 % KEYS) for place in range(KEYS)]
     deletes = [b"get %d\ndel %d\n" % (key, key) for key in range(KEYS)]
     lines = [line + (b"go\n" if at % IN_A_BATCH == IN_A_BATCH - 1 else b"") for at, line in enumerate(puts + deletes)]
@@ -163,7 +159,7 @@ def grow_and_shrink() -> tuple[bytes, bytes]:
 
 
 def full_log() -> tuple[bytes, bytes]:
-    """Fills the log of worked example 15. The eighteenth flush is refused; the answers before it are printed."""
+    """Fills the log of worked example 15, so that the eighteenth flush is refused."""
     out = b"new\nflushed 2\n" + b"".join(b"replaced\nflushed %d\n" % number for number in range(3, 19)) + b"replaced\n"
     return 18 * b"put a 0123456789abcdef\nflush\n", out
 
@@ -187,7 +183,7 @@ ENTRIES = 50
 
 
 def open_folder(programs: Programs) -> Outcome:
-    """Opens a folder instead of a file, with many entries, so that its size exceeds the front of a store."""
+    """The entries make the folder's size exceed the front of a store."""
     with new_folder() as folder:
         for number in range(ENTRIES):
             (Path(folder) / f"entry {number}").touch()

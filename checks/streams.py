@@ -13,20 +13,18 @@ from tools.processes import Command, Limits, RunResult, new_folder, run
 
 CLOSED = (">&-", "<&-", "2>&-", ">&- 2>&-", "<&- >&-", "<&- 2>&-", "<&- >&- 2>&-")
 OLD = b"put a 1\nflush\nput a 2\nput b 3\nflush\n"
-IN_PLACE = re.compile(rb"\r[^\r\n]*\x1b\[K")  # a line that replaces the one before it, printed by --progress
+IN_PLACE = re.compile(rb"\r[^\r\n]*\x1b\[K")  # a line of --progress
 OLD_PAIRS = [(b"a", b"2"), (b"b", b"3")]
 OLD_ANSWER = answer_to_read_all(OLD_PAIRS, 1, 1)
 
 
 @dataclass(frozen=True)
 class StreamSession:
-    """A session on an old or new file: its options, batch file, and expected ending with open streams. `copied` has the pairs of its copy."""
-
     name: str
     words: tuple[str, ...]
     text: bytes
-    ending: Ending
-    copied: list[tuple[bytes, bytes]] | None = None
+    ending: Ending  # with open streams
+    copied: list[tuple[bytes, bytes]] | None = None  # the pairs of its copy
 
     def command(self, program: Path, path: Path) -> Command:
         return [program, *self.words, f"--disk={path}", *([f"--copy-to={copy_of(path)}"] if self.copied is not None else [])]
@@ -80,8 +78,8 @@ def make_old_file(programs: Programs, path: Path) -> bytes:
 
 
 def wrong_ending(ran: RunResult, session: StreamSession, closed: str) -> str | None:
-    """Checks how a session with closed streams ends. A bad line is found before a closed output, except with --stream. With only standard error
-    closed, the session may continue or end with fault 9."""
+    """A bad line is found before a closed output, except with --stream. With only standard error closed, the session may continue or end with fault
+    9."""
     status, out, err = session.ending
     if closed == "2>&-" and (ran.status, ran.out) == (4, b""):
         return None
@@ -91,7 +89,6 @@ def wrong_ending(ran: RunResult, session: StreamSession, closed: str) -> str | N
 
 
 def close(programs: Programs, number: int, closed: str) -> Outcome:
-    """Runs a session with these streams closed and with all open, on equal files."""
     session = SESSIONS[number]
     with new_folder() as folder:
         path, other = Path(folder) / "file", Path(folder) / "other"

@@ -7,7 +7,7 @@ from pathlib import Path
 from tools import kit
 from tools.cases import Case, Outcome, Programs
 
-PATIENCE = 300  # seconds that a test may take
+PATIENCE = 300  # seconds of a test
 RESULT = re.compile(r"^test result: ok\. (\d+) passed; 0 failed; 0 ignored; 0 filtered out$", re.MULTILINE)
 
 

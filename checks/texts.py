@@ -42,7 +42,7 @@ def puts(count: int) -> bytes:
 
 
 def wipes_and_scans(lo: bytes) -> bytes:
-    """Returns a batch of wipes of the next pairs, each followed by a scan of three rows from `lo`, or from the end of the wipe if `lo` is empty."""
+    """Each scan begins at `lo` or, if it is empty, where the wipe before it began."""
     ends = [(b"%06d" % (STEP * turn), b"%06d" % (STEP * (turn + 1))) for turn in range(TURNS)]
     return puts(TURNS * STEP) + b"".join(b"wipe %s %s\nscan %s * 3\n" % (lo or first, last, lo or first) for first, last in ends)
 
@@ -124,7 +124,6 @@ def ending_of_line(byte: int) -> Ending:
 
 
 def ending_of_word(byte: int) -> Ending:
-    """Returns how a session ends that gets the key with this escape."""
     if byte in b" \t\r\n":
         return bad_line("wrong number of words")
     return (0, b"missing\n", b"") if 0x21 <= byte <= 0x7E else bad_line("bad token")

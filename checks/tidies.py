@@ -51,8 +51,8 @@ def without_counts(out: bytes) -> list[bytes]:
 
 
 def merge(programs: Programs, kind: str) -> Outcome:
-    """Tidies a queue of fifty pairs after a thousand. They are in four of 61 leaves, so 68 pages become 11. The counts follow from the rules, as
-    in the engine's test. A second flush writes the merged pages."""
+    """Fifty of a thousand pairs remain, in four of 61 leaves, so 68 pages become 11. The counts follow from the rules, as in the engine's test. A
+    second flush writes the merged pages."""
     text, out = queue(0, 20)
     words = ("--stream",) if kind == "stream" else ()
     ran = run([programs.store, *QUEUE, *words, "--tidy=4294967295"], text + b"verify\nflush\nverify\nflush\n")
@@ -63,7 +63,7 @@ def merge(programs: Programs, kind: str) -> Outcome:
 
 
 def keep_small(programs: Programs) -> Outcome:
-    """Tidies a queue at every fifth batch, so that it has at most 21 pages. With --tidy=1 a flush merges one page."""
+    """With --tidy=1 a flush merges one page."""
     text = b"".join(queue(first, first + 5)[0] + b"verify\nflush\n" for first in range(0, 40, 5))
     most = max(pages(run([programs.store, *QUEUE, "--tidy=64"], text).out))
     few = run([programs.store, *QUEUE, "--tidy=1"], queue(0, 20)[0] + 3 * b"verify\nflush\n")
@@ -88,7 +88,7 @@ def random_lines(seed: int) -> bytes:
 
 
 def compare_answers(programs: Programs, seed: int) -> Outcome:
-    """Compares answers with and without --tidy, also with --stream. With --tidy=0 the whole output is equal."""
+    """With --tidy=0 the whole output is equal."""
     text = random_lines(seed)
     words: Command = [programs.store, *QUEUE, "--clean-when-full", "--stat"]
     plain = run(words, text)
@@ -101,7 +101,7 @@ def compare_answers(programs: Programs, seed: int) -> Outcome:
 
 
 def flush_merged(programs: Programs) -> Outcome:
-    """Checks that merges after a session's last flush are not in the file, and that earlier ones are."""
+    """Merges after a session's last flush are not in the file; earlier ones are."""
     with new_folder() as folder:
         path, text = Path(folder) / "store", queue(0, 20)[0]
         run([programs.store, *QUEUE, "--disk", path, "--create", "--tidy=999"], text + b"flush\n")
@@ -115,7 +115,6 @@ def flush_merged(programs: Programs) -> Outcome:
 
 
 def clean_often(programs: Programs) -> Outcome:
-    """Runs a queue in a small log, which must be cleaned often, and keeps few leaves."""
     text = b"".join(queue(number, number + 1)[0] + b"flush\n" for number in range(200))
     ran = run([programs.store, *SMALL, "--clean-when-full", "--tidy=64"], text + b"verify\nscan % * 99\n")
     cleans, flushes = ran.out.count(b"cleaned "), ran.out.count(b"flushed ")
@@ -138,7 +137,7 @@ def stops(programs: Programs) -> Outcome:
 
 
 def close_pipe(programs: Programs) -> Outcome:
-    """Closes the answers' pipe after a flush was answered and before its merges. The next flush ends the session."""
+    """Closes the pipe after a flush was answered and before its merges. The next flush ends the session."""
     text, out = queue(0, 6)
     dialog = Dialog(programs.store, *QUEUE, "--tidy=99")
     dialog.send(text + b"flush\n")
@@ -180,14 +179,14 @@ def wrong_tidied(ran: subprocess.CompletedProcess[bytes]) -> str | None:
 
 
 def refuse_last(programs: Programs, library: Path) -> Outcome:
-    """Refuses each of the session's last ten allocations, which belong to merges. All is answered, or the session ends with fault 6."""
+    """The session's last ten allocations belong to merges. All is answered, though the session may end with fault 6."""
     text, out = queue(0, 6)
 
     def run_refused(number: int) -> subprocess.CompletedProcess[bytes]:
         command: Command = [programs.store, *QUEUE, "--tidy=99"]
         return subprocess.run(command, env=refusing(library, number), input=text + b"flush\n", capture_output=True, timeout=PATIENCE)
 
-    last, none = 1, 1 << 20  # numbers of one allocation that the session makes, and of one beyond its last
+    last, none = 1, 1 << 20  # an allocation that the session makes, and one beyond its last
     while none - last > 1:
         number = (last + none) // 2
         last, none = (number, none) if REFUSED in run_refused(number).stderr else (last, number)

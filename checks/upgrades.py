@@ -46,7 +46,6 @@ def make(programs: Programs, path: Path, text: bytes, *words: str) -> tuple[byte
 
 
 def upgrade(programs: Programs, seed: int) -> Outcome:
-    """Upgrades a random store, and compares the bytes. A second upgrade is refused; flushes and cleans succeed."""
     chance = random.Random(seed)
     text, _ = drawn_batches(chance, batches=8, most=300, keys=400)
     size = chance.choice([512, 1024, 4096])
@@ -77,7 +76,7 @@ def kill(programs: Programs, path: Path, delay: float) -> tuple[bytes, float]:
 
 
 def check_killed(programs: Programs, path: Path, out: bytes, slot: Slot, ending: Ending) -> tuple[bool, str | None]:
-    """Returns whether a killed upgrade was complete, and an error. The recovered store must be unchanged, in one version."""
+    """Returns whether the upgrade was complete, and an error."""
     disk = path.read_bytes()
     is_done = read_slot(disk, read_settings(disk)).version == 2
     wrong = "an upgrade was reported that was not recovered" if answer_to_upgrade(slot) in out and not is_done else None

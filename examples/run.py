@@ -12,7 +12,7 @@ sys.path.append(str(Path(__file__).resolve().parent.parent))
 
 from tools import building  # noqa: E402
 
-# The lines of a first session, and those of a second session on the same file.
+# The lines of a first session, and of a second one on the same file.
 SESSIONS: dict[str, tuple[list[str], ...]] = {
     "events": (["append 20261127 rain", "append 20261128 walk", "append 20261128 tea"], ["day 20261128", "newest 3"]),
     "people": (["add ann Rome", "add cat Rome"], ["add ann Oslo", "in Rome", "check"]),
@@ -25,7 +25,6 @@ SESSIONS: dict[str, tuple[list[str], ...]] = {
 
 
 def show(name: str) -> None:
-    """Prints two sessions and their output, as they look in a shell."""
     with tempfile.TemporaryDirectory() as folder:
         for lines in SESSIONS[name]:
             text = "".join(f"{line}\n" for line in lines)

@@ -1,16 +1,16 @@
-"""The program's printed answers for a given store, and how its sessions end."""
+"""The answers that `bwsh` prints."""
 
 from tools.log.reading import BadStore, read_store
 
 ALL_ROWS = 4_294_967_295  # the greatest limit of a scan
-READ_ALL = b"scan % * 4294967295\nverify\n"  # commands that print all pairs and the report
+READ_ALL = b"scan % * 4294967295\nverify\n"
 Ending = tuple[int, bytes, bytes]  # exit status, standard output, standard error
 
 ENCODED_BYTES = [bytes([byte]) if 0x21 <= byte <= 0x7E and byte != 0x25 else b"%%%02X" % byte for byte in range(256)]
 
 
 def token(text: bytes) -> bytes:
-    """Escapes a key or a value as the program prints it."""
+    """Escapes a key or a value as `bwsh` prints it."""
     return b"".join([ENCODED_BYTES[byte] for byte in text]) or b"%"
 
 
@@ -23,7 +23,6 @@ def answer_to_read_all(pairs: list[tuple[bytes, bytes]], pages: int, height: int
 
 
 def ending_of_read_all(disk: bytes) -> Ending:
-    """Returns how a session ends that runs READ_ALL on a file with these bytes."""
     try:
         store = read_store(disk)
     except BadStore as fault:

@@ -1,4 +1,4 @@
-"""Test cases, their outcomes, and the programs that they run."""
+"""Test cases and their outcomes."""
 
 from collections.abc import Callable
 from dataclasses import dataclass, field
@@ -7,32 +7,28 @@ from typing import Any
 
 from tools.processes import RunResult, abbreviate
 
-SLOW = 4  # time limits are multiplied by this, for machines slower than the one on which they were set
-# Options of a store whose pages and log are soon full.
+SLOW = 4  # factor of time limits, for slow machines
+# A store whose pages and log fill up soon.
 SMALL_STORE = ("--fan=4", "--chain=2", "--max-key=16", "--max-value=16", "--seg-size=256", "--segments=4")
 
 
 @dataclass(frozen=True)
 class Programs:
-    """The programs under test: `bwsh`, the crates' test programs, and the folder of the examples."""
-
-    store: Path
+    store: Path  # `bwsh`
     tests: dict[str, Path] = field(default_factory=dict)
     examples: Path = Path("examples/out")
 
 
 @dataclass(frozen=True)
 class Outcome:
-    """The outcome of a case: the error, the reason why the case was skipped, and what was measured."""
-
     wrong: str | None = None
-    left_out: str | None = None
+    left_out: str | None = None  # why the case was skipped
     measured: str = ""
 
 
 @dataclass(frozen=True)
 class Case:
-    """A test case. It is sent to another process, so `check` must be a module-level function."""
+    """A case is sent to another process, so `check` must be a module-level function."""
 
     name: str
     check: Callable[..., Outcome]
@@ -41,17 +37,17 @@ class Case:
     def outcome(self) -> Outcome:
         try:
             return self.check(*self.arguments)
-        except Exception as error:  # the case has failed, and the others go on
+        except Exception as error:
             return Outcome(f"{type(error).__name__}: {error}")
 
 
 def differs(result: RunResult, status: int, out: bytes, err: bytes = b"") -> str | None:
-    """Compares a program's result with the expected status, output and errors. Returns a description of the difference, or None."""
+    """Describes the difference from the expected result, if any."""
     if (result.status, result.out, result.err) == (status, out, err):
         return None
     return f"{result.describe()}; expected were status {status}, output {abbreviate(out)}, errors {abbreviate(err)}"
 
 
 def first_difference(left: bytes, right: bytes) -> int:
-    """Returns the first index at which two byte strings differ, or the shorter length if one is a prefix of the other."""
+    """Returns the first index that differs, or the shorter length."""
     return next((at for at, pair in enumerate(zip(left, right)) if pair[0] != pair[1]), min(len(left), len(right)))

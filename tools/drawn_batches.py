@@ -1,4 +1,4 @@
-"""Random batches, and the expected answers."""
+"""Random batches and their answers."""
 
 import random
 
@@ -6,14 +6,13 @@ from tools.model import OrderedMap
 
 
 def drawn_range(chance: random.Random, key: bytes) -> tuple[bytes, bytes | None]:
-    """Returns random bounds: nearly always the keys with the same prefix as this one, sometimes up to another key or to the end."""
+    """Returns bounds, nearly always of the keys that share a prefix with `key`."""
     length = max(1, len(key) - chance.choices([0, 1, 2, 3], [60, 30, 8, 2])[0])
     others = [key[:length] + b"~", b"%x" % chance.randrange(1 << 16), None]
     return key[:length], chance.choices(others, [500, 2, 1])[0]
 
 
 def drawn_command(chance: random.Random, pairs: OrderedMap, weights: list[int], keys: int, value: bytes) -> tuple[bytes, list[bytes]]:
-    """Returns the line of a random command, and the lines of its reply."""
     key = b"%x" % chance.randrange(keys)
     name = chance.choices(["put", "del", "get", "scan", "wipe"], weights)[0]
     if name == "put":
@@ -30,8 +29,7 @@ def drawn_command(chance: random.Random, pairs: OrderedMap, weights: list[int], 
 
 
 def drawn_batches(chance: random.Random, batches: int, most: int, keys: int) -> tuple[bytes, bytes]:
-    """Returns a file of random batches and the answers to it. Two batches that mostly put alternate with two that mostly delete; a scan of all
-    pairs follows each."""
+    """Returns batches and their answers. Two that mostly put alternate with two that mostly delete."""
     pairs, text, answers = OrderedMap(), bytearray(), list[bytes]()
     for batch in range(batches):
         weights = [240, 40, 40, 5, 10] if batch % 4 < 2 else [40, 240, 40, 5, 10]

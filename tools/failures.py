@@ -1,4 +1,4 @@
-"""Runs programs whose system calls or allocations fail, by preloading `c/fail.c` or `c/refuse.c`."""
+"""Runs programs whose system calls (`c/fail.c`) or allocations (`c/refuse.c`) fail."""
 
 import errno
 import itertools
@@ -12,26 +12,23 @@ from tools.cases import Outcome
 from tools.processes import PATIENCE, Command, abbreviate
 
 FAIL, REFUSE = (Path(__file__).resolve().parent / "c" / name for name in ("fail.c", "refuse.c"))
-ALWAYS = 1_000_000  # calls
-REFUSED = b"<refused>"  # the library prints this when it refuses an allocation
+ALWAYS = 1_000_000
+REFUSED = b"<refused>"  # printed with each refusal
 NO_MEMORY, DEVICE = b"fault 6 NoMemory\n", b"fault 9 Device\n"
-BUDGET = 90  # seconds that a case may take
-# A session with an order of each kind, and its answers.
+BUDGET = 90  # seconds
+# A session with an order of each kind.
 TEXT = b"put %41 1\nget A\nscan % * 9\nverify\ndel A\nput B 1\nwipe A *\nget A\nupgrade\n"
 ANSWERS = b"new\nvalue 1\nrows 1\nA 1\nok 1 1 1\ndeleted\nnew\nwiped 1\nmissing\nupgraded 2\n"
 
 
 @dataclass(frozen=True)
 class FailingCalls:
-    """Makes `count` calls of one kind fail with this error, from call number `first` (counted from 0). With `cuts`, reads and writes transfer one
-    byte at a time. `wait` delays calls on the file, in milliseconds."""
-
     call: str
-    first: int = 0
+    first: int = 0  # counted from 0
     count: int = ALWAYS
     error: int = errno.EIO
-    cuts: bool = False
-    wait: int = 0
+    cuts: bool = False  # reads and writes transfer single bytes
+    wait: int = 0  # milliseconds more for each read and write of the file
 
     def environment(self, library: Path, file: object) -> dict[str, str]:
         numbers = {"FAIL_FROM": str(self.first), "FAIL_COUNT": str(self.count), "FAIL_ERROR": str(self.error), "FAIL_WAIT": str(self.wait)}
@@ -49,8 +46,7 @@ def wrong_test(ran: subprocess.CompletedProcess[bytes]) -> str | None:
 
 
 def wrong_session(ran: subprocess.CompletedProcess[bytes], answers: bytes, is_fault: Callable[[bytes], bool]) -> str | None:
-    """Returns what is wrong with a session's result. It must give all answers, or end by an allowed fault after a prefix of the answers, in whole
-    lines."""
+    """A session must give all answers, or end by an allowed fault after whole lines of them."""
     out, err = ran.stdout, ran.stderr.replace(REFUSED, b"")
     is_done = (ran.returncode, out, err) == (0, answers, b"")
     is_beginning = answers.startswith(out) and (not out or out.endswith(b"\n"))
@@ -68,8 +64,7 @@ def refuse_each(
     wrong_run: Callable[[subprocess.CompletedProcess[bytes]], str | None] = wrong_test,
     prepare: Callable[[], object] = lambda: None,
 ) -> Outcome:
-    """Runs a command repeatedly, each time with another allocation refused, until the number exceeds the number of allocations or `budget` seconds
-    have passed."""
+    """Refuses every `step`-th allocation from `first` on, one in each run, for at most `budget` seconds."""
     failed: list[str] = []
     end = time.monotonic() + budget
     for number in itertools.count(first, step):

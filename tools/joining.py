@@ -1,15 +1,12 @@
-"""Makes one program of several: each becomes a module, and the program runs the one by whose name it is called.
-
-The compiler reads all crates of the engine for each program that it builds, so one program of all examples takes a fifth of the time that seven
-programs take.
-"""
+"""Joins several programs to one, which runs the one by whose name it is called. Each build reads the whole engine, so one build takes less time than
+seven."""
 
 import re
 from pathlib import Path
 
-# What a `main` may use of its runtime. A module's function gets it through a type parameter, since only `main` itself may use all of it directly.
+# Only `main` may use the runtime directly; a module's function takes one with these traits.
 BOUNDS = "std::rt::Runtime + AllocGlobal + std::thread::Threads + std::sync::Wait + Sync + Send + Copy + 'static"
-LIST = "Lib.antt"  # the file that lists a folder's modules
+LIST = "Lib.antt"  # lists a folder's modules
 SIGNATURE = re.compile(r"^fn main\(rt: HostRuntime\) -> (\S+) \{$", re.MULTILINE)
 MAIN = """//! Runs one of several programs: the one by whose name this program is called.
 #![tactic(auto)]
@@ -36,7 +33,7 @@ class JoinError(Exception):
 
 
 def module_of(name: str, source: str, crate: str) -> tuple[str, str]:
-    """Returns a program's source as a module of the crate, and the arm of `match` that runs it."""
+    """Returns a module, and the arm of `match` that runs it."""
     found = SIGNATURE.search(source)
     if found is None:
         raise JoinError(f"{name}: no line 'fn main(rt: HostRuntime) -> TYPE {{'")
@@ -47,7 +44,6 @@ def module_of(name: str, source: str, crate: str) -> tuple[str, str]:
 
 
 def join_programs(folders: dict[str, Path], crate: Path) -> None:
-    """Writes a crate whose program contains the programs with sources in these folders, by their names, with their specifications."""
     (crate / "src").mkdir(parents=True)
     lists: dict[Path, str] = {}
     arms = []

@@ -1,4 +1,4 @@
-"""Kills sessions on a store in a file, during and between flushes, and compares the recovered pairs with the answers."""
+"""Kills sessions, and compares the recovered pairs with the answers."""
 
 import random
 import subprocess
@@ -13,24 +13,23 @@ from tools.answers import token
 from tools.model import OrderedMap
 from tools.processes import run_until
 
-# Small pages and segments, so that leaves often split and merge, and every few flushes start a new segment.
+# Leaves often split and merge, and every few flushes start a segment.
 SETTINGS = "--fan 8 --chain 4 --max-key 16 --max-value 64 --seg-size 1024 --segments 65536".split()
 KEYS = 300
-MOST = 50_000  # flushes before a new store is made; its log has room for one more run
-READ_BACK = b"scan % * 4294967295\nverify\nflush\n"  # prints all pairs, the report, and the number of the last flush
+MOST = 50_000  # flushes of a store, whose log has room for one more run
+READ_BACK = b"scan % * 4294967295\nverify\nflush\n"  # the empty flush prints the last number
 
 Lines = list[bytes]
 
 
 def changes(number: int) -> dict[bytes, bytes | None]:
-    """Returns the changes of this batch by key; None deletes a key. The first change is a put, so that each flush has something to write."""
+    """None deletes a key. The first change is a put, so that each flush writes."""
     keys = [b"k%d" % ((number * 37 + at * 11) % KEYS) for at in range(1 + number % 5)]
     value = b"%d" % number + b"." * (number % 40)
     return {key: value if at == 0 or number // 100 % 2 == 0 else None for at, key in enumerate(keys)}
 
 
 def wiped_range(number: int) -> tuple[bytes, bytes | None] | None:
-    """Returns the bounds of the batch's wipe, if it begins with one. One in ten batches does."""
     first = number * 7 % KEYS
     if number % 10 != 9:
         return None
@@ -50,7 +49,7 @@ def batch_file(numbers: Iterable[int]) -> bytes:
 
 
 def play(pairs: OrderedMap, number: int) -> Lines:
-    """Runs a batch and its flush on the model, and returns the expected lines. A new store has sequence number 1."""
+    """A new store has sequence number 1."""
     bounds = wiped_range(number)
     lines = pairs.wipe(*bounds) if bounds else []
     for key, value in changes(number).items():
@@ -71,14 +70,13 @@ def answers(first: int, last: int) -> Lines:
 
 
 def read_back_after(number: int) -> Lines:
-    """Returns what READ_BACK prints after recovery. Of the report only the number of pairs is compared."""
+    """Of the report only the number of pairs is compared."""
     pairs = map_after(number).pairs
     rows = [token(key) + b" " + token(pairs[key]) for key in sorted(pairs)]
     return [b"rows %d" % len(rows), *rows, b"ok %d" % len(rows), b"flushed %d" % (number + 1)]
 
 
 def whole_lines(output: bytes) -> Lines:
-    """Drops an incomplete last line."""
     return output.split(b"\n")[:-1]
 
 
@@ -105,14 +103,13 @@ class KilledStore:
         return self
 
     def run(self, batches: int, folder: Path, delay: float | None = None) -> tuple[int, bytes, float]:
-        """Runs batches, and kills the session `delay` seconds after its first output. Returns its status, its output and its run time."""
+        """Kills the session `delay` seconds after its first output. Returns status, output and seconds."""
         text, out = folder / "batches", folder / "out"
         text.write_bytes(batch_file(range(self.done + 1, self.done + batches + 1)))
         status, seconds = run_until([*self.program, "--disk", self.path], text, out, delay=delay)
         return status, out.read_bytes(), seconds
 
     def read_back(self) -> Lines:
-        """Returns the recovered pairs, or how the reading session ended."""
         ended = subprocess.run([*self.program, "--disk", self.path], input=READ_BACK, capture_output=True)
         if ended.returncode:
             return [b"status %d: %s" % (ended.returncode, ended.stderr.strip())]
@@ -120,7 +117,7 @@ class KilledStore:
         return [b" ".join([line[0], line[-1]]) if line[:1] == [b"ok"] else b" ".join(line) for line in words]
 
     def check(self, batches: int, output: bytes) -> str | None:
-        """Checks the output and the recovered pairs. The store continues from there."""
+        """Returns an error, or sets `done` to the last recovered batch."""
         expected = answers(self.done + 1, self.done + batches)
         lines = whole_lines(output)
         if lines != expected[: len(lines)]:
@@ -134,7 +131,6 @@ class KilledStore:
 
 
 def time_whole_run(program: Sequence[Path], batches: int, folder: Path) -> float:
-    """Returns the seconds of a run that is not killed, and checks that all its batches are recovered."""
     store = KilledStore(program, folder / "whole").create()
     status, output, seconds = store.run(batches, folder)
     wrong = store.check(batches, output) if status == 0 else f"status {status}"
@@ -145,17 +141,14 @@ def time_whole_run(program: Sequence[Path], batches: int, folder: Path) -> float
 
 @dataclass(frozen=True)
 class KillOptions:
-    """How many kills there are in all and per store, how many batches a session has, and the seed."""
-
     kills: int = 20
-    lives: int = 4
-    batches: int = 1_000
+    lives: int = 4  # kills of one store
+    batches: int = 1_000  # of a session
     seed: int = 1
 
 
 def kill_often(program: Sequence[Path], options: KillOptions, folder: Path) -> tuple[list[str], Counter[int]]:
-    """Kills sessions on one store after the other. Returns the errors, and counts by how many flushes recovery was ahead of the last reported
-    flush (0 or 1)."""
+    """Returns the errors, and counts by how many flushes recovery was ahead of the last reported one."""
     chance = random.Random(options.seed)
     whole = time_whole_run(program, options.batches, folder)
     print(f"{options.batches} batches take {whole:.2f} s", file=sys.stderr)

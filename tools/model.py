@@ -1,4 +1,4 @@
-"""The model of a store by docs/RULES.md: an ordered map, the numbers in its file, and the output of its commands."""
+"""Models a store and its answers by docs/RULES.md."""
 
 from bisect import bisect_left, insort
 from collections.abc import Callable
@@ -14,15 +14,15 @@ BatchCommand = tuple[Any, ...]  # its name and arguments; a missing bound is Non
 
 
 class OrderedMap:
-    """An ordered map of byte strings. Each command returns the lines of its reply."""
+    """Each command returns the lines of its reply."""
 
     def __init__(self, pairs: dict[bytes, bytes] | None = None) -> None:
         self.pairs = dict(pairs or {})
         self.keys = sorted(self.pairs)
-        self.is_touched = False  # whether a flush would have changes to write
+        self.is_touched = False  # whether a flush would write
 
     def within(self, lo: bytes, hi: bytes | None) -> list[bytes]:
-        """Returns the keys from `lo` up to, but not including, `hi` (None means no upper bound)."""
+        """Excludes `hi`."""
         return self.keys[bisect_left(self.keys, lo) : None if hi is None else bisect_left(self.keys, hi)]
 
     def set(self, key: bytes, value: bytes) -> None:
@@ -74,15 +74,12 @@ class OrderedMap:
 
 @dataclass(frozen=True)
 class StoreState:
-    """The contents of a file: the pairs, and the numbers of the slot."""
-
     pairs: dict[bytes, bytes] = field(default_factory=dict)
     sequence: int = 1
     head: int = 0
     version: int = 0
 
     def describe(self, other: "StoreState | None") -> str:
-        """Describes this state in a line, with the first pair that differs from `other`."""
         pairs = sorted(set(self.pairs.items()) ^ set((other or self).pairs.items()))
         difference = f" ({len(pairs)} differ, as {pairs[0]})" if pairs else ""
         return f"sequence number {self.sequence}, head {self.head}, version {self.version}, {len(self.pairs)} pairs{difference}"
@@ -90,17 +87,15 @@ class StoreState:
 
 @dataclass(frozen=True)
 class Order:
-    """A line of a session: its expected output (`ok ?` begins a report whose page numbers are unknown) and the state of the file after it.
-    `ending` is the status and the errors, if the line ends the session. The line may instead end the session by one of `faults`, which the model
-    cannot predict because it has no pages."""
+    """A line of a session, and the file's state after it."""
 
     name: str
-    printed: list[bytes]
+    printed: list[bytes]  # `ok ?` begins a report with unknown page numbers
     after: StoreState | None
-    ending: tuple[int, bytes] | None = None
-    faults: tuple[bytes, ...] = ()
+    ending: tuple[int, bytes] | None = None  # status and errors, if the session ends
+    faults: tuple[bytes, ...] = ()  # other possible endings, which the model cannot predict
     size: int = 0  # commands of a batch
-    end: int = 0  # the session's line number up to which this belongs
+    end: int = 0  # number of its last line
 
     def is_writing(self) -> bool:
         return self.name in ("flush", "clean", "upgrade")
@@ -111,7 +106,6 @@ class StoreModel:
         self.file, self.settings, self.map = state, settings, OrderedMap(state.pairs)
 
     def fault_of(self, place: int, command: BatchCommand) -> bytes | None:
-        """Returns the fault that refuses the command at this place of a batch, if any."""
         name, *words = command
         keys, values = (words[:1], words[1:]) if name in ("put", "add") else (words[:2], [])
         if any(len(key) > self.settings.max_key for key in keys if key is not None):
@@ -132,7 +126,6 @@ class StoreModel:
         return Order(name, [line % getattr(self.file, number)], self.file, faults=faults)
 
     def order(self, name: str) -> Order:
-        """Runs a line that is not a batch. A flush writes only if there are changes. A clean does not write unflushed changes."""
         if name == "verify":
             return Order(name, [b"ok ? %d" % len(self.map.pairs)], self.file)
         if name == "clean":

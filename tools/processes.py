@@ -1,4 +1,4 @@
-"""Starts programs under limits, exchanges data with them over pipes, and measures their time and memory."""
+"""Starts programs under limits or on pipes, and measures time and memory."""
 
 import contextlib
 import os
@@ -14,13 +14,12 @@ from dataclasses import dataclass
 from pathlib import Path
 from typing import IO
 
-TOP = Path(__file__).resolve().parent.parent  # of the repository
-PROGRAM = TOP / "crates/bwsh/out/bwsh"  # as the gate builds it
+TOP = Path(__file__).resolve().parent.parent
+PROGRAM = TOP / "crates/bwsh/out/bwsh"
 MEGABYTE = 1_000_000
-# KB of stack. Programs need at most 64 KB, of which random placement by the system may take 8.
-# Builds without proofs need more; the environment variable STACK overrides this value.
+# KB. Programs need at most 64, of which random placement by the system may take 8.
 STACK = 56
-PATIENCE = 60  # seconds after which a program is killed
+PATIENCE = 60  # seconds until a program is killed
 POLL_INTERVAL = 0.002  # seconds
 MEMORY_FOLDER = Path("/dev/shm")
 
@@ -31,15 +30,13 @@ NO_VARIABLES: dict[str, str] = {}
 
 @dataclass(frozen=True)
 class Limits:
-    """The limits under which a program is started. `redirections` uses the shell's syntax: `>&-` closes standard output."""
-
-    stack: int | None = STACK  # KB; at least the environment variable STACK
+    stack: int | None = STACK  # KB; the environment variable STACK raises it
     memory: int | None = None  # KB of address space
-    file_blocks: int | None = None  # 512-byte blocks: the greatest length of a file that the program may write
-    redirections: str = ""
+    file_blocks: int | None = None  # 512-byte blocks of a written file
+    redirections: str = ""  # in the shell's syntax
 
     def shell_command(self, environment: Environment) -> str:
-        """Returns the shell command that sets the limits and then executes the program. Only the program gets `environment`."""
+        """Only the executed program gets `environment`."""
         commands = ["ulimit -c 0"]
         if self.file_blocks is not None:
             commands += ["trap '' XFSZ", f"ulimit -f {self.file_blocks}"]
@@ -53,14 +50,12 @@ class Limits:
 
 @dataclass(frozen=True)
 class RunResult:
-    """The result of a run. `status` is negative for a signal; `read` counts the input bytes that were consumed."""
-
-    status: int
+    status: int  # negative for a signal
     out: bytes
     err: bytes
     seconds: float  # of the processor
     memory: int  # peak, in bytes
-    read: int = 0
+    read: int = 0  # bytes of the input
 
     def is_fault(self, fault: str) -> bool:
         return self.status == 4 and self.err == f"{fault}\n".encode()
@@ -75,7 +70,7 @@ def abbreviate(text: bytes) -> str:
 
 
 def new_folder() -> tempfile.TemporaryDirectory[str]:
-    """Makes a temporary folder, in /dev/shm if there is one. Syncs take no time there, so kills are spread over the whole flush."""
+    """In /dev/shm syncs take no time, so kills are spread over the whole flush."""
     return tempfile.TemporaryDirectory(prefix="check-", dir=MEMORY_FOLDER if MEMORY_FOLDER.is_dir() else None)
 
 
@@ -85,16 +80,14 @@ def exit_if_missing(program: Path) -> None:
 
 
 def pipe_of(stream: IO[bytes] | None) -> IO[bytes]:
-    """Returns a standard stream of a child process that was started with a pipe."""
     assert stream is not None
     return stream
 
 
-# ---- Time and memory of a process.
+# ---- Time and memory.
 
 
 def process_status(pid: int) -> dict[str, str]:
-    """Returns the fields of /proc/PID/status, or none after the process has ended."""
     try:
         return dict(line.split(":\t", 1) for line in Path(f"/proc/{pid}/status").read_text().splitlines())
     except (OSError, ValueError):
@@ -106,7 +99,7 @@ def status_bytes(pid: int, field: str) -> int:
 
 
 def peak_memory(pid: int, name: str) -> int:
-    """Returns a process's peak memory in bytes: 0 before it has executed the program of this name, and after it has ended."""
+    """Returns bytes, or 0 before `name` is executed and after the end."""
     fields = process_status(pid)
     return int(fields["VmHWM"].split()[0]) * 1024 if fields.get("Name") == name[:15] and "VmHWM" in fields else 0
 
@@ -116,7 +109,7 @@ def resident_memory(pid: int) -> int:
 
 
 def processor_seconds(pid: int) -> float:
-    """Returns the user and system seconds of all threads of a process."""
+    """Returns user and system seconds of all threads."""
     return time.clock_gettime((~pid << 3) | 2)
 
 
@@ -127,7 +120,7 @@ def wait_for_end(child: subprocess.Popen[bytes]) -> float:
 
 
 def wait_and_measure(child: subprocess.Popen[bytes], name: str) -> tuple[float, int]:
-    """Waits until a program ends. Returns its processor seconds and peak memory in bytes. (`ru_maxrss` would include the parent's memory.)"""
+    """Returns processor seconds and peak bytes. (`ru_maxrss` would include the parent's memory.)"""
     memory, end = 0, time.monotonic() + PATIENCE
     while True:
         pid, status, usage = os.wait4(child.pid, os.WNOHANG)
@@ -140,7 +133,7 @@ def wait_and_measure(child: subprocess.Popen[bytes], name: str) -> tuple[float, 
         time.sleep(POLL_INTERVAL)
 
 
-# ---- Programs with a file as standard input.
+# ---- Programs on files.
 
 
 def run(
@@ -150,7 +143,7 @@ def run(
     folder: Path | None = None,
     environment: Environment | None = None,
 ) -> RunResult:
-    """Runs a program in `folder` with only these environment variables. Standard input is `text`, or the file at this path."""
+    """The program gets only these environment variables. `text` may be the path of its input."""
     with tempfile.TemporaryFile() as source, tempfile.TemporaryFile() as out, tempfile.TemporaryFile() as err:
         source.write(text.read_bytes() if isinstance(text, Path) else text)
         source.seek(0)
@@ -174,7 +167,6 @@ class BackgroundRun:
 
 
 def start(command: Command, text: bytes, folder: Path) -> BackgroundRun:
-    """Starts a program in the background, with its files in a new `folder`."""
     folder.mkdir()
     source, out, err = (folder / name for name in ("source", "out", "err"))
     source.write_bytes(text)
@@ -190,8 +182,8 @@ def run_until(
     delay: float | None = None,
     is_mixed: bool = False,
 ) -> tuple[int, float]:
-    """Runs a program until it has printed `size` bytes and `delay` seconds have passed, and then kills it; without a delay it runs to the end.
-    Returns its status and the seconds after those bytes."""
+    """Kills a program `delay` seconds after it has printed `size` bytes; without a delay it runs to the end. Returns its status and the seconds
+    after those bytes."""
     with open(source, "rb") as stdin, open(out, "wb") as stdout:
         child = subprocess.Popen(command, stdin=stdin, stdout=stdout, stderr=subprocess.STDOUT if is_mixed else None, env=NO_VARIABLES)
         end = time.monotonic() + PATIENCE
@@ -209,13 +201,11 @@ def run_until(
 
 
 class PipedProgram:
-    """A program whose standard streams are pipes to this process."""
-
     def __init__(self, command: Command) -> None:
         pipe = subprocess.PIPE
         self.process = subprocess.Popen(command, stdin=pipe, stdout=pipe, stderr=pipe, bufsize=0, env=NO_VARIABLES)
         self.input, self.output, self.errors = map(pipe_of, (self.process.stdin, self.process.stdout, self.process.stderr))
-        self.unread = b""  # read from the pipe; belongs to later lines
+        self.unread = b""  # of later lines
 
     def send(self, text: bytes) -> None:
         rest = memoryview(text)
@@ -223,7 +213,7 @@ class PipedProgram:
             rest = rest[self.input.write(rest) :]
 
     def read_line(self) -> bytes:
-        """Returns the next line of output, or an incomplete line if the program ends or prints nothing for long."""
+        """Returns an incomplete line at the end, or after a long silence."""
         while b"\n" not in self.unread:
             if not select.select([self.output], [], [], PATIENCE)[0]:
                 break
@@ -235,17 +225,16 @@ class PipedProgram:
         return line + feed
 
     def is_silent(self) -> bool:
-        """Returns whether the program prints nothing for 0.1 seconds."""
         return not self.unread and not select.select([self.output], [], [], 0.1)[0]
 
     def finish(self) -> tuple[int, bytes, bytes]:
-        """Closes the input and waits for the end. Returns the status, the remaining output and the errors."""
+        """Closes the input. Returns status, remaining output and errors."""
         self.input.close()
         out, err = self.unread + self.output.read(), self.errors.read()
         return self.process.wait(PATIENCE), out, err
 
     def finish_unread(self) -> tuple[int, bytes]:
-        """Waits for the end of a program whose output was closed. Returns its status and errors."""
+        """Returns status and errors, after the output was closed."""
         status, err = self.process.wait(PATIENCE), self.errors.read()
         self.input.close()
         return status, err
@@ -258,7 +247,7 @@ class PipedProgram:
 
 
 class Dialog(PipedProgram):
-    """A `--stream` session, which answers each batch before it reads the next."""
+    """Answers each batch before it reads the next."""
 
     def __init__(self, program: Path, *words: object) -> None:
         super().__init__([program, "--stream", *map(str, words)])
@@ -266,7 +255,7 @@ class Dialog(PipedProgram):
 
 @contextlib.contextmanager
 def stalled(command: Command, text: bytes) -> Iterator[subprocess.Popen[bytes]]:
-    """Starts a program whose answers exceed the pipe's capacity, and reads only one byte, so that the program blocks. Kills it at the end."""
+    """Yields a program that blocks, because its answers exceed the pipe's capacity."""
     with subprocess.Popen(command, stdin=subprocess.PIPE, stdout=subprocess.PIPE, env=NO_VARIABLES) as child:
         pipe_of(child.stdin).write(text)
         pipe_of(child.stdin).close()

@@ -12,8 +12,8 @@ sys.path.insert(0, str(Path(__file__).resolve().parents[2] / "clients/python"))
 from taukremil import Add, Command, Del, Put, Reply, Wipe  # noqa: E402
 
 PREFIX = b"batches/"
-REVISION = b"\x00revision"  # the key under which a store keeps the last revision that it applied
-MARK = b"mark/"  # prefix of the key that each batch adds, to detect a batch applied twice
+REVISION = b"\x00revision"  # key of the last revision that a store applied
+MARK = b"mark/"  # prefix of a key that each batch adds, to detect batches applied twice
 
 KINDS: dict[str, type[Put] | type[Add] | type[Del] | type[Wipe]] = {"put": Put, "add": Add, "del": Del, "wipe": Wipe}
 
@@ -24,7 +24,7 @@ def name_of(writer: str, number: int) -> str:
 
 @dataclass(frozen=True)
 class Batch:
-    """Holds commands, each a kind and its arguments. If `flush` is set, replicas flush and report after them."""
+    """If `flush` is set, replicas flush and report after the batch."""
 
     name: str
     sent: float
@@ -48,7 +48,6 @@ class Batch:
         return [KINDS[kind](*(word.encode() for word in words)) for kind, *words in self.commands]
 
     def play(self, contents: dict[bytes, bytes]) -> None:
-        """Adds the batch's mark to `contents`, and applies its commands."""
         contents[self.mark()] = b""
         for command in self.for_store():
             if isinstance(command, Put):

@@ -26,7 +26,6 @@ def end_with_parent() -> None:
 
 
 def free_ports(count: int) -> list[int]:
-    """Returns `count` free ports of the loopback address."""
     sockets = [socket.create_server(("127.0.0.1", 0)) for _ in range(count)]
     ports: list[int] = [each.getsockname()[1] for each in sockets]
     for each in sockets:
@@ -109,7 +108,7 @@ def members_in(folder: Path, etcd: str, count: int) -> list[Member]:
 
 @contextmanager
 def running(folder: Path, etcd: str, count: int = 3) -> Iterator[Cluster]:
-    """Starts a cluster of `count` members, and kills them at the end of the `with` block."""
+    """Kills the members at the end of the `with` block."""
     cluster = Cluster(members_in(folder, etcd, count))
     try:
         for member in cluster.members:

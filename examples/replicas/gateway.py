@@ -18,7 +18,7 @@ Json = dict[str, Any]
 
 
 class Compacted(Exception):
-    """Reports that etcd has compacted the revisions that a watch asked for."""
+    """etcd has compacted the revisions that a watch asked for."""
 
 
 def encode(data: bytes) -> str:
@@ -44,7 +44,7 @@ class Event:
 
 @dataclass
 class Gateway:
-    """Sends requests to one member of a cluster on the loopback address, and after a failure to the next."""
+    """Sends requests to one member, and after a failure to the next."""
 
     ports: list[int]
     at: int = 0
@@ -75,12 +75,12 @@ class Gateway:
         return response
 
     def ask_once(self, path: str, body: Json) -> Json:
-        """Sends a request to the current member. After a failure, the request may have been executed."""
+        """After a failure, the request may have been executed."""
         answer: Json = json.loads(self._post(path, body).read())
         return answer
 
     def ask(self, path: str, body: Json) -> Json:
-        """Sends a request until a member answers. The request may be executed more than once."""
+        """Repeats a request until a member answers, so it may be executed more than once."""
         while True:
             try:
                 return self.ask_once(path, body)
@@ -101,16 +101,13 @@ class Gateway:
         return int(pair["create_revision"])
 
     def all_of(self, prefix: bytes) -> list[Event]:
-        """Returns an event for each key with this prefix, ordered by revision."""
         bounds = {"key": encode(prefix), "range_end": encode(end_of(prefix))}
         answer = self.ask("/v3/kv/range", {**bounds, "sort_order": "ASCEND", "sort_target": "MOD"})
         return [Event.of(pair) for pair in answer.get("kvs", [])]
 
     def watch(self, prefix: bytes, first: int) -> Iterator[list[list[Event]]]:
-        """Yields lists of revisions, each a list of events, from revision `first` on, until the current member fails.
-
-        Raises `Compacted` if etcd no longer has revision `first`.
-        """
+        """Yields lists of revisions, each a list of events, until the current member fails. Raises `Compacted` if etcd
+        no longer has revision `first`."""
         bounds = {"key": encode(prefix), "range_end": encode(end_of(prefix))}
         response = self._post("/v3/watch", {"create_request": {**bounds, "start_revision": str(first)}})
         while line := response.readline():
@@ -125,7 +122,7 @@ class Gateway:
                 yield [list(same) for _, same in itertools.groupby(events, lambda event: event.revision)]
 
     def follow(self, prefix: bytes, first: int) -> Iterator[list[list[Event]]]:
-        """Yields each revision once, like `watch`, and continues with another member after a failure."""
+        """Yields each revision once, and continues with another member after a failure."""
         while True:
             try:
                 for revisions in self.watch(prefix, first):

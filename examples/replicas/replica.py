@@ -20,7 +20,7 @@ from gateway import Event, Gateway
 from taukremil import Add, Command, Killed, Put, Reply, Store
 
 SETTINGS = {"fan": 32, "chain": 8, "max_key": 32, "max_value": 128, "seg_size": 65_536, "segments": 96}
-PATIENCE = 20  # seconds to wait for the program of a killed replica to unlock the file
+PATIENCE = 20  # seconds for the program of a killed replica to unlock the file
 
 
 @dataclass(frozen=True)
@@ -33,7 +33,6 @@ class Revision:
         return Revision(events[0].revision, [Batch.read(event.value) for event in events])
 
     def commands(self) -> list[Command[Reply]]:
-        """Returns one batch of the marks, the commands and a put of the revision."""
         commands: list[Command[Reply]] = [Add(batch.mark(), b"") for batch in self.batches]
         commands += [command for batch in self.batches for command in batch.for_store()]
         return [*commands, Put(REVISION, b"%d" % self.number)]
@@ -44,7 +43,7 @@ class Revision:
 
 @dataclass
 class Replica:
-    """Applies revisions to a store. Only revisions determine when it flushes, so all replicas have equal bytes."""
+    """Only revisions determine when a replica flushes, so all replicas have equal bytes."""
 
     store: Store
     log: TextIO
@@ -59,12 +58,10 @@ class Replica:
         self.log.flush()
 
     def recover(self) -> None:
-        """Reads the last applied revision of a store that was just opened."""
         self.played = self.flushed = int(self.store.get(REVISION) or b"0")
         self.say("started", revision=self.played)
 
     def play(self, revisions: list[Revision]) -> None:
-        """Applies revisions, and flushes when due."""
         pending: list[Revision] = []
         for revision in revisions:
             pending.append(revision)
@@ -76,7 +73,7 @@ class Replica:
         self.run(pending)
 
     def run(self, revisions: list[Revision]) -> None:
-        """Applies each revision as one batch, and sends all of them at once."""
+        """Sends all revisions at once, each as one batch."""
         for revision, replies in zip(revisions, self.store.batches(revision.commands() for revision in revisions)):
             if not all(replies[: len(revision.batches)]):
                 raise SystemExit(f"a batch of revision {revision.number} was applied twice")
@@ -92,7 +89,7 @@ class Replica:
             self.report_contents(number)
 
     def report_contents(self, number: int) -> None:
-        """Logs the store's size and hash, to compare with other replicas at this revision."""
+        """Logs what must be equal in all replicas at this revision."""
         report, stat = self.store.verify(), self.store.stat()
         numbers = f"number {number}, ok {report.pages} {report.height} {report.pairs}, {stat.head} segments cleaned"
         digest = hashlib.sha256(self.store.path.read_bytes()).hexdigest()
@@ -113,7 +110,7 @@ class Replica:
                 gateway.close()
 
     def reopen(self) -> None:
-        """Continues with the last flushed store, also if the program is killed while it starts."""
+        """The program may be killed while it starts."""
         while True:
             try:
                 return self.store.reopen()

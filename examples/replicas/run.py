@@ -37,7 +37,7 @@ Line = dict[str, Any]
 
 
 def lines_of(log: Path) -> list[Line]:
-    """Returns the complete lines of a log."""
+    """Leaves out an incomplete last line."""
     if not log.exists():
         return []
     return [json.loads(line) for line in log.read_text().splitlines(keepends=True) if line.endswith("\n")]
@@ -45,7 +45,7 @@ def lines_of(log: Path) -> list[Line]:
 
 @dataclass
 class Process:
-    """Runs a replica or a writer, without tools/processes.py, so that the example can be copied alone."""
+    """Does not use tools/processes.py, so that the example can be copied alone."""
 
     name: str
     command: list[str]
@@ -68,7 +68,6 @@ class Process:
         self.running = None
 
     def end(self) -> None:
-        """Sends SIGTERM, and checks the status."""
         if self.running:
             self.running.terminate()
             if self.running.wait(PATIENCE) not in (0, -signal.SIGTERM):  # the signal came before its handler was set
@@ -115,8 +114,6 @@ def writers_in(folder: Path, ports: list[int], seed: int) -> list[Process]:
 
 
 class Chaos:
-    """Kills processes at random times, and starts them again."""
-
     def __init__(self, source: random.Random, members: cluster.Cluster, replicas: list[ReplicaProcess]) -> None:
         self.source, self.members, self.replicas = source, members, replicas
         self.done: dict[str, int] = {}
@@ -177,7 +174,6 @@ class Chaos:
 
 
 def check_contents(events: list[Event], acknowledged: list[Line], rows: list[Row]) -> None:
-    """Compares `rows` with a dict to which `events` are applied, and checks that no acknowledged batch is lost."""
     contents: dict[bytes, bytes] = {}
     for event in events:
         Batch.read(event.value).play(contents)
@@ -192,7 +188,7 @@ def check_contents(events: list[Event], acknowledged: list[Line], rows: list[Row
 
 
 def check_reports(replicas: list[ReplicaProcess]) -> tuple[int, str]:
-    """Checks that reports are equal, and returns how many revisions were compared and the last report."""
+    """Returns how many revisions more than one replica reported, and the last report."""
     seen: dict[int, set[tuple[str, str]]] = {}
     by: dict[int, set[str]] = {}
     for replica in replicas:
@@ -211,7 +207,7 @@ def check_reports(replicas: list[ReplicaProcess]) -> tuple[int, str]:
 
 
 def check_files(replicas: list[ReplicaProcess], program: Path) -> list[Row]:
-    """Checks that the files of stopped replicas are equal, and returns their pairs."""
+    """Returns the pairs in the files, which must be equal."""
     digests = {hashlib.sha256(replica.store.read_bytes()).hexdigest() for replica in replicas}
     if len(digests) > 1:
         raise SystemExit(f"the files differ: {sorted(digests)}")
@@ -235,7 +231,6 @@ def summary(times: list[float]) -> str:
 
 
 def await_all(replicas: list[ReplicaProcess], has_come: Callable[[ReplicaProcess], bool]) -> None:
-    """Waits until `has_come` is true of each replica."""
     end = time.monotonic() + PATIENCE
     while not all(map(has_come, replicas)):
         for replica in replicas:
@@ -246,7 +241,7 @@ def await_all(replicas: list[ReplicaProcess], has_come: Callable[[ReplicaProcess
 
 
 def drain(members: cluster.Cluster, replicas: list[ReplicaProcess]) -> None:
-    """Puts a last batch, and waits until all replicas have reported after it."""
+    """Waits until all replicas have reported a last batch."""
     last = Batch("end", time.time(), [], flush=True)
     revision = Gateway(members.ports).put_once(last.key(), last.text())
     await_all(replicas, lambda replica: replica.has_reported(revision))

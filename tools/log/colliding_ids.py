@@ -1,8 +1,5 @@
-"""Finds page ids that collide in a hash table of std with the fixed default seed.
-
-`FoldHasher` xors an id with the seed, multiplies it to 128 bits, and folds the product by xor to 32 bits. The low bits of the hash are the start
-of the search, so ids whose hashes agree in the low 16 bits collide in a table of up to 65,536 groups.
-"""
+"""Page ids that collide in a hash table of std with the fixed default seed. Their `FoldHasher` hashes agree in the low 16 bits, where the search
+starts in a table of up to 65,536 groups."""
 
 from collections import defaultdict
 from collections.abc import Iterator
@@ -19,12 +16,11 @@ def hash_of(pid: int) -> int:
 
 
 def part(product: int, number: int) -> int:
-    """Returns the 16 bits of a product with this index, from its low end."""
     return product >> 16 * number & LOW
 
 
 def tops_by_effect(above: int) -> dict[int, list[int]]:
-    """Returns the upper 16 bits of a factor, keyed by their effect on the low bits of the hash through parts 4 and 6 of the product."""
+    """Groups the upper 16 bits of a factor by their effect on the hash's low bits, through parts 4 and 6 of the product."""
     found = defaultdict(list)
     for top in range(2**16):
         product = top * MULTIPLIER << 48
@@ -33,8 +29,8 @@ def tops_by_effect(above: int) -> dict[int, list[int]]:
 
 
 def colliding_ids() -> Iterator[int]:
-    """Yields ids whose hashes end in 16 zero bits. Takes lower 48 bits for which part 4 of the product is zero, and looks up upper bits that
-    cancel parts 0 and 2. Ids that fail because of a carry are skipped."""
+    """Yields ids whose hashes end in 16 zero bits. Takes lower 48 bits for which part 4 of the product is zero, and looks up upper bits that cancel
+    parts 0 and 2. Skips ids that a carry spoils."""
     for above in range(2**16):
         by_effect = tops_by_effect(above)
         for middle in range(2**16):

@@ -1,4 +1,4 @@
-"""Decodes a store's file by docs/RULES.md and docs/FORMAT.md. Returns the store, or the fault that the program reports."""
+"""Decodes a store's file by docs/RULES.md and docs/FORMAT.md."""
 
 import struct
 from dataclasses import dataclass
@@ -9,12 +9,12 @@ from tools.log.writing import HEADER, MOST, Settings, Slot, common_length, heade
 LEAVES = (1, 2, 6)
 FULL = (1, 3, 6, 7)
 SHARED = (6, 7)
-RUNS = {1: 2, 6: 2, 3: 4, 7: 4, 5: None}  # the kind of a run's frame, by the kind of the frame before it
+RUNS = {1: 2, 6: 2, 3: 4, 7: 4, 5: None}  # kind of a page's runs, by that of its first frame
 DELTAS = (2, 4)
 FREE = 5
-KINDS = {0: range(1, 6), 2: range(1, 8)}  # of frames, by the version of the log
+KINDS = {0: range(1, 6), 2: range(1, 8)}  # of frames, by log version
 LIMITS = ((4, 64), (1, 16), (1, 255), (0, 1024), (256, 1_048_576), (3, 65_536))  # of the settings
-Cell = bytes | int | None  # a value, a page id, or None if the key is absent
+Cell = bytes | int | None  # a value, a page id, or None if deleted
 
 
 class BadStore(Exception):
@@ -31,10 +31,8 @@ class Frame:
 
 @dataclass
 class LoggedPage:
-    """A page in the log: its base and its runs, oldest first."""
-
     base: Frame
-    runs: list[Frame]
+    runs: list[Frame]  # oldest first
 
     def is_leaf(self) -> bool:
         return self.base.kind in LEAVES
@@ -54,8 +52,6 @@ class LoggedPage:
 
 @dataclass
 class StoredState:
-    """The store in a file: its pairs in key order, its numbers of pages and levels, and its slot."""
-
     pairs: list[tuple[bytes, bytes]]
     pages: int
     height: int
@@ -101,7 +97,7 @@ def read_settings(disk: bytes) -> Settings:
 
 
 def read_slot_at(disk: bytes, number: int, settings: Settings) -> Slot | None:
-    """Returns the slot with this number, or None if its gate is shut. Raises BadStore if the slot is invalid."""
+    """Returns None if the slot's gate is shut."""
     text = disk[128 + 64 * number : 192 + 64 * number]
     if text[0] != 1:
         return None
@@ -133,8 +129,7 @@ def read_cell(reader: FrameReader, kind: int, settings: Settings) -> bytes | int
 
 
 def read_key(reader: FrameReader, kind: int, before: bytes, settings: Settings) -> bytes:
-    """Returns a key. A prefix-compressed key gives the length of the prefix that it shares with the key before it, which must be the greatest
-    possible."""
+    """A prefix-compressed key must share as much as possible with the key before it."""
     if kind not in SHARED:
         return reader.counted(settings.max_key)
     shared, length = reader.number(1), reader.number(1)
@@ -173,7 +168,6 @@ def read_frame(text: bytes, at: int, end: int, version: int, settings: Settings)
 
 
 def read_frames(text: bytes, number: int, end: int, is_last: bool, version: int, settings: Settings) -> list[Frame]:
-    """Returns the frames of a segment, up to its end or the end of the log."""
     if text[:HEADER] != header(number):
         raise BadStore(f"fault 14 BadSegment {number}")
     at, frames = HEADER, []
@@ -218,8 +212,6 @@ def pages_by_log(frames: list[Frame]) -> dict[int, LoggedPage]:
 
 @dataclass(frozen=True)
 class PlaceInTree:
-    """A page in the tree, and the key range that its parent assigns to it."""
-
     pid: int
     low: bytes
     end: bytes | None
@@ -234,7 +226,7 @@ class PlaceInTree:
 
 
 def rule_broken(place: PlaceInTree, page: LoggedPage | None, level: int, is_root: bool, before: set[int], settings: Settings) -> int | None:
-    """Returns the lowest-numbered rule that this page breaks, or None."""
+    """Returns the lowest-numbered rule that is broken."""
     if page is None:
         return 2
     entries = page.entries()

@@ -5,14 +5,14 @@ from collections.abc import Iterable
 from dataclasses import dataclass, replace
 from os.path import commonprefix
 
-BEGIN = 512  # where the segments begin
-HEADER = 16  # bytes before a segment's first frame
+BEGIN = 512  # of the segments
+HEADER = 16
 MOST = 2**62  # of positions and sequence numbers
 
 
 @dataclass(frozen=True)
 class Settings:
-    """The settings of a store. The defaults are those of `bwsh`."""
+    """The defaults are those of `bwsh`."""
 
     fan: int = 16
     chain: int = 4
@@ -34,8 +34,7 @@ class Settings:
 
 @dataclass(frozen=True)
 class Slot:
-    """A commit's slot: commit count, first segment and end of the log, root, height, and log version (encoded as 0 for version 1, 2 for version
-    2)."""
+    """`head` is the log's first segment, and `tail` its end. `version` is 0 for version 1."""
 
     sequence: int
     head: int
@@ -52,7 +51,6 @@ class Slot:
 
 
 def counted(text: bytes) -> bytes:
-    """Encodes a byte string with its length before it."""
     return struct.pack(">H", len(text)) + text
 
 
@@ -74,7 +72,6 @@ def common_length(key: bytes, before: bytes) -> int:
 
 
 def shared_key(key: bytes, before: bytes) -> bytes:
-    """Encodes a key by the length of the prefix that it shares with the key before it, and its remaining bytes."""
     shared = common_length(key, before)
     return struct.pack(">BB", shared, len(key) - shared) + key[shared:]
 
@@ -123,7 +120,7 @@ def header(segment: int) -> bytes:
 
 
 def segments_of(settings: Settings, frames: Iterable[bytes]) -> list[bytes]:
-    """Returns the segments filled by these frames, each up to its last frame."""
+    """Segments end after their last frame."""
     segments = [bytearray(header(0))]
     for each in frames:
         if len(segments[-1]) + len(each) > settings.seg_size:
@@ -133,7 +130,6 @@ def segments_of(settings: Settings, frames: Iterable[bytes]) -> list[bytes]:
 
 
 def disk_with(settings: Settings, slots: Iterable[Slot], segments: Iterable[bytes]) -> bytes:
-    """Returns a file with these slots and first segments, and zeros elsewhere."""
     disk = bytearray(settings.disk_length())
     disk[:64] = settings.block()
     for slot in slots:
@@ -144,20 +140,20 @@ def disk_with(settings: Settings, slots: Iterable[Slot], segments: Iterable[byte
 
 
 def disk_of(settings: Settings, frames: Iterable[bytes], root: int = 0, height: int = 1, version: int = 0) -> bytes:
-    """Returns a file with one commit, whose log begins in the first segment."""
+    """Returns a file with one commit."""
     segments = segments_of(settings, frames)
     tail = (len(segments) - 1) * settings.seg_size + len(segments[-1])
     return disk_with(settings, [Slot(1, 0, tail, root, height, version)], segments)
 
 
 def fitting_disk(frames: list[bytes], root: int = 0, height: int = 1, version: int = 0, settings: Settings = Settings()) -> bytes:
-    """Returns a file with two free segments: one for a flush and one for a clean."""
+    """Leaves two segments free, for a flush and a clean."""
     used = len(segments_of(settings, frames))
     return disk_of(replace(settings, segments=used + 2), frames, root, height, version)
 
 
 def append(settings: Settings, disk: bytes, slot: Slot, frames: Iterable[bytes], version: int) -> bytes:
-    """Commits these frames at the end of the log described by `slot`, and returns the file. At least one segment must remain free."""
+    """Commits frames at the log's end. At least one segment must remain free."""
     now, at = bytearray(disk), slot.tail
     for each in frames:
         segment, offset = at // settings.seg_size, at % settings.seg_size

@@ -1,1 +1,1 @@
-"""Random sessions with kills, crashes, failing calls and refused allocations, compared with the model up to the first difference."""
+"""Random sessions with kills, crashes and failing calls, compared with the model."""

@@ -1,4 +1,4 @@
-"""Draws random settings, keys and batch files, with the lines that the model expects."""
+"""Draws random settings, keys and batch files."""
 
 import random
 from dataclasses import replace
@@ -15,13 +15,11 @@ BAD_LINES = {
     b"bad number": [b"scan a b 4294967296", b"scan % * -1", b"scan % * 1x"],
 }
 NAMES = ("put", "add", "get", "del", "scan", "wipe")
-GROWING, SHRINKING, MIXED = (12, 4, 2, 1, 1, 0), (3, 1, 1, 12, 1, 1), (4, 2, 4, 4, 2, 1)  # weights
+GROWING, SHRINKING, MIXED = (12, 4, 2, 1, 1, 0), (3, 1, 1, 12, 1, 1), (4, 2, 4, 4, 2, 1)
 ORDERS = {"go": 6.0, "flush": 8.0, "clean": 3.0, "upgrade": 0.3, "verify": 1.0}
 
 
 class DrawnStore:
-    """A store's random settings and keys, and its sessions' batch files."""
-
     def __init__(self, chance: random.Random) -> None:
         self.chance = chance
         is_small, fan = self.happens(0.7), chance.choice([4, 4, 5, 7, 8, 16, 64])
@@ -38,9 +36,8 @@ class DrawnStore:
         return self.chance.random() < probability
 
     def bad_setting(self) -> dict[str, int]:
-        """Returns a setting that is out of range, by itself or because a page's longest frame does not fit in a segment."""
         if self.longest > 256 and self.happens(0.2):
-            return {"seg_size": self.longest - 1}
+            return {"seg_size": self.longest - 1}  # too small for a full page
         name, (least, most) = self.chance.choice(list(zip(vars(self.settings), LIMITS)))
         return {name: self.chance.choice([number for number in (least - 1, most + 1) if number >= 0])}
 
@@ -70,7 +67,7 @@ class DrawnStore:
         return [self.command(weights) for _ in range(self.chance.choice([0, 1, 2, 5, 20, 60, 200]))]
 
     def word(self, word: bytes | int | None) -> bytes:
-        """Encodes an argument in one of the accepted ways. The key `*` is escaped, since `*` alone is a missing bound."""
+        """The key `*` is escaped, since `*` alone is a missing bound."""
         if word is None or isinstance(word, int):
             return b"*" if word is None else b"%0*d" % (self.chance.choice([1, 12]), word)
         if word and word != b"*" and self.happens(0.9):
@@ -85,7 +82,7 @@ class DrawnStore:
         return spaces.join([b"", name.encode(), *map(self.word, words)]) + end
 
     def session(self, model: StoreModel, is_full: bool, is_long: bool) -> tuple[list[bytes], list[Order]]:
-        """Returns a session's lines, and its orders up to the one that ends it. Starts with cleans if the log is full."""
+        """Returns a session's lines, and its orders up to the one that ends it."""
         names = ["clean"] * (self.chance.choice([1, 4, 20]) * is_full)
         weights = ORDERS if is_long else ORDERS | {"clean": 0.1}
         names += self.chance.choices(list(weights), list(weights.values()), k=self.chance.choice([0, 1, 3, 8, 20]))

@@ -1,4 +1,4 @@
-"""Tracks a store's file: the bytes of the last sync and the writes since, and what a crash may leave."""
+"""Tracks what a crash may leave of a store's file."""
 
 import random
 import struct
@@ -17,11 +17,9 @@ FIRST_WRITE = 545  # bytes of a new store's first write
 
 @dataclass(frozen=True)
 class FileContent:
-    """A file's contents: the store, if any; how a session that reads all of it ends; and whether its log has several segments."""
-
     state: StoreState | None = None
-    ending: Ending = (4, b"", DEVICE)
-    is_long: bool = False
+    ending: Ending = (4, b"", DEVICE)  # of a session of READ_ALL
+    is_long: bool = False  # whether the log has several segments
 
 
 def read_content(disk: bytes) -> FileContent:
@@ -35,7 +33,7 @@ def read_content(disk: bytes) -> FileContent:
 
 
 def tear(chance: random.Random, before: bytes, written: bytes, kind: int) -> bytes:
-    """Returns what a crash may leave of an unsynced range. Any bytes are possible; seven kinds are drawn."""
+    """Any bytes are possible after a crash; seven kinds are drawn."""
     cut, byte = chance.randint(0, len(written)), chance.choice([0, 1, 255, chance.randrange(256)])
     mixed = b"".join(chance.choice([before, written])[at : at + 512] for at in range(0, len(written), 512))
     whole = [before, written, bytes([byte]) * len(written), chance.randbytes(len(written)), mixed]
@@ -43,11 +41,9 @@ def tear(chance: random.Random, before: bytes, written: bytes, kind: int) -> byt
 
 
 class CrashingFile:
-    """A store's file: its bytes at the last sync, and the writes since then."""
-
     def __init__(self, path: Path) -> None:
         self.path, self.synced = path, b""
-        self.pending: list[tuple[int, bytes]] = []
+        self.pending: list[tuple[int, bytes]] = []  # writes since the last sync
 
     def content(self) -> FileContent:
         return read_content(self.path.read_bytes()) if self.path.exists() else FileContent()
@@ -56,13 +52,13 @@ class CrashingFile:
         return self.path.read_bytes() if self.path.exists() else b""
 
     def begin(self) -> bytes:
-        """Starts a session: any change of the file since the last one counts as a write, also of a write that failed or was cut off."""
+        """Takes the pending writes from the file, since they may have failed or been cut off."""
         now = self.read()
         self.pending = [(place, now[place : place + len(written)]) for place, written in self.pending]
         return now
 
     def follow(self, record: bytes, has_syncs: bool) -> set[str]:
-        """Follows the call record of `c/soak.c` and returns its letters. Without `has_syncs`, syncs are ignored."""
+        """Applies the record of `c/soak.c`, and returns its letters."""
         at, letters = 0, set()
         while at < len(record):
             letter, at = chr(record[at]), at + 1
@@ -80,7 +76,7 @@ class CrashingFile:
         return letters
 
     def image(self, remaining: Callable[[bytes, bytes], bytes]) -> bytes:
-        """Returns the synced bytes with the pending writes applied, each as changed by `remaining`."""
+        """Applies the pending writes, each as changed by `remaining`."""
         image = bytearray(self.synced)
         for place, written in self.pending:
             image[place : place + len(written)] = remaining(bytes(image[place : place + len(written)]), written)
@@ -96,7 +92,7 @@ class CrashingFile:
 
 
 def widen(disk: bytes) -> tuple[bytes, Settings]:
-    """Returns the same store with more segments, and its previous settings."""
+    """Also returns the old settings."""
     settings, slot = read_settings(disk), read_store(disk).slot
     wide = replace(settings, segments=4 * settings.segments + 100)
     image = bytearray(wide.disk_length())
@@ -108,6 +104,6 @@ def widen(disk: bytes) -> tuple[bytes, Settings]:
 
 
 def is_left_by_create(before: bytes, after: bytes, length: int) -> bool:
-    """Returns whether a failed `--create` may leave these bytes, as the comment of `FileDisk::of_zeros` lists them."""
+    """The comment of `FileDisk::of_zeros` lists what a failed `--create` may leave."""
     is_longer = after.startswith(before) and not any(after[len(before) :])
     return is_longer or after == b"" or len(after) == length and not any(after[FIRST_WRITE:])

@@ -1,4 +1,4 @@
-"""Runs random sessions on one store after the other, and compares each with the model."""
+"""Runs random sessions on one store after the other."""
 
 import random
 import re
@@ -19,14 +19,14 @@ from tools.soak.drawing import BAD_LINES, DrawnStore
 from tools.soak.files import CrashingFile, FileContent, is_left_by_create, read_content, widen
 
 LIBRARY = Path(__file__).resolve().parent.parent / "c/soak.c"
-PATIENCE = 300  # seconds after which a session counts as hanging
+PATIENCE = 300  # seconds
 NO_FAILURE, KILLS, FAILURES, OF_MEMORY = "-", "khKa", "fFs", "ma"  # letters of c/soak.c; c and i change nothing
 COUNTED = ["stores", "sessions", "commands", "flushes", "cleans", "upgrades", "kills", "failing calls", "calls cut short or interrupted"]
 COUNTED += ["allocations refused", "crashes", "more that a crash could leave", "full logs", "other refusals", "damaged files"]
-IMAGES = 8  # random crash images that are read, in addition to the one on which the next session runs
+IMAGES = 8  # crash images that are read besides the next session's
 PLANTS, PLANTED = ("line", "byte", "sync"), 20  # planted faults, and the number of sessions before each
 REPORT = re.compile(rb"^ok [0-9]+ [0-9]+ ([0-9]+)$")
-MOST_FULL = 3  # successive sessions with a full log, after which a new store is made
+MOST_FULL = 3  # successive full logs before a new store
 BAD_CREW = b"fault 5 BadCrew\n"
 
 
@@ -43,7 +43,7 @@ def describe(state: StoreState | None, other: StoreState | None) -> str:
 
 
 def count_answered(orders: Sequence[Order], out: bytes) -> int:
-    """Returns how many orders have complete answers. Raises Difference unless the output is a prefix of the expected output."""
+    """Counts complete answers. Raises Difference unless `out` begins the expected output."""
     lines, at = out.split(b"\n")[:-1], 0
     for number, order in enumerate(orders):
         for expected in order.printed:
@@ -65,7 +65,7 @@ def count_answered(orders: Sequence[Order], out: bytes) -> int:
 
 @dataclass
 class SoakSession:
-    """A session: its arguments, lines and orders, the failure injected by c/soak.c, and the result."""
+    """`failure` is what c/soak.c does at call or allocation `at`, and `letters` are those of its record."""
 
     words: list[str]
     lines: list[bytes]
@@ -79,12 +79,10 @@ class SoakSession:
     letters: frozenset[str] = frozenset()
 
     def has_failed(self, failures: str) -> bool:
-        """Returns whether the failure was injected, and is one of these."""
         return "D" in self.letters and self.failure in failures
 
     def ended_by_failure(self, answered: int) -> bool:
-        """Returns whether the failure ended the session, so that the next order may have been started. Raises Difference if the session may not
-        end in this way."""
+        """Raises Difference if the session may not end in this way."""
         order = self.orders[answered] if answered < len(self.orders) else None
         expected: set[tuple[int, bytes]] = {(0, b"")} if order is None else {order.ending} if order.ending else {(4, fault) for fault in order.faults}
         by_failure: set[tuple[int, bytes]] = set()
@@ -102,8 +100,6 @@ class SoakSession:
 
 
 class Soak:
-    """Runs one store after the other, all in one file."""
-
     def __init__(self, program: Path, seed: int, folder: Path, plant: str | None = None) -> None:
         self.program, self.seed, self.folder, self.plant = program, seed, folder, plant
         self.library = build_c_library(LIBRARY, folder)
@@ -111,7 +107,7 @@ class Soak:
         self.number, self.chance = 0, random.Random()
         self.command: list[str | Path] = []
         self.file, self.before, self.content = CrashingFile(folder / "file"), b"", FileContent()
-        self.possible: list[StoreState | None] = [None]  # the states that a crash may leave
+        self.possible: list[StoreState | None] = [None]  # states after a crash
         signal.signal(signal.SIGALRM, hang)
 
     def totals(self) -> str:
@@ -141,7 +137,6 @@ class Soak:
         return out.read_bytes()
 
     def draw(self, drawn: DrawnStore, is_full: bool) -> SoakSession:
-        """Draws a session on the file's store, or one that makes a store if there is none."""
         is_new = drawn.happens(0.01 if self.content.state else 0.7)
         words = ["--create"] * is_new + [f"--{name.replace('_', '-')}={value}" for name, value in vars(drawn.settings).items() if is_new]
         workers = self.chance.choice([1, 1, 1, 2, 3, 8])
@@ -162,7 +157,7 @@ class Soak:
         return session
 
     def spoil(self, session: SoakSession, drawn: DrawnStore) -> None:
-        """Sometimes adds invalid settings, crew or line, which must be refused before the file is opened."""
+        """Sometimes adds what must be refused before the file is opened."""
         if session.is_new and drawn.happens(0.03):
             ((name, value),) = drawn.bad_setting().items()
             session.words = [word for word in session.words if not word.startswith(f"--{name.replace('_', '-')}=")]
@@ -180,7 +175,7 @@ class Soak:
             session.orders = [Order("line", [], self.content.state, (3, b"line %d: %s\n" % (at + 1, why)))]
 
     def step(self, drawn: DrawnStore, is_full: bool) -> bool:
-        """Runs a session, and compares its output, ending and file, also after a crash. Returns whether the log was full."""
+        """Returns whether the log was full."""
         self.before = self.file.begin()
         session = self.draw(drawn, is_full)
         out = self.run(session, self.file.path)
@@ -217,7 +212,7 @@ class Soak:
             raise Difference(f"the file holds {describe(state, expected[-1])}, where expected was {states}")
 
     def states_after(self, session: SoakSession, answered: int, is_cut: bool, drawn: DrawnStore) -> list[StoreState | None]:
-        """Returns the states that the file may have after a session, and records those that a crash may leave."""
+        """Also sets `possible`."""
         after, has_written = self.file.read(), bool(session.letters & {"W", "T"})
         if not has_written and after != self.before:
             raise Difference("the file has other bytes, which no call wrote")
@@ -247,8 +242,7 @@ class Soak:
             self.counts["full logs" if session.err == FULL else "other refusals"] += 1
 
     def run_widened(self, session: SoakSession, answered: int) -> None:
-        """Repeats a session that ended with a full log on a longer file, up to the refused order. This order must succeed, and its log must be too
-        long for the shorter file."""
+        """On a longer file, the refused order must succeed, with a log too long for the shorter file."""
         path, orders = self.folder / "wide", session.orders[: answered + 1]
         if session.is_new:
             return
@@ -264,14 +258,12 @@ class Soak:
             raise Difference(f"the log was not full at order {answered}, {orders[-1].name}: the tail would be {slot.tail}")
 
     def flip(self, drawn: DrawnStore) -> None:
-        """Plants a fault: flips a bit in the log's last byte."""
         disk = bytearray(self.file.read())
         tail = read_store(bytes(disk)).slot.tail - 1
         disk[drawn.settings.place(tail // drawn.settings.seg_size) + tail % drawn.settings.seg_size] ^= 1
         self.file.path.write_bytes(disk)
 
     def read_damaged(self) -> None:
-        """Runs a session on a truncated, extended or changed copy of the file. It must answer by the rules."""
         disk = bytearray(self.before)
         if self.chance.random() < 0.3:
             disk[self.chance.randint(1, len(disk)) :] = self.chance.randbytes(self.chance.choice([0, 100]))
@@ -287,7 +279,7 @@ class Soak:
             raise Difference(f"a session on a damaged file ended with {ending}, where the rules have {expected}")
 
     def run_store(self, number: int) -> Iterator[None]:
-        """Runs one store's sessions from an empty path, and yields after each. Each store has its own seed, so it can be run alone."""
+        """Yields after each session. Each store has its own seed, so it can be run alone."""
         self.number, self.chance = number, random.Random(f"{self.seed} {number}")
         self.file.path.unlink(missing_ok=True)
         self.file, self.content, self.possible = CrashingFile(self.file.path), FileContent(), [None]
@@ -302,7 +294,6 @@ class Soak:
             yield
 
     def report(self, difference: Difference) -> None:
-        """Prints the failed session, and saves its files."""
         (self.folder / "before").write_bytes(self.before)
         print(f"store {self.number}: `--seed {self.seed} --first {self.number}` begins with it. The session that failed:", *self.command)
         for name in ("text", "out", "err"):
