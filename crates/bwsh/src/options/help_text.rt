@@ -13,7 +13,8 @@ pub const MAX_VALUE: &str = "Longest value in bytes, 0 to 1024";
 
 pub const SEG_SIZE: &str = "Bytes of a log segment, 256 to 1048576; must hold a full page";
 
-pub const SEGMENTS: &str = "Segments of the log, 3 to 65536; they are fixed when the store is created";
+pub const SEGMENTS: &str =
+    "Segments of the log, 3 to 65536; they are fixed when the store is created";
 
 pub const WORKERS: &str = "Threads that work on a batch, 1 to 64";
 
