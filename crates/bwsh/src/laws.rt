@@ -42,8 +42,8 @@ pub fn each_command_is_ordered_once()
         flat_map commands_of (orders_of [] parsed) ≡ commands_of_lines parsed }
 {}
 
-/// If batches are written as their commands and a line `go`, these lines are parsed as the same
-/// batches.
+/// If parsed lines are the commands of some batches, with a `go` after each batch, the orders are
+/// these batches.
 pub fn batches_are_read_back()
     ensures { (batches : List (List (Command Global))) →
         orders_of [] (flat_map batch_lines batches) ≡ map (λ commands. Batch commands) batches }

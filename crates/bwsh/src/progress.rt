@@ -92,8 +92,8 @@ pub struct Progress {
 }
 
 impl Progress {
-    /// Called before any file is opened. If `is_asked`, checks that `err` is open: otherwise the
-    /// next file opened could get its descriptor, and the progress.
+    /// Called before any file is opened. If `is_asked`, checks that `err` is open. If it were closed,
+    /// the next file opened could get its descriptor, and the progress would be written into it.
     pub fn begin<R: Clock, E: Write>(rt: &R, is_asked: bool, err: &mut E) -> Progress
         ensures { Shows E.contents is_asked err.old result.is_shown err.new }
     {

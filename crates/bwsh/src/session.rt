@@ -467,8 +467,9 @@ where
         (input.new ≡ input.old) × (out.new ≡ out.old) }
 
     // With each status, the output is the help, the version, or a prefix of the answers. The orders
-    // run on a new store, or on the store that the bytes of the file encode, whatever the bytes
-    // are. A clean depends on what the disk returns, which in memory is what was written last.
+    // (batches, flushes and the like) run on a new store, or, for an existing file, on a store that
+    // some bytes encode: no clause says that these are the bytes of the file. A clean depends on
+    // what the disk returns, which in memory is what was written last.
     // `--tidy` runs some batches, which change no pairs, after each flush.
     ensures done { result ≡ 0 →
         AsksForText (map string_bytes words.now)

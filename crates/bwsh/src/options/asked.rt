@@ -13,7 +13,7 @@ pub struct Options {
     pub disk: Option<String>,
     /// Whether a new store is created in the file, whose old contents are lost.
     pub create: bool,
-    /// The file to which the store is copied after all orders.
+    /// The file to which the store is copied after all lines of the input.
     pub copy_to: Option<String>,
     pub mode: Mode,
 }
@@ -25,13 +25,14 @@ pub struct Mode {
     pub version: bool,
     /// Explain an error on a second line of standard error.
     pub explain: bool,
-    /// Print the statistics of the store after all orders.
+    /// Print the statistics of the store after all lines of the input.
     pub stat: bool,
     /// If the log is full for a flush, clean it and flush again.
     pub clean_when_full: bool,
     /// Read line by line, and answer each batch before reading on.
     pub stream: bool,
-    /// Merge up to this many emptied leaves after each flush.
+    /// After each flush, merge up to this many leaves with fewer than `fan / 4` pairs into their
+    /// neighbours.
     pub tidy: u32,
     /// Show progress on standard error once a second.
     pub progress: bool,

@@ -49,7 +49,7 @@ Lines of a batch file:
   del K             Deletes K
   scan LO HI LIMIT  Reads at most LIMIT pairs from LO up to, but not including, HI
   wipe LO HI        Deletes the keys from LO up to, but not including, HI
-  go                Runs the commands since the last batch as one batch; the four lines below do so first
+  go                Runs the commands since the last batch as one batch; flush, clean, upgrade and verify do so first
   flush             Writes all changes to the log; only flushed changes survive the program
   clean             Frees the first segment of the log
   upgrade           Flushes, and upgrades the log to version 2 (compressed keys); irreversible
