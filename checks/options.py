@@ -99,7 +99,7 @@ EXPLAINED: list[tuple[tuple[str, ...], bytes, bytes | None, bytes, bytes]] = [
         18 * LONG_PUT,
         None,
         b"fault 10 Full\n",
-        b"line 36: The log has no room for the flush. A line clean in front of it makes room, as --clean-when-full does. "
+        b"line 36: The log has no room for this. A line clean in front of it makes room; --clean-when-full does so for a flush. "
         b"If all of the log is in use, copy the store with --copy-to to a file with more --segments.\n",
     ),
 ]

@@ -68,8 +68,8 @@ impl<T: Drop> From<AllocFailed<T>> for ParseError {
     }
 }
 
-// Appends a batch of the pending commands to `orders`, if there are any. Here and below, `line` is
-// the line of the last pending command.
+// Appends a batch of the pending commands to `orders`, if there are any. Here and in the next two
+// functions, `line` is the line of the last pending command.
 fn push_pending(
     alloc: Global,
     pending: &mut Vec<Command<Global>>,

@@ -38,8 +38,8 @@ pub(crate) struct Copying<'a, F> {
 }
 
 // Opens and locks the file of a copy. Fails, and leaves the file as it was, if the file has any
-// bytes. The file is extended to the copy's length and truncated again, so that lack of room, or a
-// file that cannot be extended, is found before anything runs.
+// bytes. The file is extended to the copy's length and truncated again, so that a file that cannot
+// be extended is found before anything runs. Lack of room is found only when the copy is written.
 fn empty_file<R: Files>(rt: &R, path: &str, settings: Settings) -> io::Result<R::File>
 where
     R::File: LockFile,

@@ -12,7 +12,7 @@ fn file_advice(asked: &Options, reason: &io::Error) -> &'static str {
     match reason.kind() {
         ErrorKind::NotFound => " Use --create to create a store there.",
         ErrorKind::PermissionDenied => {
-            " A session that flushes, cleans, upgrades or creates needs permission to write the file."
+            " A session that streams, flushes, cleans, upgrades or creates needs permission to write the file."
         }
         ErrorKind::ReadOnlyFilesystem => " A session can only read the store there.",
         ErrorKind::WouldBlock if asked.copy_to.is_some() => {
@@ -147,7 +147,7 @@ fn order_rule(fault: &Fault) -> &'static str {
     match fault {
         Fault::NoMemory => "There was not enough memory to run it. Smaller batches need less.",
         Fault::Full => {
-            "The log has no room for the flush. A line clean in front of it makes room, as --clean-when-full does. \
+            "The log has no room for this. A line clean in front of it makes room; --clean-when-full does so for a flush. \
             If all of the log is in use, copy the store with --copy-to to a file with more --segments."
         }
         Fault::NothingToClean => "The log is in one segment, so there is nothing to clean.",
@@ -225,7 +225,7 @@ fn line_rule(why: Why) -> &'static str {
 
 fn explain_bad_line(alloc: Global, asked: &Options, why: Why) -> Result<String, AllocError> {
     let before = if asked.mode.stream {
-        "The orders in front of it are done."
+        "What was complete before it is done."
     } else {
         "Nothing was run."
     };

@@ -49,8 +49,8 @@ pub fn batches_are_read_back()
         orders_of [] (flat_map batch_lines batches) ≡ map (λ commands. Batch commands) batches }
 {}
 
-/// The first order's answer is printed in front of the output of the later orders. Only a batch
-/// changes the map.
+/// If no order is refused, the first one's answer is printed in front of the output of the later
+/// ones. Only a batch changes the map.
 pub fn each_order_prints_its_answer()
     ensures none { (settings : Settings) → (st : Store) → (shown : Reads) → (m : Pairs Bytes) →
         printed settings st shown m [] ≡ [] }
@@ -85,9 +85,9 @@ pub fn each_order_prints_its_answer()
         ≡ shown_numbers (numbers_of settings st) ++ printed settings st (later shown) m rest }
 {}
 
-/// If all orders are batches, their output is the replies of an ordered map to all commands. The
-/// settings, the disk and how the commands are divided into batches make no difference. A batch
-/// file without `flush`, `clean`, `upgrade` and `verify` has only batches.
+/// If all orders are batches and none is refused, their output is the replies of an ordered map to
+/// all commands. The settings, the disk and how the commands are divided into batches make no other
+/// difference. A batch file without `flush`, `clean`, `upgrade` and `verify` has only batches.
 pub fn the_commands_are_answered_in_order()
     ensures orders { (settings : Settings) → (st : Store) → (shown : Reads) → (m : Pairs Bytes) →
         (orders : List Order) → All IsBatch orders →
@@ -114,9 +114,9 @@ pub fn the_bytes_of_the_disk_do_not_matter()
         orders_end settings st shown orders ≡ orders_end settings st other orders }
 {}
 
-/// If each read of the disk returns what was last written, the store and the initial contents of
-/// the disk determine the answers and how the session ends, even with cleans. Such reads exist for
-/// each store.
+/// If each read of the disk returns what was last written, the store, the initial contents of the
+/// disk and the batches of tidying determine the answers and how the session ends, even with
+/// cleans. Such reads exist for each store.
 pub fn what_was_left_decides_the_answers()
     ensures lines { (settings : Settings) → (st : Store) → (file : Bytes) → (shown other : Reads) →
         AreTidiedAlike shown other → (m : Pairs Bytes) → (orders : List Order) →
@@ -181,8 +181,8 @@ pub fn a_stream_orders_what_stands_before_a_bad_line()
         (rest : List Line) → first_bad 1 (front ++ Bad why ∷ rest) ≡ Some (length front + 1, why) }
 {}
 
-/// With valid settings, a session prints the same with and without `--copy-to`. The session ends
-/// the same, or with a fault of the copy after all orders are done.
+/// With valid settings, and if no file fails, a session prints the same with and without
+/// `--copy-to`. It ends the same, or with a fault of the copy after all orders are done.
 pub fn a_copy_changes_only_the_end()
     ensures answers { (request : Request) → first_bad_field request.settings ≡ None →
         (known old new : Option Bytes) → (end : Result (Unit {0}) SessionError) →

@@ -42,7 +42,7 @@ impl fmt::Display for Why {
 pub enum Line {
     /// A line without words, or a comment.
     Blank,
-    /// A command. It is pending until a later line runs the batch.
+    /// A command. It is pending until a later line or the end of the input runs the batch.
     Command(Command<Global>),
     /// Run the pending commands as one batch.
     Go,

@@ -121,7 +121,7 @@ pub struct Notes {
     is_wanted: bool,
     failed: Option<(Source, io::Error)>,
     text: Vec<u8>,
-    // How many orders are done, or `None` before the store is open.
+    // How many orders of a batch file are done, or `None` before the store is open.
     done: Option<u64>,
     is_copying: bool,
     streamed: Option<OrderLines>,

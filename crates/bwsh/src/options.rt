@@ -168,8 +168,8 @@ fn mode(matches: &ArgMatches<'_>) -> Mode
     }
 }
 
-/// Parses the words after the program's name. Ranges of numbers are checked later, by
-/// `Settings::check` and `Crew::check`.
+/// Parses the words after the program's name. Ranges are checked later, by `Settings::check` (only
+/// for a new store or a copy) and `Crew::check`.
 // This function is not inlined, since its 25 KB of stack would then be held during the whole
 // session.
 #[inline(never)]

@@ -55,8 +55,8 @@ where
 }
 
 /// Runs the session of the program's own command line and returns the exit status. The contract
-/// says that this is the session of some words: the standard library does not specify which words
-/// the system passes.
+/// says that this is the session of some words, or 2 or 4 with nothing read or answered: the
+/// standard library does not specify which words the system passes.
 pub fn run_program<
     R: Env + AllocGlobal + Threads + Wait + Sync + Files + Clock,
     I: Read,

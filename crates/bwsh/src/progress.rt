@@ -13,7 +13,7 @@ use std::fmt::{InlineText, Write as _};
 use std::io::Write;
 use std::time::{Clock, Instant};
 
-// Room for two numbers of 20 digits and the words around them.
+// Room for two numbers of 19 digits and the words around them.
 const TEXT: usize = 64;
 
 // `START` moves to the start of the line. `END`, after the text, erases the rest of the line.
@@ -21,7 +21,7 @@ const START: &[u8] = b"\r";
 
 const END: &[u8] = b"\x1b[K";
 
-// How many lines of a stream are read before the clock is read again, if none of them runs
+// At most how many lines of a stream are read before the clock is read again, if none of them runs
 // anything.
 const LINES: u64 = 256;
 
@@ -115,8 +115,8 @@ impl Progress {
         }
     }
 
-    // Returns whether a second has passed since `last`, and if so sets `last` to now. Returns false
-    // if the clock cannot be read.
+    // Returns whether a second has passed since `last`, if there is one; if so, sets `last` to now.
+    // Returns true if there is none, and false if the clock cannot be read.
     pub(crate) fn is_due<R: Clock>(&mut self, rt: &R) -> bool
         ensures { self.new.is_shown ≡ self.old.is_shown }
     {
@@ -197,7 +197,7 @@ impl Progress {
     }
 
     /// Counts a completed order (a batch is one, too). Shows this count and `read`, the number of
-    /// orders in the input, at most once a second.
+    /// all orders (`--stat` adds one), at most once a second.
     pub fn order_done<R: Clock, E: Write>(&mut self, rt: &R, read: usize, err: &mut E)
         ensures { Shows E.contents self.old.is_shown err.old self.new.is_shown err.new }
     {

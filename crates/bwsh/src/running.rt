@@ -78,8 +78,8 @@ pub(crate) fn run_step<R: Threads + Sync, D: Disk, O: Write>(
     }
 }
 
-// Tidies the store. Only a failed allocation ends the session: after any other fault the store
-// holds the same pairs, and the next flush proceeds.
+// Tidies the store. It holds the same pairs even after a fault. Only a failed allocation ends the
+// session; after any other fault the next flush proceeds.
 fn tidy_store<R: Threads + Sync, D: Disk>(
     rt: &R,
     crew: Crew,

@@ -53,11 +53,11 @@ const UNREAD: &[u8] = b"error: a word of the command line is no text\n";
 pub enum SessionError {
     /// The command line is refused. Nothing was read.
     Words(clap::Error),
-    /// A line of the batch file is bad.
+    /// A line of the input is bad.
     Bad { line: u64, why: Why },
-    /// The store refused a call, or an allocation failed.
+    /// Settings, a crew or a call of the store are refused, or an allocation failed.
     Fault(Fault),
-    /// A file or a stream could not be opened, read, written or locked.
+    /// A file or a stream could not be opened, read, written or locked, or a copy's file has bytes.
     Device,
 }
 
@@ -238,8 +238,8 @@ where
 }
 
 /// Runs the session that `request` asks for, and writes the answers to `out`. After an error, `out`
-/// has the answers of the orders before the error; if an allocation or a device failed, perhaps
-/// only a prefix of these answers.
+/// has the answers of the orders before the error; if an allocation or a device failed, some prefix
+/// of all answers.
 ///
 /// Errors are found in this order: a bad line, a closed output, a crew out of range, errors of the
 /// copy's settings and file, errors of the store's settings and file, faults of the orders, faults
@@ -247,9 +247,10 @@ where
 /// this error replaces an earlier one.
 ///
 /// The store's file is locked exclusively if an order writes, if the file is created, or for a
-/// stream; otherwise the file is shared and only read. A file that cannot be opened or locked, or
-/// that holds no store, is left as it was. If creating the file fails, `FileDisk::of_zeros` says
-/// what the file holds then.
+/// stream; otherwise the file is shared and only read. A file that cannot be opened or locked, or,
+/// without `--create`, that holds no store, is left as it was. If the length of a created file
+/// cannot be set, `FileDisk::of_zeros` says what it holds; after a later failure, its old contents
+/// are lost.
 ///
 /// `reports` records what an explanation needs, and shows progress on `err`.
 pub fn run<
@@ -447,10 +448,10 @@ pub fn unread_words<E: Write>(error: io::Error, err: &mut E) -> u8
 ///
 /// - 0: all orders are done, or the help or the version was printed.
 /// - 2: the command line is refused, and nothing was read.
-/// - 3: a line of the batch file is bad. Nothing was run and no file was opened; a stream has run
-///   the orders completed before the bad line.
+/// - 3: a line of the input is bad. Nothing was run and no file was opened; but a stream has opened
+///   its files, and run the orders completed before the bad line.
 /// - 4: a fault. `out` has the answers of the orders before the fault; if an allocation or a device
-///   failed, perhaps only a prefix of these answers.
+///   failed, some prefix of all answers.
 pub fn session<
     R: AllocGlobal + Threads + Wait + Sync + Files + Clock,
     I: Read,
@@ -492,9 +493,10 @@ where
         BeginsWith (printed_by start shown (orders_run request start shown text)) front
         × Appends (O.contents out.old) (O.contents out.new) front))) }
 
-    // The exit status and the output are those defined for this command line and this input, unless
-    // an allocation or a device fails. Standard error gets the report of an error, or a prefix of
-    // it. Clauses say what the report is only for a bad line and for fault 9.
+    // The exit status and the output are those defined for this command line, this input and such a
+    // store, unless an allocation or a device fails; a fault of the copy may make the status 4.
+    // Standard error gets the report of an error, or a prefix of it. Clauses say what the report is
+    // only for a bad line and for fault 9.
     ensures ends { EndsReported (map string_bytes words.now)
         (I.remaining input.old) (O.contents out.old) (O.contents out.new)
         (E.contents err.old) (E.contents err.new)

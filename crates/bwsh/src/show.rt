@@ -12,7 +12,7 @@ use std::alloc::{AllocError, Global};
 /// The statistics that `--stat` prints.
 #[derive(Clone, Copy, Debug, PartialEq, Eq)]
 pub struct StoreNumbers {
-    /// The sequence number of the last flush, clean or upgrade.
+    /// How many commits there were: the creation, flushes that wrote, cleans and upgrades.
     pub sequence: u64,
     /// The number of the log's first segment.
     pub head: u64,

@@ -29,7 +29,7 @@ fn stands_for_itself(byte: u8) -> bool
     byte.is_ascii_graphic() && byte != b'%'
 }
 
-// Tests all bytes without a branch, so that the compiler can vectorize the loop.
+// Tests all bytes without an early exit, so that the compiler can vectorize the loop.
 fn are_plain(bytes: &[u8]) -> bool
     ensures { result ≡ list_all stands_for_itself bytes.now }
 {

@@ -39,7 +39,7 @@ impl Latch {
     }
 }
 
-// Shows progress until the call is done, a write fails or the clock cannot be read.
+// Shows progress until the call is done, a write fails or `is_due` returns false.
 fn watch<R: Wait + Clock, E: Write>(
     rt: &R,
     latch: &Latch,

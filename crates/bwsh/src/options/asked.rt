@@ -34,6 +34,6 @@ pub struct Mode {
     /// After each flush, merge up to this many leaves with fewer than `fan / 4` pairs into their
     /// neighbours.
     pub tidy: u32,
-    /// Show progress on standard error once a second.
+    /// Show progress on standard error.
     pub progress: bool,
 }

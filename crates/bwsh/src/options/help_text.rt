@@ -1,9 +1,9 @@
-//! The texts of `--help`, which fit on one screen.
+//! The texts of `--help`.
 
 pub const ABOUT: &str =
     "Runs a batch file from standard input on an ordered key-value store, and prints the answers";
 
-pub const FAN: &str = "Entries of a page before it splits, 4 to 64";
+pub const FAN: &str = "Entries of a page, besides its lists of changes, 4 to 64";
 
 pub const CHAIN: &str = "Lists of changes on a page before they are merged into it, 1 to 16";
 
@@ -14,13 +14,13 @@ pub const MAX_VALUE: &str = "Longest value in bytes, 0 to 1024";
 pub const SEG_SIZE: &str = "Bytes of a log segment, 256 to 1048576; must hold a full page";
 
 pub const SEGMENTS: &str =
-    "Segments of the log, 3 to 65536; they are fixed when the store is created";
+    "Segments of the log, 3 to 65536; an existing store keeps these six settings";
 
 pub const WORKERS: &str = "Threads that work on a batch, 1 to 64";
 
 pub const GRAIN: &str = "Pages that a thread claims at a time, 1 to 65535";
 
-pub const TIDY: &str = "Emptied pages to merge after each flush, at most";
+pub const TIDY: &str = "Pages with few pairs to merge after each flush, at most";
 
 pub const DISK: &str = "File of the store; without it the store is in memory, and is lost at exit";
 
@@ -39,7 +39,7 @@ pub const CLEAN_WHEN_FULL: &str = "If the log has no room for a flush, cleans it
 pub const STREAM: &str =
     "Answers each batch before it reads on; without it, all input is read first";
 
-pub const PROGRESS: &str = "Shows progress on standard error once a second";
+pub const PROGRESS: &str = "Shows progress on standard error";
 
 pub const AFTER_OPTIONS: &str = "\
 Lines of a batch file:
@@ -49,7 +49,7 @@ Lines of a batch file:
   del K             Deletes K
   scan LO HI LIMIT  Reads at most LIMIT pairs from LO up to, but not including, HI
   wipe LO HI        Deletes the keys from LO up to, but not including, HI
-  go                Runs the commands since the last batch as one batch; flush, clean, upgrade and verify do so first
+  go                Runs the commands since the last batch as one batch; flush, clean, upgrade, verify and the end do so too
   flush             Writes all changes to the log; only flushed changes survive the program
   clean             Frees the first segment of the log
   upgrade           Flushes, and upgrades the log to version 2 (compressed keys); irreversible
@@ -61,6 +61,6 @@ Keys and values are words of printable ASCII; %XX is a byte in hexadecimal, and 
 Exit status:
   0  Everything is done, or the help or the version was printed
   2  The command line is refused; nothing was read
-  3  A line is bad; nothing was run, or with --stream only the batches that were complete before it
-  4  A fault, which standard error names; --explain tells what to do\
+  3  A line is bad; nothing was run, or with --stream only what was complete before it
+  4  A fault, which standard error names; --explain tells more\
 ";
