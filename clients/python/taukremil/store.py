@@ -52,7 +52,7 @@ class Store:
     If the program ends, the call raises `Refused`, `Killed` or `StoreError`. The batches since the last flush are then
     lost. If there were any, each later call in any thread raises `Lost` until `reopen`; if there were none, the next
     call starts the program again. An exception that interrupts a call, such as KeyboardInterrupt, has the same effect.
-    A wrong argument raises TypeError or ValueError, and nothing is sent.
+    A wrong argument raises TypeError or ValueError, and nothing is sent, except by `load` the batches before it.
 
     A `with` block flushes at its end, and closes the store. After an exception it closes without a flush.
 
