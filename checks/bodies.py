@@ -62,7 +62,17 @@ class Edit:
 class Verdict:
     edit: Edit
     wrong: str | None
-    seconds: float = 0  # of the processor; edits of different functions share a check
+    check: str = ""  # edits of different functions share a check
+    seconds: float = 0  # of the processor, for that check
+
+    def __str__(self) -> str:
+        ending = self.wrong or ("accepted, as it is right" if self.edit.is_control else "refused, as it is broken")
+        return f"{'FAILED ' * (self.wrong is not None)}{self.edit.label}: {ending} (a check of {self.seconds:.0f} s)"
+
+
+def seconds_of(verdicts: list[Verdict]) -> float:
+    """Returns the processor seconds of these checks."""
+    return sum({verdict.check: verdict.seconds for verdict in verdicts}.values())
 
 
 def read_edit(path: Path) -> Edit:
@@ -151,7 +161,7 @@ def check_group(workspace: kit.Workspace, group: list[Edit], kept: Path) -> list
                 shutil.copytree(workspace.top / "crates" / crate / part, folder / part)
         wrong = {edit.label: edit.apply(folder) for edit in group}
         status, printed, seconds = run_check(workspace, crate, folder, kept, [edit.function for edit in group])
-    return [Verdict(edit, wrong[edit.label] or error_of(edit, status, printed), seconds) for edit in group]
+    return [Verdict(edit, wrong[edit.label] or error_of(edit, status, printed), group[0].label, seconds) for edit in group]
 
 
 def check_crate(workspace: kit.Workspace, edits: list[Edit]) -> list[Verdict]:
@@ -163,24 +173,27 @@ def chosen(edits: list[Edit], names: list[str]) -> list[Edit]:
     return [edit for edit in edits if not names or edit.crate in names or edit.label in names]
 
 
-def check_all(names: list[str], lanes: int) -> tuple[int, int]:
-    """Checks the named edits, or all. Returns how many passed and failed."""
+def by_crate(edits: list[Edit]) -> dict[str, list[Edit]]:
+    """Returns the edits of each crate that has some."""
+    crates: dict[str, list[Edit]] = {}
+    for edit in edits:
+        crates.setdefault(edit.crate, []).append(edit)
+    return crates
+
+
+def check_all(names: list[str], lanes: int) -> bool:
+    """Checks the named edits, or all, and prints each verdict. Returns whether none failed."""
     workspace = kit.Workspace(TOP)
-    by_crate: dict[str, list[Edit]] = {}
-    for edit in chosen(all_edits(), names):
-        by_crate.setdefault(edit.crate, []).append(edit)
     # The crates with the largest libraries take longest, so they start first.
-    crates = sorted(by_crate.values(), key=lambda edits: -len(workspace.crates[edits[0].crate].below()))
-    passed, failed, start = 0, 0, time.monotonic()
+    crates = sorted(by_crate(chosen(all_edits(), names)).values(), key=lambda edits: -len(workspace.crates[edits[0].crate].below()))
+    judged, failed, start = 0, 0, time.monotonic()
     with ThreadPoolExecutor(lanes) as pool:
         for verdicts in pool.map(lambda edits: check_crate(workspace, edits), crates):
-            for verdict in verdicts:
-                passed, failed = passed + (verdict.wrong is None), failed + (verdict.wrong is not None)
-                ending = verdict.wrong or ("accepted, as it is right" if verdict.edit.is_control else "refused, as it is broken")
-                print(f"{'FAILED ' * (verdict.wrong is not None)}{verdict.edit.label}: {ending} (a check of {verdict.seconds:.0f} s)", flush=True)
-    print(f"bodies: {passed} passed, {failed} failed, in {time.monotonic() - start:.0f} s", flush=True)
-    return passed, failed
+            judged, failed = judged + len(verdicts), failed + sum(verdict.wrong is not None for verdict in verdicts)
+            print("\n".join(map(str, verdicts)), flush=True)
+    print(f"bodies: {judged - failed} passed, {failed} failed, in {time.monotonic() - start:.0f} s", flush=True)
+    return failed == 0
 
 
 if __name__ == "__main__":
-    sys.exit(1 if check_all(sys.argv[1:], kit.processors())[1] else 0)
+    sys.exit(0 if check_all(sys.argv[1:], kit.processors()) else 1)
