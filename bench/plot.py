@@ -112,6 +112,24 @@ def panels(by_kind: Mapping[str, Mapping[str, Curve]]) -> str:
     return "\n".join([head, '<rect width="100%" height="100%" fill="white"/>', *parts, "</svg>"]) + "\n"
 
 
+def full_logs(by_program: Mapping[str, Curve]) -> str:
+    """Draws milliseconds of a batch and its flush in a full log, by the MiB of the log, a line for each program."""
+    left, top, width, height = 80, 60, 700, 280
+    points = [point for curve in by_program.values() for point in curve]
+    most_x, most_y = max(x for x, _ in points), max(y for _, y in points) * 1.05
+    parts = [text(left, 24, "a batch of 1,000 puts with its flush in a full log: milliseconds, by the MiB of the log")]
+    for part in range(5):
+        y, x = top + height - part / 4 * height, left + part / 4 * width
+        parts += [line(left, y, left + width, y), text(left - 10, y + 4, f"{most_y * part / 4:,.0f}", "end", 11)]
+        parts.append(text(x, top + height + 16, f"{most_x * part / 4:,.0f}", "middle", 11))
+    for at, ((name, curve), colour) in enumerate(zip(by_program.items(), PHASES)):
+        places = " ".join(f"{left + x / most_x * width:.1f},{top + height - y / most_y * height:.1f}" for x, y in curve)
+        parts.append(f'<polyline fill="none" stroke="{colour}" stroke-width="2" points="{places}"/>')
+        parts += [bar(left + 330 * at, 36, 12, 12, colour), text(left + 330 * at + 18, 46, name)]
+    head = f'<svg xmlns="http://www.w3.org/2000/svg" width="{WIDTH}" height="400" font-family="sans-serif">'
+    return "\n".join([head, '<rect width="100%" height="100%" fill="white"/>', *parts, "</svg>"]) + "\n"
+
+
 STEP = 26  # of one row
 
 

@@ -1,8 +1,9 @@
 #!/usr/bin/env python3
 """Runs random sessions on stores in files, endlessly, and compares each with a model, up to the first difference.
 
-Sessions have kills, crashes, failing calls and refused allocations. All are derived from the seed and not from the clock. README.md describes the
-test.
+Sessions have kills, crashes, failing calls and refused allocations. All are derived from the seed and not from the clock. With `--services`, the
+sessions are those of queues and other services, whose logs fill up and are copied into larger ones; there the clock determines the moments of kills.
+README.md describes the test.
 """
 
 import argparse
@@ -17,12 +18,13 @@ from pathlib import Path
 sys.path.insert(0, str(Path(__file__).resolve().parent.parent))
 
 from tools.processes import MEMORY_FOLDER
+from tools.soak.services import ServiceSoak
 from tools.soak.sessions import PLANTS, Difference, Soak
 
 MINUTE = 60
 
 
-def run_stores(soak: Soak, options: argparse.Namespace) -> str:
+def run_stores(soak: Soak | ServiceSoak, options: argparse.Namespace) -> str:
     """Runs stores until the time is over. Prints counts each minute, and returns the last counts. Raises Difference at the first difference."""
     start = last = time.monotonic()
     try:
@@ -48,6 +50,7 @@ def arguments() -> argparse.Namespace:
     parser.add_argument("--seconds", type=float, help="run for this many seconds (default: until Ctrl-C)")
     parser.add_argument("--store", type=Path, default=MEMORY_FOLDER, metavar="FOLDER", help="parent folder of the store's files")
     plants = "plants a fault that has to be found: a line of the answers is lost, a bit of the log flips, syncs are lost"
+    parser.add_argument("--services", action="store_true", help="run queues, full logs, kills and copies")
     parser.add_argument("--plant", choices=PLANTS, help=plants)
     return parser.parse_args()
 
@@ -56,7 +59,10 @@ def main() -> None:
     options = arguments()
     print(f"seed {options.seed}", flush=True)
     folder = Path(tempfile.mkdtemp(prefix="soak-", dir=options.store if options.store.is_dir() else None))
-    soak = Soak(options.program.resolve(), options.seed, folder, options.plant)
+    program = options.program.resolve()
+    soak: Soak | ServiceSoak = Soak(program, options.seed, folder, options.plant)
+    if options.services:
+        soak = ServiceSoak(program, options.seed, folder)
     try:
         print(run_stores(soak, options))
     except Difference as difference:
