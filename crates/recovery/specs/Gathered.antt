@@ -35,12 +35,12 @@ live_frames pid found = from_last (λ f. is_start f.frame.content) (filter (λ f
 abbrev pub contents_in : List Found → List Content
 contents_in fs = map (λ f. f.frame.content) fs
 
--- the segment where the first of these stands; 0 where there is none
+-- the segment of the first of these frames; 0 if there are none
 abbrev pub first_segment : List Found → ℕ
 first_segment [] = 0
 first_segment (f ∷ fs) = f.segment
 
--- whether a base in this segment is wanted
+-- whether the frames of a page whose base is in this segment are wanted
 abbrev pub is_wanted_in : Wanted → ℕ → Bool
 is_wanted_in Every n = true
 is_wanted_in (Before end) n = nat_lt n end

@@ -23,7 +23,7 @@ const UNFIT_FRAMES: u32 = 1;
 pub enum Wanted {
     /// Those of every page that there is, as a recovery needs them.
     Every,
-    /// Those of the pages whose base stands in a segment below this one, as cleans need them.
+    /// Those of the pages whose base is in a segment below this one, as cleans need them.
     Before(u64),
 }
 
@@ -47,7 +47,7 @@ pub enum PageState {
 pub struct Kept {
     /// The state after its frames.
     pub state: PageState,
-    /// The segment of its last base or free frame. It is 0, and says nothing, where there is neither.
+    /// The segment of its last base or free frame; 0 if it has neither.
     pub segment: u64,
     /// Its frames from its last base on, back to back, where they are wanted; else none, and then they take no memory.
     pub frames: Vec<u8>,
