@@ -1,10 +1,10 @@
 -- What is kept of each page, one frame more at a time.
-use Rattle.std.specs.Prelude.{◌≡◌, ◌≢◌, ℕ, ◌≤◌, Bool, true, false, cond, ◌&&◌, ◌||◌, nat_eq, List, [], ◌∷◌, ◌++◌, length, map, Option, Some, None, is_some}
+use Rattle.std.specs.Prelude.{◌≡◌, ◌≢◌, ℕ, suc, ◌+◌, ◌-◌, ◌^◌, ◌≤◌, min, Bool, true, false, cond, ◌&&◌, ◌||◌, nat_eq, List, [], ◌∷◌, ◌++◌, length, map, Option, Some, None, is_some}
 use Rattle.std.proofs.Common.{refl, sym, ap, ◌∙◌, subst, arith, length-append, append_assoc}
 use Rattle.std.specs.BTreeMap.{BTreeMap, get}
 use Rattle.std.specs.List.{filter, list_any}
 use Rattle.std.specs.Ordering.{nat_cmp, is_eq}
-use Rattle.std.proofs.lemmas.Bool.{eqb-true}
+use Rattle.std.proofs.lemmas.Bool.{eqb-true, ne_eqb}
 use Rattle.std.proofs.lemmas.List.{map-append, append-nil}
 use Rattle.std.proofs.lemmas.List.Folds.{list_any-append}
 use Rattle.std.proofs.lemmas.List.Sums.{fold-append}
@@ -14,8 +14,10 @@ use Rattle.mapping.specs.FreshPids.{is_among}
 use Rattle.frame_codec.specs.Frame.{Content, Frame, bytes_of}
 use Rattle.frame_codec.specs.Frame.Content.{FullLeaf, DeltaLeaf, FullIndex, DeltaIndex, Free}
 use Rattle.frame_codec.specs.Skimmed.{kind_of}
+use Rattle.frame_codec.specs.declared.skim.FrameKind.{FrameKind}
+use Rattle.frame_codec.specs.declared.skim.FrameKind.TheVariants as kinds
 use Rattle.flush_log.specs.Reading.{Found}
-use Rattle.recovery.specs.Gathered.{live_frames, contents_in, is_wanted_in, wanted_of, spelled, IsStateOf, IsKept, with_leaf_run, with_index_run, state_after, segment_after, with_base, with_run, kept_with, IsKeptOf, AreKept, first_segment}
+use Rattle.recovery.specs.Gathered.{live_frames, contents_in, is_wanted_in, wanted_of, spelled, live_size, IsStateOf, IsKept, with_leaf_run, with_index_run, state_after, segment_after, run_size, size_after, with_base, with_run, kept_with, IsKeptOf, AreKept, first_segment}
 use Rattle.recovery.specs.LogPages.{contents_of}
 use Rattle.recovery.specs.PageByLog.{is_base, is_start, from_last, InLog, with_newer_run, begun_page, continued, page_from_start}
 use Rattle.recovery.specs.PageByLog.InLog.{Missing, Present, Broken}
@@ -24,6 +26,7 @@ use Rattle.recovery.specs.declared.gather.Kept.{Kept}
 use Rattle.recovery.specs.declared.gather.PageState.{PageState}
 use Rattle.recovery.specs.declared.gather.PageState.TheVariants as state
 use Rattle.recovery.specs.declared.gather.Wanted.{Wanted}
+use Rattle.recovery.specs.declared.gather.Wanted.TheVariants.{Every}
 use Rattle.recovery.proofs.GatherLemmas.{same_at, among_more, same_turned}
 use Rattle.recovery.proofs.PartLemmas.{from_last-none, from_last-at, from_last-more, from_last-some}
 
@@ -200,23 +203,55 @@ module _ (w : Wanted) where
   kept_as (DeltaIndex run) n pid fs bytes e = run_kept fs (record { segment = n; frame = record { pid = pid; content = DeltaIndex run } }) bytes e
   kept_as Free n pid fs bytes e = free_kept (is_wanted_in w n) (record { pid = pid; content = Free })
 
-  -- what is kept of a page, with one more of its frames
+-- ---- how many bytes they have
+
+abbrev as_size : List ℕ → ℕ
+as_size bytes = min (length bytes) (2 ^ 64 - 1)
+
+sum_of : (m n more : ℕ) → n ≡ min (suc m) (2 ^ 64 - 1) → run_size n more ≡ min (suc m + more) (2 ^ 64 - 1)
+sum_of m n more e =
+    ap (λ (b : Bool). cond b 0 (min (n + more) (2 ^ 64 - 1))) (ne_eqb n 0 (λ none. omega (arith, none, e)))
+    ∙ omega (arith, e)
+
+run_sized : (bytes frame : List ℕ) (n : ℕ) → n ≡ as_size bytes → run_size n (length frame) ≡ as_size (with_run bytes frame)
+run_sized [] frame n e = ap (λ (m : ℕ). run_size m (length frame)) e
+run_sized (b ∷ bytes) frame n e = sum_of (length bytes) n (length frame) e ∙ ap (λ (m : ℕ). min m (2 ^ 64 - 1)) (sym (length-append (b ∷ bytes) frame))
+
+sized : (kind : FrameKind) (bytes frame : List ℕ) (n : ℕ) → n ≡ as_size bytes → size_after n kind (length frame) ≡ as_size (kept_with bytes kind true frame)
+sized kinds.FullLeaf bytes frame n e = refl
+sized kinds.DeltaLeaf bytes frame n e = run_sized bytes frame n e
+sized kinds.FullIndex bytes frame n e = refl
+sized kinds.DeltaIndex bytes frame n e = run_sized bytes frame n e
+sized kinds.Free bytes frame n e = refl
+
+size-more : (fs : List Found) (f : Found) (n : ℕ) → n ≡ live_size fs → size_after n (kind_of f.frame.content) (length (bytes_of f.frame)) ≡ live_size (part_with fs f)
+size-more fs f n e =
+    let bytes = spelled (wanted_of Every fs) in
+    sized (kind_of f.frame.content) bytes (bytes_of f.frame) n e ∙ ap as_size (kept_as Every f.frame.content f.segment f.frame.pid fs bytes refl)
+
+-- ---- what is kept of a page
+
+module _ (w : Wanted) where
+  -- what is kept of it, with one more of its frames
   pub kept-more : (k now : Kept) (fs : List Found) (f : Found) → IsKept w k fs → now.state ≡ state_after k.state (kind_of f.frame.content) → now.segment ≡ segment_after k.segment (kind_of f.frame.content) f.segment
+      → now.size ≡ size_after k.size (kind_of f.frame.content) (length (bytes_of f.frame))
       → now.frames.items ≡ kept_with k.frames.items (kind_of f.frame.content) (is_wanted_in w f.segment) (bytes_of f.frame) → IsKept w now (part_with fs f)
-  kept-more k now fs f h t s i =
+  kept-more k now fs f h t s z i =
       let state' : IsStateOf (state_after k.state (kind_of f.frame.content)) (contents_in (part_with fs f)) =
       subst (λ (cs : List Content). IsStateOf (state_after k.state (kind_of f.frame.content)) cs) (sym (contents_by (starts f) fs f)) (state-more k.state (contents_in fs) f.frame.content h.state) in
       record {
         state = subst (λ (u : PageState). IsStateOf u (contents_in (part_with fs f))) (sym t) state';
         segment = s ∙ ap (λ (n : ℕ). segment_after n (kind_of f.frame.content) f.segment) h.segment ∙ segment-more f.frame.content f.segment f.frame.pid fs;
-        frames = i ∙ kept_as f.frame.content f.segment f.frame.pid fs k.frames.items h.frames;
+        size = z ∙ size-more fs f k.size h.size;
+        frames = i ∙ kept_as w f.frame.content f.segment f.frame.pid fs k.frames.items h.frames;
       }
 
   -- of a page without a frame so far
-  pub kept-none : (k : Kept) (fs : List Found) → k.state ≡ state.Nothing → k.segment ≡ 0 → k.frames.items ≡ [] → fs ≡ [] → IsKept w k fs
-  kept-none k fs t s i none = record {
+  pub kept-none : (k : Kept) (fs : List Found) → k.state ≡ state.Nothing → k.segment ≡ 0 → k.size ≡ 0 → k.frames.items ≡ [] → fs ≡ [] → IsKept w k fs
+  kept-none k fs t s z i none = record {
     state = subst (λ (u : PageState). IsStateOf u (contents_in fs)) (sym t) (ap contents_in none);
     segment = s ∙ ap first_segment (sym none);
+    size = z ∙ ap live_size (sym none);
     frames = i ∙ ap (λ (gs : List Found). spelled (wanted_of w gs)) (sym none);
   }
 

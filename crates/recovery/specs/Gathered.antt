@@ -1,5 +1,5 @@
 -- What is kept of each page while a log is read: the state after its frames, and the bytes of those that are wanted.
-use Rattle.std.specs.Prelude.{◌≡◌, ℕ, Bool, true, false, ◌&&◌, nat_eq, nat_lt, if◌then◌else◌, List, [], ◌∷◌, ◌++◌, map, flat_map, Option, Some, None, is_some, Result, Ok, Err}
+use Rattle.std.specs.Prelude.{◌≡◌, ℕ, ◌+◌, ◌-◌, ◌^◌, min, Bool, true, false, ◌&&◌, nat_eq, nat_lt, if◌then◌else◌, List, [], ◌∷◌, ◌++◌, length, map, flat_map, Option, Some, None, is_some, Result, Ok, Err}
 use Rattle.std.specs.BTreeMap.{BTreeMap, get}
 use Rattle.std.specs.List.{AllByRecursion, filter}
 use Rattle.std.specs.Ordering.{nat_cmp}
@@ -54,6 +54,10 @@ wanted_of w (f ∷ fs) = if is_wanted_in w f.segment && is_base f.frame.content 
 abbrev pub spelled : List Frame → Bytes
 spelled fs = flat_map bytes_of fs
 
+-- how many bytes a page's live frames have, where the first is a base, as a number of 64 bits: no more than the greatest
+abbrev pub live_size : List Found → ℕ
+live_size fs = min (length (spelled (wanted_of Every fs))) (2 ^ 64 - 1)
+
 -- ---- one page
 
 -- the state of a page whose contents are these, from its last base or free frame on
@@ -68,6 +72,7 @@ IsStateOf state.Unfit cs = page_from_start cs ≡ Broken
 pub record IsKept (w : Wanted) (k : Kept) (fs : List Found) : Type 0 where
   pub state : IsStateOf k.state (contents_in fs)
   pub segment : k.segment ≡ first_segment fs
+  pub size : k.size ≡ live_size fs
   pub frames : k.frames.items ≡ spelled (wanted_of w fs)
 
 -- ---- one frame more
@@ -103,6 +108,18 @@ segment_after last kinds.DeltaLeaf n = last
 segment_after last kinds.FullIndex n = n
 segment_after last kinds.DeltaIndex n = last
 segment_after last kinds.Free n = n
+
+-- the bytes of a page's frames with those of a run after them: where there are none, the run doesn't count
+abbrev pub run_size : ℕ → ℕ → ℕ
+run_size n more = if nat_eq n 0 then 0 else min (n + more) (2 ^ 64 - 1)
+
+-- and with any frame
+abbrev pub size_after : ℕ → FrameKind → ℕ → ℕ
+size_after n kinds.FullLeaf more = min more (2 ^ 64 - 1)
+size_after n kinds.DeltaLeaf more = run_size n more
+size_after n kinds.FullIndex more = min more (2 ^ 64 - 1)
+size_after n kinds.DeltaIndex more = run_size n more
+size_after n kinds.Free more = 0
 
 -- the frames that are kept with a base: that alone, where it is wanted
 abbrev pub with_base : Bool → Bytes → Bytes

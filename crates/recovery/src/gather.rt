@@ -3,7 +3,7 @@
 //! Whoever wrote a disk chose its page ids. So they are looked up by their order and not by a hash, which ids could be chosen to share.
 ghost use Rattle.std.specs.Prelude.{◌≡◌, ◌++◌, ◌∷◌, [], List, IfOk, OnOk};
 ghost use Rattle.flush_log.specs.Reading.{Found};
-ghost use Rattle.recovery.specs.Gathered.{AreLive, is_wanted_in, state_after, segment_after, with_base, with_run, kept_with, is_unfit};
+ghost use Rattle.recovery.specs.Gathered.{AreLive, is_wanted_in, state_after, segment_after, run_size, size_after, with_base, with_run, kept_with, is_unfit};
 ghost use Rattle.recovery.specs.LogPages.{broken_in};
 ghost use Rattle.recovery.specs.Scan.{held_frame, said_of_frame};
 ghost use Rattle.recovery.specs.StoreOfDisk.{frames_in};
@@ -49,6 +49,8 @@ pub struct Kept {
     pub state: PageState,
     /// The segment of its last base or free frame; 0 if it has neither.
     pub segment: u64,
+    /// How many bytes its frames from its last base on have, whether they are wanted or not; 0 if it has no base. At most `u64::MAX`.
+    pub size: u64,
     /// Its frames from its last base on, back to back, where they are wanted; else none, and then they take no memory.
     pub frames: Vec<u8>,
 }
@@ -99,6 +101,30 @@ fn segment_after(last: u64, kind: FrameKind, segment: u64) -> u64
         FrameKind::FullIndex => segment,
         FrameKind::DeltaIndex => last,
         FrameKind::Free => segment,
+    }
+}
+
+// The bytes from the page's base on with a run of `more` bytes after them.
+fn run_size(size: u64, more: u64) -> u64
+    ensures { result ≡ run_size size more }
+{
+    if size == 0 {
+        0
+    } else {
+        size.saturating_add(more)
+    }
+}
+
+// The bytes from the page's last base on after one more frame of this kind, which has `more` bytes.
+fn size_after(size: u64, kind: FrameKind, more: u64) -> u64
+    ensures { result ≡ size_after size kind more }
+{
+    match kind {
+        FrameKind::FullLeaf => more,
+        FrameKind::DeltaLeaf => run_size(size, more),
+        FrameKind::FullIndex => more,
+        FrameKind::DeltaIndex => run_size(size, more),
+        FrameKind::Free => 0,
     }
 }
 
@@ -190,17 +216,20 @@ impl Gathering {
             None => Kept {
                 state: PageState::Nothing,
                 segment: 0,
+                size: 0,
                 frames: Vec::new(self.alloc),
             },
         };
         let Kept {
             state,
             segment: last,
+            size,
             frames,
         } = before;
         let kept = Kept {
             state: state_after(state, kind),
             segment: segment_after(last, kind, segment),
+            size: size_after(size, kind, bytes.len() as u64),
             frames: frames_with(self.alloc, frames, kind, is_wanted, bytes)?,
         };
         self.by_pid.insert(pid, kept)?;
