@@ -54,7 +54,7 @@ wanted_of w (f ∷ fs) = if is_wanted_in w f.segment && is_base f.frame.content 
 abbrev pub spelled : List Frame → Bytes
 spelled fs = flat_map bytes_of fs
 
--- how many bytes a page's live frames have, where the first is a base, as a number of 64 bits: no more than the greatest
+-- the bytes of a page's live frames if the first is a base, else 0; at most the greatest number of 64 bits
 abbrev pub live_size : List Found → ℕ
 live_size fs = min (length (spelled (wanted_of Every fs))) (2 ^ 64 - 1)
 
