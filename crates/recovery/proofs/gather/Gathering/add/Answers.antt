@@ -1,4 +1,4 @@
-use Rattle.std.proofs.Common.{◌≡◌, ◌++◌, ◌∷◌, [], List, length, Bool, ℕ, cond, Option, None, Some, sym, ap, subst, ◌∙◌}
+use Rattle.std.proofs.Common.{◌≡◌, List, length, Bool, ℕ, cond, Option, None, Some, sym, ap, subst, ◌∙◌}
 use Rattle.frame_codec.specs.Frame.{bytes_of}
 use Rattle.frame_codec.specs.Skimmed.{kind_of}
 use Rattle.frame_codec.specs.declared.skim.FrameKind.{FrameKind}
