@@ -17,6 +17,9 @@ mod Executed
 mod FileStoreLemmas
 mod FirstRow
 mod FlushDone
+mod HiddenLemmas
+mod HiddenMade
+mod HiddenStores
 mod InTurn
 mod LeafRoutes
 mod NeutralLemmas
