@@ -17,6 +17,7 @@ mod Executed
 mod FileStoreLemmas
 mod FirstRow
 mod FlushDone
+mod HiddenCopies
 mod HiddenLemmas
 mod HiddenMade
 mod HiddenStores
