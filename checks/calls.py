@@ -242,13 +242,13 @@ def cut_file(programs: Programs, library: Path) -> Outcome:
         return Outcome(None if (first, ended) == (b"ok 1 1 1\n", (4, b"", DEVICE)) else f"{first!r}, and then {ended}")
 
 
-# Whether the store is new, lines, and syncs: one when the store is made or opened, and three for a flush or an upgrade that writes.
+# Whether the store is new, lines, and syncs: two when the store is made, one when it is opened, and three for a flush or an upgrade that writes.
 SYNCS = [
-    (True, b"", 1),
+    (True, b"", 2),
     (False, b"get a\n", 1),
     (False, b"flush\n", 1),
-    (True, b"put a 1\nflush\n", 4),
-    (True, b"upgrade\n", 4),
+    (True, b"put a 1\nflush\n", 5),
+    (True, b"upgrade\n", 5),
     (False, b"upgrade\n", 1),
 ]
 

@@ -294,6 +294,7 @@ CALLS = [
     (FailingCalls("sync"), True, 0),
     (FailingCalls("sync", 1, 1), True, 0),
     (FailingCalls("sync", 3, 1), True, 0),
+    (FailingCalls("sync", 4, 1), True, 0),
 ]
 
 
@@ -369,15 +370,14 @@ def closed_pipe(programs: Programs) -> Outcome:
 
 
 def check_killed(programs: Programs, copy: Path, pairs: int) -> tuple[str | None, str]:
-    """Returns an error, and what the file is: empty, no store, an empty store, or the copy."""
+    """Returns an error, and what the file is: empty, no store, or the copy."""
     if not copy.exists() or copy.stat().st_size == 0:
         return None, "no bytes"
     ran = run([programs.store, "--disk", copy, "--stat"])
-    if ran.err in (b"fault 12 NotAStore\n", b"fault 13 NoSlot\n") and ran.status == 4:
+    if ran.err == b"fault 12 NotAStore\n" and ran.status == 4:
         return None, "no store"
-    count = ran.out.split()[-1:]
-    if ran.status == 0 and count in ([b"0"], [b"%d" % pairs]):
-        return None, "no pairs" if count == [b"0"] else "all pairs"
+    if ran.status == 0 and ran.out.split()[-1:] == [b"%d" % pairs]:
+        return None, "all pairs"
     return ran.describe(), ""
 
 

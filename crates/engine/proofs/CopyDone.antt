@@ -1,28 +1,31 @@
 -- What becomes of a copy: why it is refused, and what is on its disk once it is flushed.
 use Rattle.std.specs.Prelude.{◌≡◌, ◌≢◌, ◌⊎◌, ℕ, IsTrue, true, false, List, [], ◌∷◌, ◌++◌, length, take, drop, Option, Some, None, Result, Ok, Err, MatchOption, IfOk, IfErr, IsErr}
-use Rattle.std.proofs.Common.{refl, sym, ap, ◌∙◌, subst, inl, inr}
+use Rattle.std.proofs.Common.{refl, sym, ap, ◌∙◌, subst, inl, inr, ⊎_elim}
 use Rattle.std.proofs.Math.Seq.{drop-append_seam}
 use Rattle.std.specs.declared.alloc.Global.{Global}
 use Rattle.keys.specs.Bytes.{Bytes, Pairs}
 use Rattle.keys.specs.declared.command.Command.{Command}
 use Rattle.keys.specs.declared.fault.Fault.{Fault}
-use Rattle.keys.specs.declared.fault.Fault.TheVariants.{Device}
+use Rattle.keys.specs.declared.fault.Fault.TheVariants.{Device, NoMemory, NotAStore}
 use Rattle.keys.specs.declared.settings.Settings.{Settings}
 use Rattle.mapping.specs.Levels.{contents}
 use Rattle.mapping.specs.Tree.{Store, Tree, with_tree}
 use Rattle.flush_log.specs.AfterFlush.{after_flush}
-use Rattle.flush_log.specs.Disk.{View, IsSettled, Kept}
+use Rattle.flush_log.specs.Disk.{View, Lawful, IsSettled, Kept, LeavesOnly}
 use Rattle.flush_log.specs.FlushText.{flush_text, flushed, HasFrames}
 use Rattle.flush_log.specs.declared.text.Text.TheVariants as texts
+use Rattle.flush_log.proofs.ViewLemmas.{weaker}
 use Rattle.recovery.specs.InStep.{IsStore, IsStoreOf}
 use Rattle.recovery.specs.Recovered.{IsLate}
 use Rattle.recovery.specs.StoreOfDisk.{first_store, store_of_disk}
 use Rattle.recovery.proofs.ReadBytes.{kept_self, kept_then}
 use Rattle.engine.specs.Batch.{IsLaterFault}
 use Rattle.engine.specs.Calls.{IsFlushFault}
-use Rattle.engine.specs.Copies.{IsPutFault, IsCopyFault, most_puts, puts_of}
+use Rattle.engine.specs.Copies.{HoldsSomeStore, IsPutFault, IsCopyFault, most_puts, puts_of}
+use Rattle.engine.specs.Hidden.{HoldsNoStore}
 use Rattle.engine.specs.Refusal.{refusal}
 use Rattle.engine.specs.State.{State, IsSound}
+use Rattle.engine.proofs.HiddenStores.{no_store, none_leaves}
 
 -- ---- refused puts
 
@@ -132,6 +135,55 @@ module _ {D : Type 0} (view : D → View) (failed : D → ℕ) (old mid now : St
         both.1,
       )
 
+-- ---- what a crash leaves meanwhile
+
+-- a sound store's disk holds a store
+stands : {D : Type 0} (view : D → View) (x : State D) → IsSound view x → x.has_failed ≡ false → IsTrue (view x.disk).is_honest → HoldsSomeStore (view x.disk).seen
+stands view x sound fine honest = let step = sound.step fine honest in ((x.settings, step.0), step.1)
+
+pub unfilled_leaves : {D : Type 0} (view : D → View) (x : State D) (new : D) → Lawful (view x.disk) → IsSound view x → x.has_failed ≡ false → IsSettled (view x.disk) → new ≡ x.disk → LeavesOnly (view x.disk) (view new) HoldsSomeStore
+unfilled_leaves {D = D} view x new law sound fine settled same =
+    subst (λ (d : D). LeavesOnly (view x.disk) (view d) HoldsSomeStore) (sym same)
+    (none_leaves (view x.disk) HoldsSomeStore law settled (stands view x sound fine settled.honest))
+
+module _ {D : Type 0} (view : D → View) (mid now : State D) (sound : IsSound view mid) (fine : mid.has_failed ≡ false) (settled : IsSettled (view mid.disk))
+    (run : LeavesOnly (view mid.disk) (view now.disk) (λ c. (store_of_disk c ≡ store_of_disk (view mid.disk).seen) ⊎ ((after : Store) × (after_flush mid.settings mid.store (view mid.disk).seen ≡ Ok (after, c))))) where
+  same_store : (c : Bytes) → store_of_disk c ≡ store_of_disk (view mid.disk).seen → HoldsSomeStore c
+  same_store c same = let there = stands view mid sound fine settled.honest in (there.0, same ∙ there.1)
+
+  -- the store before, or the one after
+  pub flush_leaves : HasFrames mid.settings (texts.Flush mid.store.version) mid.store.tree
+      → ((s : Settings) (st now : Store) (file bytes : Bytes) → IsStoreOf s st file → HasFrames s (texts.Flush st.version) st.tree → after_flush s st file ≡ Ok (now, bytes)
+      → (store_of_disk bytes ≡ Ok (s, now)) × IsStoreOf s now bytes)
+      → LeavesOnly (view mid.disk) (view now.disk) HoldsSomeStore
+  flush_leaves frames read =
+      weaker (view mid.disk) (view now.disk) (λ c. (store_of_disk c ≡ store_of_disk (view mid.disk).seen) ⊎ ((after : Store) × (after_flush mid.settings mid.store (view mid.disk).seen ≡ Ok (after, c)))) HoldsSomeStore
+      (λ c left. ⊎_elim
+      (λ same. same_store c same)
+      (λ done. ((mid.settings, done.0), (read mid.settings mid.store done.0 (view mid.disk).seen c (record { is = sound.is; step = sound.step fine settled.honest }) frames done.1).0))
+      left)
+      run
+
+  -- where it is refused, too
+  pub refused_leaves : (fault : Fault) (old new : ℕ) → Lawful (view mid.disk)
+      → (fault ≡ Device → HasFrames mid.settings (texts.Flush mid.store.version) mid.store.tree)
+      → ((s : Settings) (st now : Store) (file bytes : Bytes) → IsStoreOf s st file → HasFrames s (texts.Flush st.version) st.tree → after_flush s st file ≡ Ok (now, bytes)
+      → (store_of_disk bytes ≡ Ok (s, now)) × IsStoreOf s now bytes)
+      → (fault ≢ Device → now ≡ mid) → IsFlushFault mid.settings mid.store (view mid.disk).seen old new fault → LeavesOnly (view mid.disk) (view now.disk) HoldsSomeStore
+  refused_leaves fault old new law frames read same (inl right) =
+      weaker (view mid.disk) (view now.disk) (λ c. (store_of_disk c ≡ store_of_disk (view mid.disk).seen) ⊎ ((after : Store) × (after_flush mid.settings mid.store (view mid.disk).seen ≡ Ok (after, c)))) HoldsSomeStore
+      (λ c left. ⊎_elim (λ before. same_store c before) (λ done. absurd (not_both (after_flush mid.settings mid.store (view mid.disk).seen) fault (done.0, c) right done.1)) left)
+      run
+    where
+      not_both : {X : Type 0} (r : Result X Fault) (f : Fault) (x : X) → r ≡ Err f → r ≡ Ok x → ⊥
+      not_both r f x err ok = absurd (cc)
+  refused_leaves fault old new law frames read same (inr (inl (memory, due))) =
+      unfilled_leaves view mid now.disk law sound fine settled (ap (λ (x : State D). x.disk) (same (λ device. absurd (never (sym memory ∙ device)))))
+    where
+      never : NoMemory ≡ Device → ⊥
+      never e = absurd (cc)
+  refused_leaves fault old new law frames read same (inr (inr (device, failed, would))) = flush_leaves (frames device) read
+
 -- ---- a store that was made, and then filled
 
 no_error : {X Y : Type 0} (r : Result X Y) (made : X) → r ≡ Ok made → IsErr r → ⊥
@@ -166,14 +218,13 @@ pub made_back : {X D : Type 0} (view : D → View) (r : Result X (Fault × D)) (
 made_back view (Ok x) disk mid kept back = tt
 made_back view (Err e) disk mid kept back = kept_then (view disk) (view mid) (view e.1) kept back.0
 
-pub made_left : {X D : Type 0} (view : D → View) (r : Result X (Fault × D)) (disk mid : D) (H : Type 0) (after : Result (Store × Bytes) Fault) (st : Store) → st ≡ first_store
-    → (H → (after ≡ Ok (st, (view mid).seen)) × IsSettled (view mid))
+-- the disk that is handed back has no store
+pub made_left : {X D : Type 0} (view : D → View) (r : Result X (Fault × D)) (disk mid : D) (H : Type 0) → (H → HoldsNoStore (view mid).seen) → (H → IsSettled (view mid))
     → IfErr r (λ e. Kept (view mid) (view e.1) × (e.0 ≢ Device → e.1 ≡ mid))
-    → IfErr r (λ e. e.0 ≢ Device → (e.1 ≡ disk) ⊎ (H → (after ≡ Ok (first_store, (view e.1).seen)) × IsSettled (view e.1)))
-made_left view (Ok x) disk mid H after st first bytes back = tt
-made_left {D = D} view (Err e) disk mid H after st first bytes back = λ other. inr (λ h.
-    subst (λ (d : D). (after ≡ Ok (first_store, (view d).seen)) × IsSettled (view d)) (sym (back.1 other))
-    (subst (λ (x : Store). after ≡ Ok (x, (view mid).seen)) first (bytes h).0, (bytes h).1))
+    → IfErr r (λ e. e.0 ≢ Device → (e.1 ≡ disk) ⊎ (H → (store_of_disk (view e.1).seen ≡ Err NotAStore) × IsSettled (view e.1)))
+made_left view (Ok x) disk mid H hidden settled back = tt
+made_left {D = D} view (Err e) disk mid H hidden settled back = λ other. inr (λ h.
+    subst (λ (d : D). (store_of_disk (view d).seen ≡ Err NotAStore) × IsSettled (view d)) (sym (back.1 other)) (no_store (view mid).seen (hidden h), settled h))
 
 pub made_ok : {D Y : Type 0} (view : D → View) (failed : D → ℕ) (r : Result (State D) Y) (disk mid : D) (s t : Settings) → s ≡ t → Kept (view disk) (view mid) → failed mid ≡ failed disk
     → IfOk r (λ copy. (copy.settings ≡ s) × (copy.has_failed ≡ false))

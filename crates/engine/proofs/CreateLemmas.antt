@@ -1,5 +1,5 @@
 -- What the making of a store comes to.
-use Rattle.std.specs.Prelude.{◌≡◌, ℕ, ◌+◌, ◌<◌, ◌≤◌, nat_lt, IsTrue, Bool, true, false, if◌then◌else◌, List, length, replicate, Option, Some, None, Result, Ok, Err, MatchOption}
+use Rattle.std.specs.Prelude.{◌≡◌, ℕ, ◌<◌, ◌≤◌, nat_lt, IsTrue, Bool, true, false, if◌then◌else◌, List, length, replicate, Option, Some, None, Result, Ok, Err, MatchOption}
 use Rattle.std.specs.Option.{option_or}
 use Rattle.std.proofs.Common.{refl, sym, ap, ◌∙◌, subst, arith}
 use Rattle.std.proofs.lemmas.Bool.{ltb-false, le-ltb, lt-ltb}
@@ -14,7 +14,7 @@ use Rattle.keys.specs.declared.version.Version.{Version}
 use Rattle.mapping.specs.Tree.{Store}
 use Rattle.mapping.specs.TreeInMemory.{TreeInMemory, new_in_memory, tree_of}
 use Rattle.flush_log.specs.AfterFlush.{slot_of, store_after}
-use Rattle.flush_log.specs.Disk.{View, Lawful, Kept}
+use Rattle.flush_log.specs.Disk.{View, Lawful}
 use Rattle.flush_log.specs.NewStore.{first_slot, new_bytes, disk_of_new}
 use Rattle.flush_log.specs.Segments.{HasSegments, disk_size}
 use Rattle.flush_log.specs.Slot.{Slot}
@@ -64,7 +64,7 @@ pub none_refused : (s : Settings) (size : ℕ) → first_bad_field s ≡ None �
 none_refused s size good room = by_size s size false good (le-ltb size (disk_size s) room)
 
 -- so a disk has room for the bytes of a new store
-pub new-fits : (s : Settings) (bytes : List ℕ) (len small size : ℕ) → first_bad_field s ≡ None → bytes ≡ new_bytes s → small ≤ len → len ≡ size → small ≡ disk_size s → 0 + length bytes ≤ size
+pub new-fits : (s : Settings) (bytes : List ℕ) (len small size : ℕ) → first_bad_field s ≡ None → bytes ≡ new_bytes s → small ≤ len → len ≡ size → small ≡ disk_size s → length bytes ≤ size
 new-fits s bytes len small size good is room whole least =
     let sized = are_sized s good in
     let product = mul-le-mul sized.least_count sized.least_size in
@@ -91,34 +91,35 @@ first-is tree slot log root height version new first same =
     ∙ ap (λ (t : Slot). store_after (tree_of tree) t) first
     ∙ ap (λ (t : TreeInMemory). store_after (tree_of t) first_slot) new
 
-module _ {D : Type 0} (view : D → View) (s : Settings) (tree : TreeInMemory) (log : LogEnds) (version : Version) (old new : D) (is : store_in tree log version ≡ first_store) (free : create_refusal s (view old).size ≡ None)
-    (law : IsTrue (view old).is_honest → Lawful (view old)) (bytes : IsTrue (view old).is_honest → (view new).seen ≡ disk_of_new s (view old).seen) where
-  pub made-bytes : IsTrue (view old).is_honest → after_create s (view old).seen ≡ Ok (store_in tree log version, (view new).seen)
+-- the disk may be seen otherwise afterwards
+module _ {D : Type 0} (view : D → View) (s : Settings) (tree : TreeInMemory) (log : LogEnds) (version : Version) (old : View) (new : D) (is : store_in tree log version ≡ first_store) (free : create_refusal s old.size ≡ None)
+    (law : IsTrue old.is_honest → Lawful old) (bytes : IsTrue old.is_honest → (view new).seen ≡ disk_of_new s old.seen) where
+  pub made-bytes : IsTrue old.is_honest → after_create s old.seen ≡ Ok (store_in tree log version, (view new).seen)
   made-bytes honest =
-      let none : create_refusal s (length (view old).seen) ≡ None = ap (λ (n : ℕ). create_refusal s n) (law honest).whole ∙ free in
-      ap (λ (o : Option Fault). made_unless o s (view old).seen) none
-      ∙ ap (λ (st : Store). answer st (disk_of_new s (view old).seen)) (sym is)
+      let none : create_refusal s (length old.seen) ≡ None = ap (λ (n : ℕ). create_refusal s n) (law honest).whole ∙ free in
+      ap (λ (o : Option Fault). made_unless o s old.seen) none
+      ∙ ap (λ (st : Store). answer st (disk_of_new s old.seen)) (sym is)
       ∙ ap (λ (file : List ℕ). answer (store_in tree log version) file) (sym (bytes honest))
     where
       answer : Store → List ℕ → Result (Store × List ℕ) Fault
       answer st file = Ok (st, file)
 
-  pub made-sound : tree ≡ new_in_memory → Kept (view old) (view new)
+  pub made-sound : tree ≡ new_in_memory → (view new).is_honest ≡ old.is_honest → (view new).size ≡ old.size
       → ((s : Settings) (disk : List ℕ) → first_bad_field s ≡ None → HasSegments s disk → (store_of_disk (disk_of_new s disk) ≡ Ok (s, first_store)) × IsStoreOf s first_store (disk_of_new s disk))
       → IsSoundStore view s tree log version new false
-  made-sound fresh kept stands =
-      let (good, room) = fits s (view old).size free in
+  made-sound fresh honest_is size_is stands =
+      let (good, room) = fits s old.size free in
       let zeros : List ℕ = replicate (disk_size s) 0 in
       let any = stands s zeros good (rw (length-replicate {A = ℕ} (disk_size s) 0) (Prim.omega arith)) in
       record {
         home = rw fresh (refl, tt);
         sound = record {
           is = rw is any.1.is;
-          room = subst (λ (n : ℕ). disk_size s ≤ n) (sym kept.size) room;
+          room = subst (λ (n : ℕ). disk_size s ≤ n) (sym size_is) room;
           step = λ _ still. (
-              let honest = subst IsTrue kept.honest still in
-              let long : HasSegments s (view old).seen = subst (λ (n : ℕ). disk_size s ≤ n) (sym (law honest).whole) room in
-              let stood = stands s (view old).seen good long in
+              let honest = subst IsTrue honest_is still in
+              let long : HasSegments s old.seen = subst (λ (n : ℕ). disk_size s ≤ n) (sym (law honest).whole) room in
+              let stood = stands s old.seen good long in
               subst (λ (st : Store). IsInStep s st (view new).seen) (sym is) (subst (λ (file : List ℕ). IsInStep s first_store file) (sym (bytes honest)) stood.1.step));
         };
       }

@@ -17,6 +17,10 @@ mod Executed
 mod FileStoreLemmas
 mod FirstRow
 mod FlushDone
+mod HiddenCopies
+mod HiddenLemmas
+mod HiddenMade
+mod HiddenStores
 mod InTurn
 mod LeafRoutes
 mod NeutralLemmas

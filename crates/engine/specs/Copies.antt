@@ -1,18 +1,18 @@
 -- What a copy of a store puts into the new one, how much of it is done, and why there is no copy.
-use Rattle.std.specs.Prelude.{◌≡◌, ◌⊎◌, ℕ, List, [], ◌∷◌, ◌++◌, map, take, drop, Option, Some, None, Err}
+use Rattle.std.specs.Prelude.{◌≡◌, ◌⊎◌, ℕ, List, [], ◌∷◌, ◌++◌, map, take, drop, Option, Some, None, Ok, Err}
 use Rattle.std.specs.declared.alloc.Global.{Global}
 use Rattle.keys.specs.Bytes.{Bytes, Pairs}
 use Rattle.keys.specs.declared.command.Command.{Command}
 use Rattle.keys.specs.declared.command.Command.TheVariants.{Put}
 use Rattle.keys.specs.declared.fault.Fault.{Fault}
-use Rattle.keys.specs.declared.fault.Fault.TheVariants.{NoMemory, Spent}
+use Rattle.keys.specs.declared.fault.Fault.TheVariants.{NoMemory, NotAStore, Spent}
 use Rattle.keys.specs.declared.settings.Settings.{Settings}
 use Rattle.mapping.specs.Levels.{contents}
 use Rattle.mapping.specs.Proper.{IsProper}
-use Rattle.mapping.specs.Tree.{Tree, with_tree}
+use Rattle.mapping.specs.Tree.{Tree, Store, with_tree}
 use Rattle.flush_log.specs.AfterFlush.{after_flush}
 use Rattle.recovery.specs.Recovered.{IsLate}
-use Rattle.recovery.specs.StoreOfDisk.{first_store}
+use Rattle.recovery.specs.StoreOfDisk.{first_store, store_of_disk}
 use Rattle.engine.specs.Refusal.{refusal}
 
 -- a put of a pair, and puts of pairs in their order
@@ -54,3 +54,19 @@ pub record IsFilledFault (s : Settings) (all : Pairs Bytes) (fault : Fault) : Ty
 -- aren't all put; or the new store isn't flushed.
 abbrev pub IsCopyFault : Settings → Pairs Bytes → ℕ → ℕ → Fault → Type 0
 IsCopyFault s all old new fault = IsLate old new fault ⊎ IsPutFault s all fault ⊎ IsFilledFault s all fault
+
+-- bytes hold a store
+abbrev pub HoldsSomeStore : Bytes → Type 0
+HoldsSomeStore c = (x : Settings × Store) × (store_of_disk c ≡ Ok x)
+
+-- bytes hold a store of these pairs, under these settings
+abbrev pub HoldsCopy : Settings → Pairs Bytes → Bytes → Type 0
+HoldsCopy s all c = (copy : Store) × (store_of_disk c ≡ Ok (s, copy)) × (contents copy.tree ≡ all)
+
+-- what a crash may leave of the new disk once the copy was begun: no store, or a whole copy
+abbrev pub IsLeftFilling : Settings → Pairs Bytes → Bytes → Type 0
+IsLeftFilling s all c = (store_of_disk c ≡ Err NotAStore) ⊎ HoldsCopy s all c
+
+-- what a crash in a copy may leave of the new disk: the bytes as they were, no store, or a whole copy
+abbrev pub IsLeftCopying : Settings → Pairs Bytes → Bytes → Bytes → Type 0
+IsLeftCopying s all file c = (c ≡ file) ⊎ IsLeftFilling s all c

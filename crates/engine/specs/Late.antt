@@ -1,17 +1,17 @@
 -- Faults that a store and its bytes don't decide, and what the making of a store leaves.
-use Rattle.std.specs.Prelude.{ℕ, nat_lt, if◌then◌else◌, length, Option, Some, None, Result, Ok, Err}
+use Rattle.std.specs.Prelude.{◌≡◌, ◌⊎◌, ℕ, nat_lt, if◌then◌else◌, length, Option, Some, None, Result, Ok, Err}
 use Rattle.std.specs.Option.{option_or}
 use Rattle.keys.specs.Bytes.{Bytes}
 use Rattle.keys.specs.Limits.{first_bad_field}
 use Rattle.keys.specs.declared.fault.Fault.{Fault}
-use Rattle.keys.specs.declared.fault.Fault.TheVariants.{BadSettings, DiskTooSmall}
+use Rattle.keys.specs.declared.fault.Fault.TheVariants.{BadSettings, DiskTooSmall, NotAStore}
 use Rattle.keys.specs.declared.settings.Field.{Field}
 use Rattle.keys.specs.declared.settings.Settings.{Settings}
 use Rattle.mapping.specs.Tree.{Store}
 use Rattle.flush_log.specs.NewStore.{disk_of_new}
 use Rattle.flush_log.specs.Segments.{disk_size}
 pub use Rattle.recovery.specs.Recovered.{IsLate}
-use Rattle.recovery.specs.StoreOfDisk.{first_store}
+use Rattle.recovery.specs.StoreOfDisk.{first_store, store_of_disk}
 
 -- why no store is made on a disk of a given size: a field of the settings is bad, or the disk has no room for all segments
 abbrev pub field_fault : Option Field → Option Fault
@@ -28,3 +28,7 @@ made_unless (Some fault) s disk = Err fault
 
 abbrev pub after_create : Settings → Bytes → Result (Store × Bytes) Fault
 after_create s disk = made_unless (create_refusal s (length disk)) s disk
+
+-- what a crash may leave of a disk while a store is made on it: the bytes as they were, no store, or the new one
+abbrev pub IsLeftCreating : Settings → Bytes → Bytes → Type 0
+IsLeftCreating s file c = (c ≡ file) ⊎ (store_of_disk c ≡ Err NotAStore) ⊎ (c ≡ disk_of_new s file)

@@ -4,6 +4,7 @@ pub mod Calls
 pub mod Cleaning
 pub mod Copies
 pub mod FileStore
+pub mod Hidden
 pub mod Late
 pub mod LeafFor
 pub mod Leaves

@@ -170,7 +170,7 @@ fn store_of<F: Read + Write + Seek + OpenFile + LockFile + Drop>(
 /// why a call failed. A file that isn't empty was not written then. One that was missing or empty is empty again, where its length can
 /// still be set.
 ///
-/// A crash while a new store is made may leave a file of zeros in its whole length, which is `Fault::NotAStore` from then on: remove it.
+/// A crash while a new store is made may leave a file that holds no store (`Fault::NotAStore`): remove it.
 pub fn open_or_create<R: AllocGlobal + Threads + Sync + Files>(
     rt: &R,
     crew: Crew,

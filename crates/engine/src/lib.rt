@@ -6,6 +6,7 @@
 mod execute;
 mod execute_one;
 mod file_store;
+mod hidden_disk;
 pub mod laws;
 mod leaf_tasks;
 mod leaves;

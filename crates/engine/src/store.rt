@@ -1,15 +1,13 @@
 //! The store: a tree of pages and its log on a disk.
-ghost use Rattle.std.specs.Prelude.{◌≡◌, ◌≢◌, [], None, Ok, Err, IsTrue, IfOk, IsErr, IfErr, OnOk, OnErr, MatchOption, true, false};
+ghost use Rattle.std.specs.Prelude.{◌≡◌, ◌≢◌, [], None, Ok, Err, IsTrue, IfOk, IsErr, IfErr, OnOk, OnErr, MatchOption, MatchResult, true, false};
 ghost use Rattle.keys.specs.Step.{replies_to, map_after_all};
 ghost use Rattle.keys.specs.declared.fault.Fault.TheVariants.{NoMemory, Device, Failed};
 ghost use Rattle.mapping.specs.Levels.{contents};
 ghost use Rattle.climb_plan.specs.Plan.{plan};
-ghost use Rattle.mapping.specs.TreeInMemory.{new_in_memory};
-ghost use Rattle.flush_log.specs.Disk.{IsSettled, Kept};
-ghost use Rattle.flush_log.specs.NewStore.{disk_of_new};
+ghost use Rattle.flush_log.specs.Disk.{IsSettled, Kept, LeavesOnly};
 ghost use Rattle.recovery.specs.StoreOfDisk.{first_store};
 ghost use Rattle.engine.specs.Batch.{IsLaterFault, refusal_by};
-ghost use Rattle.engine.specs.Late.{IsLate, create_refusal, after_create};
+ghost use Rattle.engine.specs.Late.{IsLate, create_refusal, after_create, IsLeftCreating};
 ghost use Rattle.engine.specs.Refusal.{refusal, is_crew};
 ghost use Rattle.engine.specs.State.{IsSound};
 ghost use Rattle.engine.specs.Steps.{HasWords, batching};
@@ -19,6 +17,7 @@ ghost use Rattle.verify.specs.Report.{report};
 mod clean;
 mod cleaning;
 mod copy;
+mod creation;
 mod flush;
 mod numbers;
 mod play;
@@ -30,14 +29,12 @@ mod upgrade;
 use crate::execute::execute;
 use crate::laws::a_batch_stays_in_step;
 use crate::refusal::{admit, admit_crew};
+use crate::store::creation::{create_hidden, reveal_store};
 use crew::{Crew, Gate};
-use flush_log::{Disk, LogEnds, disk_size, first_slot, new_bytes, write_through};
+use flush_log::{Disk, LogEnds};
 use keys::{Command, Fault, Reply, Settings, Version};
-use mapping::laws::{
-    nothing_is_found_exactly_in_a_proper_tree, the_first_tree_is_proper_and_empty,
-};
-use mapping::{Tree, new_tree};
-use recovery::laws::a_new_disk_stands_for_the_first_store;
+use mapping::Tree;
+use mapping::laws::nothing_is_found_exactly_in_a_proper_tree;
 use std::alloc::Global;
 use std::marker::Model;
 use std::thread::Threads;
@@ -70,34 +67,15 @@ impl<D: Disk> Model for Store<D> {
         IsSoundStore D.view s.settings s.tree s.log s.version s.disk s.has_failed };
 }
 
-// Makes the disk one of a new store, and gives the tree. Nothing is written before all else has answered.
-fn make<D: Disk>(alloc: Global, disk: &mut D, settings: &Settings) -> Result<Tree<Global>, Fault>
-    ensures refused { MatchOption (create_refusal settings.now (D.view disk.old).size)
-        (IfErr result (IsLate (D.failed disk.old) (D.failed disk.new)))
-        (λ fault. result ≡ Err fault) }
-    ensures kept { Kept (D.view disk.old) (D.view disk.new) }
-    ensures back { IfErr result (λ fault. fault ≢ Fault.Device → disk.new ≡ disk.old) }
-    ensures tree { IfOk result (λ tree. tree ≡ new_in_memory) }
-    ensures counted { OnOk result (D.failed disk.new ≡ D.failed disk.old) }
-    ensures bytes { IsTrue (D.view disk.old).is_honest →
-        OnOk result (((D.view disk.new).seen ≡ disk_of_new settings.now (D.view disk.old).seen)
-        × IsSettled (D.view disk.new)) }
-{
-    settings.check()?;
-    if disk.len() < disk_size(settings) {
-        return Err(Fault::DiskTooSmall);
-    }
-    let tree = new_tree(alloc)?;
-    write_through(disk, 0, &new_bytes(settings))?;
-    Ok(tree)
-}
-
 impl<D: Disk> Store<D> {
     /// Makes a store on a disk: it holds nothing yet, and its log is one empty leaf, of version 1. What the disk held is lost.
     ///
     /// The first field of the settings that is out of range is `Fault::BadSettings`, as `Settings::check` says; then a disk that
     /// has no room for all segments is `Fault::DiskTooSmall`; then there are `Fault::NoMemory`, and `Fault::Device` where a
     /// call of the disk failed. After an `Err` the disk is handed back: as it was, but after `Fault::Device`.
+    ///
+    /// The first byte of the settings block is written last, after all else was synced, and then synced too. So a crash leaves what
+    /// the disk held, no store (`Fault::NotAStore`), or the new one.
     pub fn create(alloc: Global, disk: D, settings: Settings) -> Result<Store<D>, (Fault, D)>
         // Which fault: that of the settings and of the size, and else a late one.
         ensures refused { MatchOption (create_refusal settings (D.view disk).size)
@@ -116,24 +94,17 @@ impl<D: Disk> Store<D> {
             IfOk result (λ made.
             (after_create settings (D.view disk).seen ≡ Ok (made.store, (D.view made.disk).seen))
             × IsSettled (D.view made.disk)) }
+        // On an honest disk that is settled a crash at any moment leaves the bytes as they were, no store, or the new one.
+        ensures crash { IsSettled (D.view disk) → MatchResult result
+            (λ made. LeavesOnly (D.view disk) (D.view made.disk)
+            (IsLeftCreating settings (D.view disk).seen))
+            (λ e. LeavesOnly (D.view disk) (D.view e.1)
+            (IsLeftCreating settings (D.view disk).seen)) }
         ensures sound { IfOk result (λ made. IsSound D.view made) }
     {
-        // Only for the proof.
-        the_first_tree_is_proper_and_empty();
-        a_new_disk_stands_for_the_first_store();
-        let mut disk = disk;
-        let first = first_slot();
-        match make(alloc, &mut disk, &settings) {
-            Ok(tree) => Ok(Store {
-                settings,
-                alloc,
-                tree,
-                log: first.ends,
-                version: first.version,
-                disk,
-                has_failed: false,
-            }),
-            Err(fault) => Err((fault, disk)),
+        match create_hidden(alloc, disk, settings) {
+            Ok(hidden) => reveal_store(hidden),
+            Err(refused) => Err(refused),
         }
     }
 

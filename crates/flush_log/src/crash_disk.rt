@@ -29,12 +29,12 @@ pub enum Fill {
 /// made, and a sync does nothing; what comes later does nothing either, while a read still answers. Where memory is refused, a call
 /// fails before that, and does nothing. What a crash leaves can be had at any moment, in three ways. The disk is honest, so all that is promised of a store on an honest disk holds on it.
 ///
-/// It takes two calls to make a store, a write and a sync, and six to flush it first. Here the disk stops as the gate of the new
+/// It takes four calls to make a store, two writes and two syncs, and six to flush it first. Here the disk stops as the gate of the new
 /// slot is written, which is the fifth of the flush; a byte that is no gate is left there:
 ///
 /// ```
 /// let mut disk = CrashDisk::new(alloc, 1_536)?;
-/// disk.stop_at(7);
+/// disk.stop_at(9);
 /// let mut store = Store::create(alloc, disk, settings).map_err(|(fault, _disk)| fault)?;
 /// store.batch(rt, crew, &NoGate, &commands)?;
 /// assert!(rt; store.flush(rt, crew) == Err(Fault::Device));

@@ -25,14 +25,14 @@ pub enum Failing {
 /// written its first bytes, as many as `new` was given; a sync that fails does nothing. Where memory is refused, a call fails that was
 /// not wanted to, and nothing is written. The disk is honest, so all that is promised of a store on an honest disk holds on it.
 ///
-/// It takes two calls to make a store, a write and a sync. Here the third one fails, which is the first of the flush:
+/// It takes four calls to make a store, two writes and two syncs. Here the fifth one fails, which is the first of the flush:
 ///
 /// ```
-/// let disk = FaultDisk::new(MemDisk::new(alloc, 1_536)?, Failing::Once(3), 7);
+/// let disk = FaultDisk::new(MemDisk::new(alloc, 1_536)?, Failing::Once(5), 7);
 /// let mut store = Store::create(alloc, disk, settings).map_err(|(fault, _disk)| fault)?;
 /// store.batch(rt, crew, &NoGate, &commands)?;
 /// assert!(rt; store.flush(rt, crew) == Err(Fault::Device));
-/// assert!(rt; store.disk().calls() == 3 && store.disk().failures() == 1);
+/// assert!(rt; store.disk().calls() == 5 && store.disk().failures() == 1);
 /// let mut left = store.close().into_inner();
 /// left.sync()?;
 /// let opened = Store::recover(rt, alloc, left, crew);

@@ -1,5 +1,5 @@
 //! The copy: a new store on another disk, under settings of its own, with the same contents.
-ghost use Rattle.std.specs.Prelude.{◌≡◌, ◌≢◌, ◌⊎◌, ◌<◌, ◌≤◌, ◌++◌, [], None, Some, Err, Ok, IsTrue, IfOk, IfErr, IsErr, OnOk, MatchOption, length, take, false};
+ghost use Rattle.std.specs.Prelude.{◌≡◌, ◌≢◌, ◌⊎◌, ◌<◌, ◌≤◌, ◌++◌, [], None, Some, Err, Ok, IsTrue, IfOk, IfErr, IsErr, OnOk, MatchOption, MatchResult, length, take, false};
 ghost use Rattle.std.specs.Option.{option_copied};
 ghost use Rattle.keys.specs.Bytes.{Bytes, Pairs};
 ghost use Rattle.keys.specs.Order.{IsRising};
@@ -7,15 +7,17 @@ ghost use Rattle.mapping.specs.Levels.{contents, levels_of};
 ghost use Rattle.mapping.specs.Proper.{AreLevels, HoldsItsLevels};
 ghost use Rattle.mapping.specs.Tree.{most_levels, with_tree};
 ghost use Rattle.mapping.specs.TreeInMemory.{AreAllHome, tree_of};
-ghost use Rattle.flush_log.specs.Disk.{IsSettled, Kept};
+ghost use Rattle.flush_log.specs.Disk.{IsSettled, Kept, LeavesOnly};
 ghost use Rattle.recovery.specs.StoreOfDisk.{first_store, store_of_disk};
-ghost use Rattle.engine.specs.Copies.{IsBegun, IsCopyFault, IsPutFault, last_key, most_puts, puts_of};
-ghost use Rattle.engine.specs.Late.{after_create, create_refusal};
+ghost use Rattle.engine.specs.Copies.{HoldsSomeStore, IsBegun, IsCopyFault, IsLeftCopying, IsLeftFilling, IsPutFault, last_key, most_puts, puts_of};
+ghost use Rattle.engine.specs.Late.{create_refusal};
 ghost use Rattle.engine.specs.Refusal.{is_crew};
 ghost use Rattle.engine.specs.State.{IsSound};
 
+use crate::hidden_disk::Hidden;
 use crate::refusal::admit_crew;
 use crate::store::Store;
+use crate::store::creation::{create_hidden, reveal_store};
 use crew::{Crew, NoGate};
 use flush_log::Disk;
 use keys::{Command, Fault, Key, Settings, Value};
@@ -142,6 +144,7 @@ impl<D: Disk> Store<D> {
         requires first { copy.old.store ≡ first_store }
         requires empty { contents copy.old.store.tree ≡ [] }
         requires fine { copy.old.has_failed ≡ false }
+        requires sound { IsSound E.view copy.old }
         requires crew { IsTrue (is_crew crew) }
         ensures contents { OnOk result
             (contents copy.new.store.tree ≡ contents self.now.store.tree) }
@@ -156,6 +159,8 @@ impl<D: Disk> Store<D> {
             (E.failed copy.old.disk) (E.failed copy.new.disk)) }
         ensures unchanged { IfErr result
             (λ fault. fault ≢ Fault.Device → copy.new.disk ≡ copy.old.disk) }
+        ensures crash { IsSettled (E.view copy.old.disk) →
+            LeavesOnly (E.view copy.old.disk) (E.view copy.new.disk) HoldsSomeStore }
         ensures sound { OnOk result (IsSound E.view copy.new) }
     {
         // Only for the proof.
@@ -175,6 +180,7 @@ impl<D: Disk> Store<D> {
         requires first { fresh.store ≡ first_store }
         requires empty { contents fresh.store.tree ≡ [] }
         requires fine { fresh.has_failed ≡ false }
+        requires sound { IsSound E.view fresh }
         requires crew { IsTrue (is_crew crew) }
         ensures made { IfOk result (λ copy. (copy.settings ≡ fresh.settings)
             × (copy.has_failed ≡ false)) }
@@ -189,6 +195,9 @@ impl<D: Disk> Store<D> {
             (contents self.now.store.tree) (E.failed fresh.disk) (E.failed e.1) e.0) }
         ensures back { IfErr result (λ e. Kept (E.view fresh.disk) (E.view e.1)
             × (e.0 ≢ Fault.Device → e.1 ≡ fresh.disk)) }
+        ensures crash { IsSettled (E.view fresh.disk) → MatchResult result
+            (λ copy. LeavesOnly (E.view fresh.disk) (E.view copy.disk) HoldsSomeStore)
+            (λ e. LeavesOnly (E.view fresh.disk) (E.view e.1) HoldsSomeStore) }
         ensures sound { IfOk result (λ copy. IsSound E.view copy) }
     {
         let mut copy = fresh;
@@ -198,19 +207,60 @@ impl<D: Disk> Store<D> {
         }
     }
 
+    // Fills a hidden store and reveals it, or returns the disk below where that is refused.
+    fn fill_hidden<E: Disk>(
+        &self,
+        rt: &(impl Threads + Sync),
+        crew: Crew,
+        fresh: Store<Hidden<E>>,
+    ) -> Result<Store<E>, (Fault, E)>
+        requires first { fresh.store ≡ first_store }
+        requires empty { contents fresh.store.tree ≡ [] }
+        requires fine { fresh.has_failed ≡ false }
+        requires sound { IsSound ⟦<Hidden<E> as Disk>⟧.view fresh }
+        requires crew { IsTrue (is_crew crew) }
+        ensures made { IfOk result (λ copy. (copy.settings ≡ fresh.settings)
+            × (copy.has_failed ≡ false)) }
+        ensures contents { IfOk result (λ copy.
+            contents copy.store.tree ≡ contents self.now.store.tree) }
+        ensures kept { IfOk result (λ copy. Kept (E.view fresh.disk.disk) (E.view copy.disk)
+            × (E.failed copy.disk ≡ E.failed fresh.disk.disk)) }
+        ensures bytes { IsSettled (E.view fresh.disk.disk) → IfOk result (λ copy.
+            (store_of_disk (E.view copy.disk).seen ≡ Ok (fresh.settings, copy.store))
+            × IsSettled (E.view copy.disk)) }
+        ensures refused { IfErr result (λ e. IsCopyFault fresh.settings
+            (contents self.now.store.tree) (E.failed fresh.disk.disk) (E.failed e.1) e.0) }
+        ensures back { IfErr result (λ e. Kept (E.view fresh.disk.disk) (E.view e.1)
+            × (e.0 ≢ Fault.Device → e.1 ≡ fresh.disk.disk)) }
+        ensures crash { IsSettled (E.view fresh.disk.disk) → MatchResult result
+            (λ copy. LeavesOnly (E.view fresh.disk.disk) (E.view copy.disk)
+            (IsLeftFilling fresh.settings (contents self.now.store.tree)))
+            (λ e. LeavesOnly (E.view fresh.disk.disk) (E.view e.1)
+            (IsLeftFilling fresh.settings (contents self.now.store.tree))) }
+        ensures sound { IfOk result (λ copy. IsSound E.view copy) }
+    {
+        match self.fill_new(rt, crew, fresh) {
+            Ok(copy) => reveal_store(copy),
+            Err((fault, hidden)) => {
+                let Hidden { disk } = hidden;
+                Err((fault, disk))
+            }
+        }
+    }
+
     /// Makes a store on another disk that holds what this one holds, under settings of its own, and flushes it. So a full log is
     /// replaced by a larger one, the emptied pages of a queue go, `fan` and `chain` are changed, or a backup is made. This store and its
     /// disk stay as they were; one that has failed is copied too. What the other disk held is lost.
     ///
     /// It takes memory for the pages of the new store, for the commands of a batch of 4,096 puts, and for the bytes of the pages, as a flush
-    /// does. All is flushed at once: so the new log has each page once, and once there is an empty store on the disk, a crash leaves that
-    /// or the whole copy.
+    /// does. All is flushed at once: so the new log has each page once. The first byte of the new disk is written last, as in
+    /// `Store::create`: so a crash leaves what that disk held, no store (`Fault::NotAStore`), or the whole copy.
     ///
     /// A crew out of range is `Fault::BadCrew`; then come the faults of `Store::create`; then `Fault::KeyTooLong` or `Fault::ValueTooLong`
     /// for a pair that is too long for the new settings, with its place in its batch of 4,096 puts; `Fault::NoMemory`; `Fault::Spent`, where
     /// the tree would have more than 64 levels; `Fault::Full`, where the pairs have no room in the new log; and `Fault::Device`, where a call
-    /// of the new disk failed. After an `Err` the other disk is handed back: as it was, or with an empty store; after
-    /// `Fault::Device` it may hold anything.
+    /// of the new disk failed. After an `Err` the other disk is handed back: as it was, or without a store; after
+    /// `Fault::Device` it may hold the whole copy, too.
     pub fn copy_to<E: Disk>(
         &self,
         rt: &(impl Threads + Sync),
@@ -225,11 +275,11 @@ impl<D: Disk> Store<D> {
             (IfErr result (λ e. IsCopyFault settings (contents self.now.store.tree)
             (E.failed disk) (E.failed e.1) e.0))
             (λ fault. IsErr result × IfErr result (λ e. e.0 ≡ fault)) }
-        // What is handed back: the disk as it was, or with an empty store on it, except after a call of it failed.
+        // What is handed back: the disk as it was, or without a store, except after a call of it failed.
         ensures back { IfErr result (λ e. Kept (E.view disk) (E.view e.1)) }
         ensures left { IfErr result (λ e. e.0 ≢ Fault.Device →
             (e.1 ≡ disk) ⊎ (IsTrue (E.view disk).is_honest →
-            (after_create settings (E.view disk).seen ≡ Ok (first_store, (E.view e.1).seen))
+            (store_of_disk (E.view e.1).seen ≡ Err Fault.NotAStore)
             × IsSettled (E.view e.1))) }
 
         // It holds the same, under the settings.
@@ -243,13 +293,19 @@ impl<D: Disk> Store<D> {
         ensures bytes { IsTrue (E.view disk).is_honest → IfOk result (λ copy.
             (store_of_disk (E.view copy.disk).seen ≡ Ok (settings, copy.store))
             × IsSettled (E.view copy.disk)) }
+        // On an honest disk that is settled a crash at any moment leaves the bytes as they were, no store, or the whole copy.
+        ensures crash { IsSettled (E.view disk) → MatchResult result
+            (λ copy. LeavesOnly (E.view disk) (E.view copy.disk)
+            (IsLeftCopying settings (contents self.now.store.tree) (E.view disk).seen))
+            (λ e. LeavesOnly (E.view disk) (E.view e.1)
+            (IsLeftCopying settings (contents self.now.store.tree) (E.view disk).seen)) }
         ensures sound { IfOk result (λ copy. IsSound E.view copy) }
     {
         if let Err(fault) = admit_crew(crew) {
             return Err((fault, disk));
         }
-        match Store::create(self.alloc, disk, settings) {
-            Ok(fresh) => self.fill_new(rt, crew, fresh),
+        match create_hidden(self.alloc, disk, settings) {
+            Ok(fresh) => self.fill_hidden(rt, crew, fresh),
             Err(refused) => Err(refused),
         }
     }

@@ -1,25 +1,48 @@
 use Rattle.engine.specs.Late.{create_refusal}
-use Rattle.engine.proofs.CreateLemmas.{not_refused, first-is, made-bytes, made-sound}
+use Rattle.engine.proofs.HiddenMade.{revealed_back, revealed_bytes, revealed_contents, revealed_kept, revealed_leaves, revealed_made, revealed_refused}
+use Rattle.engine.proofs.HiddenStores.{hiding_leaves}
 use Rattle.engine.proofs.store.Store.create.Goals as goal
 
-pub invariant_of-result : goal.invariant_of-result
-invariant_of-result g c =
-    let view = g.D.Disk.view in
-    let old = c.args.disk in
-    let free = not_refused (λ fault. fault) (create_refusal c.args.settings (view old).size) c.make.result _ _ c.make.ensures.refused c.in-Ok.is in
-    let is = first-is c.in-Ok.tree c.first_slot-first.result c.first.inside.ends _ _ c.first.inside.version c.in-Ok.ensures.tree c.first_slot-first.ensures c.first.view_is in
-    made-sound view c.args.settings c.in-Ok.tree c.first.inside.ends c.first.inside.version old c.make.new.disk is free (λ honest. g.met.D.Disk.lawful old honest) (λ honest. (c.in-Ok.ensures.bytes honest).0)
-    c.in-Ok.ensures.tree c.make.ensures.kept c.a_new_disk_stands_for_the_first_store.ensures
+pub returns-in-Ok-clause-refused : goal.returns-in-Ok-clause-refused
+returns-in-Ok-clause-refused g c =
+    revealed_refused g.D.Disk.view g.D.Disk.failed c.in-Ok.hidden.settings c.in-Ok.hidden.store c.in-Ok.hidden.has_failed c.args.disk c.in-Ok.hidden.disk.disk c.reveal_store.result
+    (create_refusal c.args.settings (g.D.Disk.view c.args.disk).size) c.create_hidden.result c.in-Ok.hidden c.create_hidden.ensures.refused c.in-Ok.is c.in-Ok.ensures.kept.1 c.reveal_store.ensures.refused
+
+pub returns-in-Ok-clause-back : goal.returns-in-Ok-clause-back
+returns-in-Ok-clause-back g c =
+    revealed_back g.D.Disk.view g.D.Disk.failed c.in-Ok.hidden.settings c.in-Ok.hidden.store c.in-Ok.hidden.has_failed c.args.disk c.in-Ok.hidden.disk.disk c.reveal_store.result
+    c.in-Ok.ensures.kept.0 c.reveal_store.ensures.refused
+
+pub returns-in-Ok-clause-made : goal.returns-in-Ok-clause-made
+returns-in-Ok-clause-made g c =
+    revealed_made g.D.Disk.view g.D.Disk.failed c.in-Ok.hidden.settings c.in-Ok.hidden.store c.in-Ok.hidden.has_failed c.args.disk c.in-Ok.hidden.disk.disk c.reveal_store.result
+    c.args.settings c.in-Ok.ensures.made.0 c.in-Ok.ensures.made.1 c.in-Ok.ensures.made.2 c.reveal_store.ensures.same
+
+pub returns-in-Ok-clause-contents : goal.returns-in-Ok-clause-contents
+returns-in-Ok-clause-contents g c =
+    revealed_contents g.D.Disk.view g.D.Disk.failed c.in-Ok.hidden.settings c.in-Ok.hidden.store c.in-Ok.hidden.has_failed c.args.disk c.in-Ok.hidden.disk.disk c.reveal_store.result
+    c.in-Ok.ensures.contents c.reveal_store.ensures.same
+
+pub returns-in-Ok-clause-kept : goal.returns-in-Ok-clause-kept
+returns-in-Ok-clause-kept g c =
+    revealed_kept g.D.Disk.view g.D.Disk.failed c.in-Ok.hidden.settings c.in-Ok.hidden.store c.in-Ok.hidden.has_failed c.args.disk c.in-Ok.hidden.disk.disk c.reveal_store.result
+    c.in-Ok.ensures.kept.0 c.in-Ok.ensures.kept.1 c.reveal_store.ensures.kept
 
 pub returns-in-Ok-clause-bytes : goal.returns-in-Ok-clause-bytes
 returns-in-Ok-clause-bytes g c honest =
-    let view = g.D.Disk.view in
-    let old = c.args.disk in
-    let free = not_refused (λ fault. fault) (create_refusal c.args.settings (view old).size) c.make.result _ _ c.make.ensures.refused c.in-Ok.is in
-    let is = first-is c.in-Ok.tree c.first_slot-first.result c.first.inside.ends _ _ c.first.inside.version c.in-Ok.ensures.tree c.first_slot-first.ensures c.first.view_is in (
-      made-bytes view c.args.settings c.in-Ok.tree c.first.inside.ends c.first.inside.version old c.make.new.disk is free (λ h. g.met.D.Disk.lawful old h) (λ h. (c.in-Ok.ensures.bytes h).0) honest,
-      (c.in-Ok.ensures.bytes honest).1,
-    )
+    let made = c.in-Ok.ensures.bytes honest in
+    revealed_bytes g.D.Disk.view g.D.Disk.failed c.in-Ok.hidden.settings c.in-Ok.hidden.store c.in-Ok.hidden.has_failed c.args.disk c.in-Ok.hidden.disk.disk c.reveal_store.result
+    c.args.settings made.0 c.reveal_store.ensures.same (c.reveal_store.ensures.bytes made.1.honest)
 
-pub returns-in-Ok-clause-sound : goal.returns-in-Ok-clause-sound
-returns-in-Ok-clause-sound g c = (invariant_of-result g c).sound
+pub returns-in-Ok-clause-crash : goal.returns-in-Ok-clause-crash
+returns-in-Ok-clause-crash g c settled =
+    let made = c.in-Ok.ensures.bytes settled.honest in
+    revealed_leaves g.D.Disk.view g.D.Disk.failed c.in-Ok.hidden.settings c.in-Ok.hidden.store c.in-Ok.hidden.has_failed c.args.disk c.in-Ok.hidden.disk.disk c.reveal_store.result
+    c.args.settings made.0 (c.in-Ok.ensures.crash settled) (c.reveal_store.ensures.crash made.1)
+
+pub returns-in-Err-clause-refused : goal.returns-in-Err-clause-refused
+returns-in-Err-clause-refused g c = c.in-Err.ensures.refused
+
+pub returns-in-Err-clause-crash : goal.returns-in-Err-clause-crash
+returns-in-Err-clause-crash g c settled =
+    hiding_leaves (g.D.Disk.view c.args.disk) (g.D.Disk.view c.in-Err.refused.1) c.args.settings (c.in-Err.ensures.crash settled)
