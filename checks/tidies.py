@@ -1,4 +1,4 @@
-"""`--tidy`: empty leaves of a queue are merged after each flush, and answers do not change."""
+"""`--tidy`: empty leaves of a queue are merged before each flush, and answers do not change."""
 
 import random
 import re
@@ -51,14 +51,13 @@ def without_counts(out: bytes) -> list[bytes]:
 
 
 def merge(programs: Programs, kind: str) -> Outcome:
-    """Fifty of a thousand pairs remain, in four of 61 leaves, so 68 pages become 11. The counts follow from the rules, as in the engine's test. A
-    second flush writes the merged pages."""
+    """Fifty of a thousand pairs remain, in four of 61 leaves, so 68 pages become 11. The counts follow from the rules, as in the engine's test."""
     text, out = queue(0, 20)
     words = ("--stream",) if kind == "stream" else ()
-    ran = run([programs.store, *QUEUE, *words, "--tidy=4294967295"], text + b"verify\nflush\nverify\nflush\n")
+    ran = run([programs.store, *QUEUE, *words, "--tidy=4294967295"], text + b"verify\nflush\nverify\n")
     counts = pages(ran.out)
     flushes = [line for line in ran.out.splitlines() if line.startswith(b"flushed ")]
-    is_right = ran.status == 0 and ran.out.startswith(out) and counts == [68, 11] and flushes == [b"flushed 2", b"flushed 3"]
+    is_right = ran.status == 0 and ran.out.startswith(out) and counts == [68, 11] and flushes == [b"flushed 2"]
     return Outcome(None if is_right else f"{counts} pages, {flushes}, {ran.describe()}")
 
 
@@ -101,17 +100,34 @@ def compare_answers(programs: Programs, seed: int) -> Outcome:
 
 
 def flush_merged(programs: Programs) -> Outcome:
-    """Merges after a session's last flush are not in the file; earlier ones are."""
+    """The file has the merges before a session's only flush. Without --tidy the file has all emptied leaves, until a session that only flushes."""
+    found = []
     with new_folder() as folder:
-        path, text = Path(folder) / "store", queue(0, 20)[0]
-        run([programs.store, *QUEUE, "--disk", path, "--create", "--tidy=999"], text + b"flush\n")
-        first = pages(run([programs.store, "--disk", path], b"verify\n").out)
-        run([programs.store, "--disk", path, "--tidy=999"], b"flush\nverify\nflush\n")
-        second = run([programs.store, "--disk", path], b"verify\nscan % * 99\n")
-        rows = [bytes_of(row.split()[0]) for row in second.out.splitlines()[2:]]
-        are_last = rows == [bytes_of(key(place)) for place in range(19 * EACH, 20 * EACH)]
-        is_right = first == [68] and pages(second.out) == [11] and are_last
-        return Outcome(None if is_right else f"{first} pages, then {second.describe()}")
+        for number, words in enumerate([(), ("--tidy=64",), (), ("--clean-when-full", "--tidy=64")]):
+            path = Path(folder) / f"store{number}"
+            run([programs.store, *QUEUE, "--disk", path, "--create", *words], queue(0, 20)[0] + b"flush\n")
+            if number == 2:
+                run([programs.store, "--disk", path, "--tidy=64"], b"flush\n")
+            ran = run([programs.store, "--disk", path], b"verify\nscan % * 99\n")
+            rows = [bytes_of(row.split()[0]) for row in ran.out.splitlines()[2:]]
+            are_last = rows == [bytes_of(key(place)) for place in range(19 * EACH, 20 * EACH)]
+            found.append((pages(ran.out), are_last))
+    return Outcome(None if found == [([68], True), ([11], True), ([11], True), ([11], True)] else f"pages, and whether the rows are right: {found}")
+
+
+def flush_once_each(programs: Programs) -> Outcome:
+    """Forty sessions, each with one batch and one flush, leave fifty pairs. With --tidy, leaves of fewer than four pairs are merged, so at most 13
+    leaves and a root remain. Without it, the fifty new keys of each batch leave three or more leaves behind."""
+    found: list[int] = []
+    with new_folder() as folder:
+        for words in ((), ("--tidy=64",)):
+            path = Path(folder) / f"store{len(found)}"
+            run([programs.store, *QUEUE, "--disk", path, "--create"])
+            for number in range(40):
+                run([programs.store, "--disk", path, *words], queue_batch(number) + b"flush\n")
+            found += pages(run([programs.store, "--disk", path], b"verify\n").out)
+    is_right = len(found) == 2 and found[0] > 120 and found[1] <= 14
+    return Outcome(None if is_right else f"{found} pages")
 
 
 def clean_often(programs: Programs) -> Outcome:
@@ -137,7 +153,7 @@ def stops(programs: Programs) -> Outcome:
 
 
 def close_pipe(programs: Programs) -> Outcome:
-    """Closes the pipe after a flush was answered and before its merges. The next flush ends the session."""
+    """Closes the pipe after a flush was answered. The next flush ends the session."""
     text, out = queue(0, 6)
     dialog = Dialog(programs.store, *QUEUE, "--tidy=99")
     dialog.send(text + b"flush\n")
@@ -169,17 +185,18 @@ def kill(programs: Programs, seed: int) -> Outcome:
     return Outcome()
 
 
-TIDIED = queue(0, 6)[0] + b"flush\nscan % * 2\nflush\n"
+TIDIED = queue(0, 6)[0] + b"flush\nscan % * 2\nput %00%FA %\nflush\n"
 ROWS = b"rows 2\n%00%FA %\n%00%FB %\n"
-TIDIED_OUT = queue(0, 6)[1] + b"flushed 2\n" + ROWS + b"flushed 3\n"
+TIDIED_OUT = queue(0, 6)[1] + b"flushed 2\n" + ROWS + b"replaced\nflushed 3\n"
 
 
 def wrong_tidied(ran: subprocess.CompletedProcess[bytes]) -> str | None:
     return wrong_session(ran, TIDIED_OUT, lambda err: err in (NO_MEMORY, DEVICE))
 
 
-def refuse_last(programs: Programs, library: Path) -> Outcome:
-    """The session's last ten allocations belong to merges. All is answered, though the session may end with fault 6."""
+def refuse_merges(programs: Programs, library: Path) -> Outcome:
+    """Refuses each of the last hundred allocations. The first ones belong to merges: the flush is answered, and then the session ends with fault 6.
+    The last ones belong to the flush, which is not answered."""
     text, out = queue(0, 6)
 
     def run_refused(number: int) -> subprocess.CompletedProcess[bytes]:
@@ -190,11 +207,13 @@ def refuse_last(programs: Programs, library: Path) -> Outcome:
     while none - last > 1:
         number = (last + none) // 2
         last, none = (number, none) if REFUSED in run_refused(number).stderr else (last, number)
-    runs = [run_refused(number) for number in range(last, last - 10, -1)]
-    answered = [(ran.returncode, ran.stderr.replace(REFUSED, b"")) for ran in runs if ran.stdout == out + b"flushed 2\n"]
-    ended = answered.count((4, NO_MEMORY))
-    is_right = len(answered) == len(runs) and 0 < ended and ended + answered.count((0, b"")) == len(runs)
-    return Outcome(None if is_right else f"the sessions ended with {answered}", measured=f"{ended} of the allocations up to {last}")
+    runs = [run_refused(number) for number in range(last - 99, last + 1)]
+    ends = [(ran.stdout, ran.returncode, ran.stderr.replace(REFUSED, b"")) for ran in runs]
+    merging = ends.count((out + b"flushed 2\n", 4, NO_MEMORY))
+    flushing = ends.count((out, 4, NO_MEMORY)) + ends.count((out, 4, DEVICE))
+    rest = len(runs) - merging - flushing - ends.count((out + b"flushed 2\n", 0, b""))
+    is_right = merging >= 10 and flushing and not rest
+    return Outcome(None if is_right else f"{merging} in merges, {flushing} in the flush, {rest} others", measured=f"{merging} in merges")
 
 
 def cases(programs: Programs, library: Path) -> list[Case]:
@@ -207,11 +226,12 @@ def cases(programs: Programs, library: Path) -> list[Case]:
         *refusals,
         *(Case(f"answers alike, seed {seed}", compare_answers, (programs, seed)) for seed in range(4)),
         *(Case(f"kills, seed {seed}", kill, (programs, seed)) for seed in range(2)),
-        Case("the last allocation refused", refuse_last, (programs, library)),
+        Case("an allocation refused in merges", refuse_merges, (programs, library)),
         Case("merges emptied leaves", merge, (programs, "text")),
         Case("merges emptied leaves of a stream", merge, (programs, "stream")),
         Case("keeps a queue small", keep_small, (programs,)),
-        Case("reaches the disk with the next flush", flush_merged, (programs,)),
+        Case("reaches the disk with a session's only flush", flush_merged, (programs,)),
+        Case("a flush in each session", flush_once_each, (programs,)),
         Case("tidies a full log", clean_often, (programs,)),
         Case("what ends a session that tidies", stops, (programs,)),
         Case("a pipe that is closed", close_pipe, (programs,)),

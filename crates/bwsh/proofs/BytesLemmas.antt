@@ -19,7 +19,7 @@ use Rattle.bwsh.specs.declared.batch_file.Order.{Order}
 use Rattle.bwsh.specs.declared.batch_file.Order.TheVariants.{Batch, Flush, Clean, Upgrade, Verify, Numbers}
 use Rattle.bwsh.specs.declared.session.SessionError.TheVariants as errors
 use Rattle.bwsh.specs.BatchFile.{IsNoClean}
-use Rattle.bwsh.specs.Session.{Stored, Seen, Reads, Batches, later, AreLeft, AreTidiedAlike, if_it_holds, tidied, tidied_after, step_in, left_by, refused_by, left_by_step, refusal_of_step, after_order, refusal_of, map_after, own_lines, answer_lines, accepted, first_refusal, orders_end, stopped_by}
+use Rattle.bwsh.specs.Session.{Stored, Seen, Reads, Batches, later, AreLeft, AreTidiedAlike, if_it_holds, tidied_before, step_in, left_by, refused_by, left_by_step, refusal_of_step, after_order, refusal_of, map_after, own_lines, answer_lines, accepted, first_refusal, orders_end, stopped_by}
 use Rattle.bwsh.specs.Shown.{shown_flushed, shown_cleaned, shown_upgraded}
 use Rattle.bwsh.proofs.RunLemmas.{of_flush, of_upgrade, answering, committed_unless}
 
@@ -53,18 +53,15 @@ upgrade-same : (version : Version) (settings : Settings) (st : Store) (f g : Lis
 upgrade-same One settings st f g text = text-same of_upgrade settings st f g text
 upgrade-same Two settings st f g text = refl
 
--- what is tidied by the same batches is the same store, whatever the bytes
-tidied-same : (settings : Settings) (batches : Batches) (a b : Stored) → a.0 ≡ b.0 → (tidied settings batches a).0 ≡ (tidied settings batches b).0
-tidied-same settings [] a b same = same
-tidied-same settings (x ∷ xs) a b same = ap (λ (s : Store). with_tree s (if_it_holds (tree_in_turn settings s.tree (x ∷ xs)) s.tree)) same
-
-after-same : (order : Order) (settings : Settings) (batches : Batches) (a b : Stored) → a.0 ≡ b.0 → (tidied_after order settings batches a).0 ≡ (tidied_after order settings batches b).0
-after-same Flush settings batches a b same = tidied-same settings batches a b same
-after-same (Batch cs) settings batches a b same = same
-after-same Clean settings batches a b same = same
-after-same Upgrade settings batches a b same = same
-after-same Verify settings batches a b same = same
-after-same Numbers settings batches a b same = same
+-- what is tidied before an order is the same store, whatever the bytes, and these stay
+tidied-same : (order : Order) (settings : Settings) (batches : Batches) (st : Store) → (now : Store) × ((file : List ℕ) → tidied_before order settings batches (st, file) ≡ (now, file))
+tidied-same Flush settings [] st = (st, λ file. refl)
+tidied-same Flush settings (x ∷ xs) st = (with_tree st (if_it_holds (tree_in_turn settings st.tree (x ∷ xs)) st.tree), λ file. refl)
+tidied-same (Batch cs) settings batches st = (st, λ file. refl)
+tidied-same Clean settings batches st = (st, λ file. refl)
+tidied-same Upgrade settings batches st = (st, λ file. refl)
+tidied-same Verify settings batches st = (st, λ file. refl)
+tidied-same Numbers settings batches st = (st, λ file. refl)
 
 -- two outcomes of a step that differ in the bytes at most
 left-same : (st : Store) (f g : List ℕ) (r q : Stepped Global) → without_bytes r ≡ without_bytes q → ((left_by (st, f) r).0 ≡ (left_by (st, g) q).0) × (refused_by r ≡ refused_by q)
@@ -100,7 +97,7 @@ module _ (settings : Settings) (st : Store) (f g : List ℕ) where
   step-same (Some y) same = left-same st f g (stepped f y) (stepped g y) (same y refl)
 
   -- an order that is no clean is refused for the same reason, and its step leaves the same store
-  pub refusal-same : (order : Order) → IsNoClean order → refusal_of_step settings (st, f) (step_in order) ≡ refusal_of_step settings (st, g) (step_in order)
+  refusal-same : (order : Order) → IsNoClean order → refusal_of_step settings (st, f) (step_in order) ≡ refusal_of_step settings (st, g) (step_in order)
   refusal-same order only = (step-same (step_in order) (order-same order only)).1
 
   stored-same : (order : Order) → IsNoClean order → (left_by_step settings (st, f) (step_in order)).0 ≡ (left_by_step settings (st, g) (step_in order)).0
@@ -108,14 +105,16 @@ module _ (settings : Settings) (st : Store) (f g : List ℕ) where
 
 module _ (settings : Settings) (st : Store) (f g : Seen) where
   -- an order that is no clean leaves the same store, where it is tidied by the same batches, and is refused for the same reason
-  after_order-same : f.tidying ≡ g.tidying → (order : Order) → IsNoClean order
+  pub after_order-same : f.tidying ≡ g.tidying → (order : Order) → IsNoClean order
       → ((after_order settings st f order).0 ≡ (after_order settings st g order).0) × (refusal_of settings st f order ≡ refusal_of settings st g order)
   unfolding after_order refusal_of
   after_order-same alike order only =
-      let a : Stored = left_by_step settings (st, f.bytes) (step_in order) in
-      let b : Stored = left_by_step settings (st, g.bytes) (step_in order) in (
-        ap (λ (t : Batches). (tidied_after order settings t a).0) alike ∙ after-same order settings g.tidying a b (stored-same settings st f.bytes g.bytes order only),
-        refusal-same settings st f.bytes g.bytes order only,
+      let (now, are) = tidied-same order settings g.tidying st in
+      let before : tidied_before order settings f.tidying (st, f.bytes) ≡ (now, f.bytes) = ap (λ (t : Batches). tidied_before order settings t (st, f.bytes)) alike ∙ are f.bytes in (
+        ap (λ (at : Stored). (left_by_step settings at (step_in order)).0) before ∙ stored-same settings now f.bytes g.bytes order only
+            ∙ ap (λ (at : Stored). (left_by_step settings at (step_in order)).0) (sym (are g.bytes)),
+        ap (λ (at : Stored). refusal_of_step settings at (step_in order)) before ∙ refusal-same settings now f.bytes g.bytes order only
+            ∙ ap (λ (at : Stored). refusal_of_step settings at (step_in order)) (sym (are g.bytes)),
       )
 
   -- where it leaves the same store, it answers the same

@@ -35,6 +35,7 @@ use Rattle.clap.specs.declared.error.kind.ErrorKind.{ErrorKind}
 use Rattle.clap.specs.declared.error.kind.ErrorKind.TheVariants.{DisplayHelp, OutOfMemory}
 use Rattle.bwsh.proofs.Prints.{front-more, front-trans, front-flat, IsLeft, Prints-flushed, PrintsCopied-asked, PrintsCopied-before, PrintsCopied-front, PrintsCopied-left, PrintsCopied-other, PrintsCopied-plain, IfSome-known}
 use Rattle.bwsh.proofs.FirstLemmas.{leave}
+use Rattle.bwsh.proofs.RunLemmas.{TidiesBy-none}
 use Rattle.clap.specs.declared.error.Error.{Error}
 
 -- ---- a session that ends before any order is run
@@ -46,7 +47,7 @@ IsReadError-of_fault bad early (inr e) = rw e tt
 
 -- some reads show what was left from this start, and nothing is tidied
 pub leave_from : (cleans : Bool) (start : Start) (orders : List Order) → (shown : Reads) × AreUntidied shown × AreLeftFrom start shown (run_from cleans start shown orders)
-leave_from cleans (Ok p) orders = leave cleans p.0 orders p.1.0 p.1.1
+leave_from cleans (Ok p) orders = leave cleans p.0 orders [] p.1.0 p.1.1
 leave_from cleans (Err fault) orders = (λ i. untidied [], λ i. refl, tt)
 
 -- nothing is printed, for want of memory or since a device failed
@@ -84,7 +85,7 @@ module _ (old : Option (List ℕ)) (mode : Mode) (start : Start) (orders : List 
       let (shown, none, are) = leave_from mode.clean_when_full start orders in
       let ran : List Order = run_from mode.clean_when_full start shown orders in (
         shown,
-        (λ off. none, λ h. are),
+        (TidiesBy-none mode shown ran none, λ h. are),
         PrintsCopied-before copy (map_left_from start orders) old old (lines_after None start shown ran) (end_after None start shown ran) (Err early)
             (Prints-unopened old start shown ran early (subst (Opens view start) e opens)),
       )
@@ -214,7 +215,7 @@ module _ (request : Request) (known old : Option (List ℕ)) (text : List ℕ) (
         start,
         is,
         shown,
-        (λ off. none, λ memory. are),
+        (TidiesBy-none request.mode shown (session_orders request start shown text) none, λ memory. are),
         PrintsCopied-before (copy_of request) (map_left_from start all) old old (session_lines request start shown text) (session_end request start shown text) (Err early)
             (Prints-unread old start shown (session_orders request start shown text) (first_bad 1 (parse_text text)) early h),
       )
@@ -230,7 +231,7 @@ module _ (request : Request) (known old : Option (List ℕ)) (text : List ℕ) (
         start,
         is,
         shown,
-        (λ off i. refl, λ memory. tt),
+        (TidiesBy-none request.mode shown (session_orders request start shown text) (λ i. refl), λ memory. tt),
         PrintsCopied-before (copy_of request) (map_left_from start (with_numbers request.mode.stat (orders_of [] (parse_text text)))) old old (session_lines request start shown text)
             (session_end request start shown text) (Err (errors.Fault fault)) (rw no_bad (inl (refl, Appends-nil old))),
       )

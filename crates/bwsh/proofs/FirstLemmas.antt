@@ -1,95 +1,115 @@
 -- Lemmas on orders that are run in front of others, with the cleans that make room for their flushes.
 use Rattle.std.proofs.Common.{◌≡◌, ◌⊎◌, inl, inr, ℕ, zero, suc, List, [], ◌∷◌, ◌++◌, Option, Result, Ok, Err, refl, sym, ap, ◌∙◌, subst, append_assoc}
 use Rattle.std.specs.Prelude.{Bool, true, false, ◌&&◌}
+use Rattle.std.proofs.lemmas.Result.{on_ok_weaker}
 use Rattle.std.specs.Io.KnownBytes.{Appends, Keeps}
 use Rattle.std.proofs.KnownBytes.{Appends-nil, Appends-kept}
+use Rattle.keys.specs.declared.fault.Fault.TheVariants.{NoMemory}
 use Rattle.keys.specs.declared.settings.Settings.{Settings}
 use Rattle.mapping.specs.Tree.{Store}
 use Rattle.bwsh.specs.declared.batch_file.Order.{Order}
 use Rattle.bwsh.specs.declared.batch_file.Order.TheVariants.{Batch, Flush, Clean, Upgrade, Verify, Numbers}
 use Rattle.bwsh.specs.declared.session.SessionError.{SessionError}
 use Rattle.bwsh.specs.declared.session.SessionError.TheVariants.{Device}
-use Rattle.bwsh.specs.BatchFile.{is_flush}
+use Rattle.bwsh.specs.declared.session.SessionError.TheVariants as errors
+use Rattle.bwsh.specs.BatchFile.{IsNoClean, is_flush}
 use Rattle.bwsh.specs.declared.options.asked.Mode.{Mode}
-use Rattle.bwsh.specs.Session.{Stored, Seen, Reads, AreLeft, AreSeen, AreUntidied, TidiesBy, after_order, flush_with_room, run_of, untidied, wants_clean, with_cleans, Runs, RunsFirst, RunsOn, RunsOrder}
+use Rattle.bwsh.specs.Session.{Stored, Seen, Reads, Batches, AreLeft, AreSeen, AreUntidied, TidiesBy, after_order, flush_with_room, left_by_step, refusal_of, refusal_of_step, run_of, step_in, untidied, wants_clean, with_cleans, Runs, RunsFirst, RunsOn, RunsOrder}
+use Rattle.bwsh.specs.Shown.{shown_cleaned}
 use Rattle.bwsh.proofs.Prints.{Prints-asked, Prints-device, Prints-kept}
-use Rattle.bwsh.proofs.RunLemmas.{AreLeft-left_shown, AreUntidied-first, AreUntidied-left_shown, IsCut, Runs-cut, Runs-show_call, Runs-none, Runs-stops, first_shown, left_shown}
+use Rattle.bwsh.proofs.RunLemmas.{AreLeft-left_shown, AreTidiedBy, AreTidiedBy-first, AreTidiedBy-left_shown, AreTidiedOnce-alike, IsCut, LeavesStored-alike, Runs-alike, Runs-cut, Runs-show_call, Runs-none, Runs-stops, TidiesBy-none, first_shown, left_shown, seen_with}
 
 -- ---- there are reads that show what is left
 
--- whatever the store and the bytes, some reads show what was left before each of these orders, which depend on them, and nothing is tidied
+-- whatever the store and the bytes, some reads show what was left before each of these orders, which depend on them, and the stores are tidied by any batches that are asked for
 abbrev pub Leavable : Settings → (Store → Reads → List Order) → Type 0
-Leavable settings next = (now : Store) (file : List ℕ) → (shown : Reads) × AreUntidied shown × AreLeft settings now file shown (next now shown)
+Leavable settings next = (batches : Batches) (now : Store) (file : List ℕ) → (shown : Reads) × AreTidiedBy batches shown × AreLeft settings now file shown (next now shown)
 
-pub leave_one : (settings : Settings) (next : Store → Reads → List Order) → Leavable settings next → (st : Store) (file : List ℕ) (order : Order)
-    → (shown : Reads) × AreUntidied shown × AreLeft settings st file (first_shown (untidied file) shown) (order ∷ next (after_order settings st (untidied file) order).0 shown)
-leave_one settings next leavable st file order =
-    let at : Stored = after_order settings st (untidied file) order in
-    let (shown, none, are) = leavable at.0 at.1 in
-    (shown, none, (refl, are))
+pub leave_one : (settings : Settings) (next : Store → Reads → List Order) → Leavable settings next → (batches : Batches) (st : Store) (file : List ℕ) (order : Order)
+    → (shown : Reads) × AreTidiedBy batches shown
+    × AreLeft settings st file (first_shown (seen_with batches file) shown) (order ∷ next (after_order settings st (seen_with batches file) order).0 shown)
+leave_one settings next leavable batches st file order =
+    let at : Stored = after_order settings st (seen_with batches file) order in
+    let (shown, all, are) = leavable batches at.0 at.1 in
+    (shown, all, (refl, are))
 
 pub leave_flush : (settings : Settings) (next : Store → Reads → List Order) → Leavable settings next → (most : ℕ)
     → Leavable settings (λ now shown. flush_with_room most settings now shown next)
-leave_flush settings next leavable zero now file =
-    let (shown, none, are) = leave_one settings next leavable now file Flush in (first_shown (untidied file) shown, AreUntidied-first file shown none, are)
-leave_flush settings next leavable (suc most) now file = go (wants_clean settings now (untidied file)) refl (leave_flush settings next leavable most)
+leave_flush settings next leavable zero batches now file =
+    let (shown, all, are) = leave_one settings next leavable batches now file Flush in (first_shown (seen_with batches file) shown, AreTidiedBy-first batches file shown all, are)
+leave_flush settings next leavable (suc most) batches now file = go (wants_clean settings now (seen_with batches file)) refl (leave_flush settings next leavable most)
   where
-    go : (b : Bool) → wants_clean settings now (untidied file) ≡ b → Leavable settings (λ st shown. flush_with_room most settings st shown next)
-        → (shown : Reads) × AreUntidied shown × AreLeft settings now file shown (flush_with_room (suc most) settings now shown next)
+    go : (b : Bool) → wants_clean settings now (seen_with batches file) ≡ b → Leavable settings (λ st shown. flush_with_room most settings st shown next)
+        → (shown : Reads) × AreTidiedBy batches shown × AreLeft settings now file shown (flush_with_room (suc most) settings now shown next)
     go true is later_on =
-        let (shown, none, are) = leave_one settings (λ st after. flush_with_room most settings st after next) later_on now file Clean in
-        (first_shown (untidied file) shown, AreUntidied-first file shown none, rw is are)
+        let (shown, all, are) = leave_one settings (λ st after. flush_with_room most settings st after next) later_on batches now file Clean in
+        (first_shown (seen_with batches file) shown, AreTidiedBy-first batches file shown all, rw is are)
     go false is later_on =
-        let (shown, none, are) = leave_one settings next leavable now file Flush in (first_shown (untidied file) shown, AreUntidied-first file shown none, rw is are)
+        let (shown, all, are) = leave_one settings next leavable batches now file Flush in (first_shown (seen_with batches file) shown, AreTidiedBy-first batches file shown all, rw is are)
 
 leave_cleaned : (settings : Settings) (orders : List Order) → Leavable settings (λ now shown. with_cleans settings now shown orders)
-leave_cleaned settings [] now file = (λ i. untidied file, λ i. refl, tt)
-leave_cleaned settings (Flush ∷ rest) now file =
-    leave_flush settings (λ st after. with_cleans settings st after rest) (leave_cleaned settings rest) settings.segments now file
-leave_cleaned settings (Batch cs ∷ rest) now file =
-    let (shown, none, are) = leave_one settings (λ st after. with_cleans settings st after rest) (leave_cleaned settings rest) now file (Batch cs) in
-    (first_shown (untidied file) shown, AreUntidied-first file shown none, are)
-leave_cleaned settings (Clean ∷ rest) now file =
-    let (shown, none, are) = leave_one settings (λ st after. with_cleans settings st after rest) (leave_cleaned settings rest) now file Clean in
-    (first_shown (untidied file) shown, AreUntidied-first file shown none, are)
-leave_cleaned settings (Upgrade ∷ rest) now file =
-    let (shown, none, are) = leave_one settings (λ st after. with_cleans settings st after rest) (leave_cleaned settings rest) now file Upgrade in
-    (first_shown (untidied file) shown, AreUntidied-first file shown none, are)
-leave_cleaned settings (Verify ∷ rest) now file =
-    let (shown, none, are) = leave_one settings (λ st after. with_cleans settings st after rest) (leave_cleaned settings rest) now file Verify in
-    (first_shown (untidied file) shown, AreUntidied-first file shown none, are)
-leave_cleaned settings (Numbers ∷ rest) now file =
-    let (shown, none, are) = leave_one settings (λ st after. with_cleans settings st after rest) (leave_cleaned settings rest) now file Numbers in
-    (first_shown (untidied file) shown, AreUntidied-first file shown none, are)
+leave_cleaned settings [] batches now file = (λ i. seen_with batches file, λ i. refl, tt)
+leave_cleaned settings (Flush ∷ rest) batches now file =
+    leave_flush settings (λ st after. with_cleans settings st after rest) (leave_cleaned settings rest) settings.segments batches now file
+leave_cleaned settings (Batch cs ∷ rest) batches now file =
+    let (shown, all, are) = leave_one settings (λ st after. with_cleans settings st after rest) (leave_cleaned settings rest) batches now file (Batch cs) in
+    (first_shown (seen_with batches file) shown, AreTidiedBy-first batches file shown all, are)
+leave_cleaned settings (Clean ∷ rest) batches now file =
+    let (shown, all, are) = leave_one settings (λ st after. with_cleans settings st after rest) (leave_cleaned settings rest) batches now file Clean in
+    (first_shown (seen_with batches file) shown, AreTidiedBy-first batches file shown all, are)
+leave_cleaned settings (Upgrade ∷ rest) batches now file =
+    let (shown, all, are) = leave_one settings (λ st after. with_cleans settings st after rest) (leave_cleaned settings rest) batches now file Upgrade in
+    (first_shown (seen_with batches file) shown, AreTidiedBy-first batches file shown all, are)
+leave_cleaned settings (Verify ∷ rest) batches now file =
+    let (shown, all, are) = leave_one settings (λ st after. with_cleans settings st after rest) (leave_cleaned settings rest) batches now file Verify in
+    (first_shown (seen_with batches file) shown, AreTidiedBy-first batches file shown all, are)
+leave_cleaned settings (Numbers ∷ rest) batches now file =
+    let (shown, all, are) = leave_one settings (λ st after. with_cleans settings st after rest) (leave_cleaned settings rest) batches now file Numbers in
+    (first_shown (seen_with batches file) shown, AreTidiedBy-first batches file shown all, are)
 
 pub leave : (cleans : Bool) (settings : Settings) (orders : List Order) → Leavable settings (λ now shown. run_of cleans settings now shown orders)
-leave true settings orders now file = leave_cleaned settings orders now file
-leave false settings orders now file = (left_shown settings now file orders, AreUntidied-left_shown settings now file orders, AreLeft-left_shown settings now file orders)
+leave true settings orders batches now file = leave_cleaned settings orders batches now file
+leave false settings orders batches now file =
+    (left_shown batches settings now file orders, AreTidiedBy-left_shown batches settings now file orders, AreLeft-left_shown batches settings now file orders)
 
 -- ---- orders that depend on the reads
 
--- what these orders print, and how they end, is right but for memory and devices, where something is seen at each that can be
-abbrev pub RunsBy : Mode → Bool → Settings → Store → List ℕ → (Reads → List Order) → Option (List ℕ) → Option (List ℕ) → Result (Unit {0}) SessionError → Type 0
-RunsBy mode honest settings st left orders old new end =
-    (shown : Reads) × AreSeen mode honest settings st left shown (orders shown) × Runs settings st shown (orders shown) old new end
+-- what these orders print, and how they end, is right but for memory and devices, where something is seen at each that can be, at the first with these batches
+abbrev pub RunsBy : Batches → Mode → Bool → Settings → Store → List ℕ → (Reads → List Order) → Option (List ℕ) → Option (List ℕ) → Result (Unit {0}) SessionError → Type 0
+RunsBy batches mode honest settings st left orders old new end =
+    (shown : Reads) × ((shown 0).tidying ≡ batches) × AreSeen mode honest settings st left shown (orders shown) × Runs settings st shown (orders shown) old new end
 
 -- a store is tidied only where that is asked for, at the first order and later
-tidies_first : (mode : Mode) (seen : Seen) (shown : Reads) → (mode.tidy ≡ 0 → seen.tidying ≡ []) → TidiesBy mode shown → TidiesBy mode (first_shown seen shown)
-tidies_first mode seen shown first further off zero = first off
-tidies_first mode seen shown first further off (suc i) = further off i
+asked_first : (mode : Mode) (seen : Seen) (shown : Reads) → (mode.tidy ≡ 0 → seen.tidying ≡ []) → (mode.tidy ≡ 0 → AreUntidied shown) → mode.tidy ≡ 0 → AreUntidied (first_shown seen shown)
+asked_first mode seen shown first further off zero = first off
+asked_first mode seen shown first further off (suc i) = further off i
+
+-- and once for each flush
+tidies_first : (mode : Mode) (seen : Seen) (shown : Reads) (order : Order) (rest : List Order) → (mode.tidy ≡ 0 → seen.tidying ≡ []) → IsNoClean order ⊎ (seen.tidying ≡ (shown 0).tidying)
+    → TidiesBy mode shown rest → TidiesBy mode (first_shown seen shown) (order ∷ rest)
+tidies_first mode seen shown order rest first once further = (asked_first mode seen shown first further.0, (once, further.1))
+
+-- what is seen at the first order is seen at the one before it
+on_next : (order : Order) (seen next : Seen) (batches : Batches) → next.tidying ≡ batches → IsNoClean order ⊎ (seen.tidying ≡ batches) → IsNoClean order ⊎ (seen.tidying ≡ next.tidying)
+on_next order seen next batches is (inl other) = inl other
+on_next order seen next batches is (inr same) = inr (same ∙ sym is)
 
 -- they end before anything of them is done
-pub RunsBy-cut : (mode : Mode) (honest : Bool) (settings : Settings) (st : Store) (left : List ℕ) (next : Store → Reads → List Order) → Leavable settings next → (old new : Option (List ℕ))
-    → Appends old new [] → (early : SessionError) → IsCut early → RunsBy mode honest settings st left (next st) old new (Err early)
-RunsBy-cut mode honest settings st left next leavable old new none early cut =
-    let (shown, plain, are) = leavable st left in
-    (shown, (λ off. plain, λ h. are), Runs-cut settings st shown (next st shown) old new none early cut)
+pub RunsBy-cut : (batches : Batches) (mode : Mode) → (mode.tidy ≡ 0 → batches ≡ []) → (honest : Bool) (settings : Settings) (st : Store) (left : List ℕ) (next : Store → Reads → List Order)
+    → Leavable settings next → (old new : Option (List ℕ)) → Appends old new [] → (early : SessionError) → IsCut early → RunsBy batches mode honest settings st left (next st) old new (Err early)
+RunsBy-cut batches mode unasked honest settings st left next leavable old new none early cut =
+    let (shown, all, are) = leavable batches st left in (
+      shown,
+      all 0,
+      ((λ off i. all i ∙ unasked off, AreTidiedOnce-alike batches shown (next st shown) all), λ h. are),
+      Runs-cut settings st shown (next st shown) old new none early cut,
+    )
 
 -- nothing was appended before they are run
-pub RunsBy-asked : (mode : Mode) (honest : Bool) (settings : Settings) (st : Store) (left : List ℕ) (orders : Reads → List Order) (old mid new : Option (List ℕ)) → Appends old mid []
-    → (end : Result (Unit {0}) SessionError) → RunsBy mode honest settings st left orders mid new end → RunsBy mode honest settings st left orders old new end
+pub RunsBy-asked : (batches : Batches) (mode : Mode) (honest : Bool) (settings : Settings) (st : Store) (left : List ℕ) (orders : Reads → List Order) (old mid new : Option (List ℕ)) → Appends old mid []
+    → (end : Result (Unit {0}) SessionError) → RunsBy batches mode honest settings st left orders mid new end → RunsBy batches mode honest settings st left orders old new end
 unfolding Runs
-RunsBy-asked mode honest settings st left orders old mid new none end (shown, are, p) = (shown, are, Prints-asked old mid new none _ _ end p)
+RunsBy-asked batches mode honest settings st left orders old mid new none end (shown, first, are, p) = (shown, first, are, Prints-asked old mid new none _ _ end p)
 
 module _ (mode : Mode) (honest : Bool) (settings : Settings) (st : Store) (left : List ℕ) (order : Order) (old new : Option (List ℕ)) (now : Store) (bytes : List ℕ) where
   -- the orders begin with this one and go on with what is next, where this is seen first
@@ -98,29 +118,33 @@ module _ (mode : Mode) (honest : Bool) (settings : Settings) (st : Store) (left 
 
   -- it stops early: so do the orders that it stands before
   pub RunsBy-stops : (all : Reads → List Order) (next : Store → Reads → List Order) → Leavable settings next → (early : SessionError)
-      → (one : RunsOrder mode honest settings st left order old new (Err early) now bytes) → Heads one.0 all next → RunsBy mode honest settings st left all old new (Err early)
+      → (one : RunsOrder mode honest settings st left order old new (Err early) now bytes) → Heads one.0 all next → RunsBy one.0.tidying mode honest settings st left all old new (Err early)
   RunsBy-stops all next leavable early (file, is, runs, none) heads =
       let at : Stored = after_order settings st file order in
-      let (shown, plain, are) = leavable at.0 at.1 in (
+      let (shown, alike, are) = leavable file.tidying at.0 at.1 in
+      let tidies : TidiesBy mode shown (next at.0 shown) = (λ off i. alike i ∙ is.0 off, AreTidiedOnce-alike file.tidying shown (next at.0 shown) alike) in (
         first_shown file shown,
+        refl,
         (
-          tidies_first mode file shown is.0 (λ off. plain),
+          subst (TidiesBy mode (first_shown file shown)) (sym (heads shown)) (tidies_first mode file shown order (next at.0 shown) is.0 (inr (sym (alike 0))) tidies),
           λ h. subst (AreLeft settings st left (first_shown file shown)) (sym (heads shown)) (is.1 h, are),
         ),
         subst (λ (os : List Order). Runs settings st (first_shown file shown) os old new (Err early)) (sym (heads shown))
             (Runs-stops settings st file order old new (next at.0 shown) shown early runs),
       )
 
-  -- all of it is done: what is next goes on with what it leaves
+  -- all of it is done: what is next goes on with what it leaves, after a clean with the same batches
   pub RunsBy-show_call : (all : Reads → List Order) (next : Store → Reads → List Order) (done : Unit {0}) → (one : RunsOrder mode honest settings st left order old new (Ok done) now bytes)
-      → Heads one.0 all next → (last : Option (List ℕ)) (end : Result (Unit {0}) SessionError) → RunsBy mode honest settings now bytes (next now) new last end
-      → RunsBy mode honest settings st left all old last end
-  RunsBy-show_call all next done (file, is, runs, leaves) heads last end (shown, are, further_on) =
+      → Heads one.0 all next → (batches : Batches) → IsNoClean order ⊎ (one.0.tidying ≡ batches) → (last : Option (List ℕ)) (end : Result (Unit {0}) SessionError)
+      → RunsBy batches mode honest settings now bytes (next now) new last end → RunsBy one.0.tidying mode honest settings st left all old last end
+  RunsBy-show_call all next done (file, is, runs, leaves) heads batches once last end (shown, first, are, further_on) =
       let at : Stored = after_order settings st file order in
       let same : all (first_shown file shown) ≡ order ∷ next now shown = heads shown ∙ ap (λ (s : Store). order ∷ next s shown) (sym leaves.store) in (
         first_shown file shown,
+        refl,
         (
-          tidies_first mode file shown is.0 are.0,
+          subst (TidiesBy mode (first_shown file shown)) (sym same)
+              (tidies_first mode file shown order (next now shown) is.0 (on_next order file (shown 0) batches first once) are.0),
           λ h. subst (AreLeft settings st left (first_shown file shown)) (sym same) (
             is.1 h,
             subst (λ (f : List ℕ). AreLeft settings at.0 f shown (next now shown)) (leaves.bytes h)
@@ -130,6 +154,51 @@ module _ (mode : Mode) (honest : Bool) (settings : Settings) (st : Store) (left 
         subst (λ (os : List Order). Runs settings st (first_shown file shown) os old last end) (sym same)
             (Runs-show_call settings st file order old new (next now shown) shown now last done end leaves.unrefused leaves.store leaves.holds runs further_on),
       )
+
+-- without the batches at the first
+RunsOn-by : (batches : Batches) (mode : Mode) (honest : Bool) (settings : Settings) (st : Store) (left : List ℕ) (orders : List Order) (old new : Option (List ℕ)) (end : Result (Unit {0}) SessionError)
+    → RunsBy batches mode honest settings st left (λ shown. run_of mode.clean_when_full settings st shown orders) old new end → RunsOn mode honest settings st left orders old new end
+RunsOn-by batches mode honest settings st left orders old new end (shown, first, are, p) = (shown, are, p)
+
+-- and with those that are seen there
+pub RunsOn-with : (mode : Mode) (honest : Bool) (settings : Settings) (st : Store) (left : List ℕ) (orders : List Order) (old new : Option (List ℕ)) (end : Result (Unit {0}) SessionError)
+    → RunsOn mode honest settings st left orders old new end → (batches : Batches) × RunsBy batches mode honest settings st left (λ shown. run_of mode.clean_when_full settings st shown orders) old new end
+RunsOn-with mode honest settings st left orders old new end (shown, are, p) = ((shown 0).tidying, (shown, refl, are, p))
+
+-- ---- what is seen at a clean
+
+-- a clean does the same whichever batches are seen at it
+clean_alike : (settings : Settings) (st : Store) (f g : Seen) → f.bytes ≡ g.bytes
+    → (after_order settings st f Clean ≡ after_order settings st g Clean) × (refusal_of settings st f Clean ≡ refusal_of settings st g Clean)
+unfolding after_order refusal_of
+clean_alike settings st f g same =
+    (ap (λ (file : List ℕ). left_by_step settings (st, file) (step_in Clean)) same, ap (λ (file : List ℕ). refusal_of_step settings (st, file) (step_in Clean)) same)
+
+module _ (mode : Mode) (honest : Bool) (settings : Settings) (st : Store) (left : List ℕ) (old new : Option (List ℕ)) (end : Result (Unit {0}) SessionError) (now : Store) (bytes : List ℕ)
+    (batches : Batches) (unasked : mode.tidy ≡ 0 → batches ≡ []) where
+  -- so these can be seen
+  pub clean_with : RunsOrder mode honest settings st left Clean old new end now bytes → (one : RunsOrder mode honest settings st left Clean old new end now bytes) × (one.0.tidying ≡ batches)
+  clean_with (seen, is, runs, leaves) =
+      let too : Seen = seen_with batches seen.bytes in
+      let (after, refused) = clean_alike settings st too seen refl in (
+        (
+          too,
+          (unasked, is.1),
+          Runs-alike settings st st too seen Clean refused (ap (λ (at : Stored). shown_cleaned at.0.head ∷ []) after) old new end runs,
+          on_ok_weaker end (LeavesStored-alike honest settings st st too seen Clean refused after refl now bytes) leaves,
+        ),
+        refl,
+      )
+
+  -- at an order the batches of the next one can be seen, if it is a clean
+  order_with : (order : Order) → RunsOrder mode honest settings st left order old new end now bytes
+      → (one : RunsOrder mode honest settings st left order old new end now bytes) × (IsNoClean order ⊎ (one.0.tidying ≡ batches))
+  order_with Clean one = let (two, are) = clean_with one in (two, inr are)
+  order_with (Batch cs) one = (one, inl tt)
+  order_with Flush one = (one, inl tt)
+  order_with Upgrade one = (one, inl tt)
+  order_with Verify one = (one, inl tt)
+  order_with Numbers one = (one, inl tt)
 
 -- ---- orders in front of others
 
@@ -148,15 +217,25 @@ heads_of true settings st file Verify rest makes shown = refl
 heads_of true settings st file Numbers rest makes shown = refl
 
 module _ (mode : Mode) (honest : Bool) (settings : Settings) where
+  -- one order in front of others, which is done
+  one_done : (st : Store) (left : List ℕ) (order : Order) (old new : Option (List ℕ)) (done : Unit {0}) (now : Store) (bytes : List ℕ) → MakesNone mode.clean_when_full order
+      → RunsOrder mode honest settings st left order old new (Ok done) now bytes → (rest : List Order) (last : Option (List ℕ)) (end : Result (Unit {0}) SessionError)
+      → RunsOn mode honest settings now bytes rest new last end → RunsOn mode honest settings st left (order ∷ rest) old last end
+  one_done st left order old new done now bytes makes one rest last end (shown, are, p) =
+      let batches : Batches = (shown 0).tidying in
+      let (two, once) = order_with mode honest settings st left old new (Ok done) now bytes batches (λ off. are.0.0 off 0) order one in
+      RunsOn-by two.0.tidying mode honest settings st left (order ∷ rest) old last end
+      (RunsBy-show_call mode honest settings st left order old new now bytes (λ shown. run_of mode.clean_when_full settings st shown (order ∷ rest)) (λ s shown. run_of mode.clean_when_full settings s shown rest)
+      done two (heads_of mode.clean_when_full settings st two.0 order rest makes) batches once last end (shown, refl, are, p))
+
   -- one order
   pub RunsFirst-one : (st : Store) (left : List ℕ) (order : Order) (old new : Option (List ℕ)) (end : Result (Unit {0}) SessionError) (now : Store) (bytes : List ℕ) → MakesNone mode.clean_when_full order
       → RunsOrder mode honest settings st left order old new end now bytes → RunsFirst mode honest settings st left (order ∷ []) old new end now bytes
-  RunsFirst-one st left order old new (Ok done) now bytes makes one = λ rest last end q.
-      RunsBy-show_call mode honest settings st left order old new now bytes (λ shown. run_of mode.clean_when_full settings st shown (order ∷ rest)) (λ s shown. run_of mode.clean_when_full settings s shown rest)
-      done one (heads_of mode.clean_when_full settings st one.0 order rest makes) last end q
+  RunsFirst-one st left order old new (Ok done) now bytes makes one = λ rest last end q. one_done st left order old new done now bytes makes one rest last end q
   RunsFirst-one st left order old new (Err early) now bytes makes one = λ rest.
-      RunsBy-stops mode honest settings st left order old new now bytes (λ shown. run_of mode.clean_when_full settings st shown (order ∷ rest)) (λ s shown. run_of mode.clean_when_full settings s shown rest)
-      (leave mode.clean_when_full settings rest) early one (heads_of mode.clean_when_full settings st one.0 order rest makes)
+      RunsOn-by one.0.tidying mode honest settings st left (order ∷ rest) old new (Err early)
+      (RunsBy-stops mode honest settings st left order old new now bytes (λ shown. run_of mode.clean_when_full settings st shown (order ∷ rest)) (λ s shown. run_of mode.clean_when_full settings s shown rest)
+      (leave mode.clean_when_full settings rest) early one (heads_of mode.clean_when_full settings st one.0 order rest makes))
 
   -- no orders
   pub RunsFirst-none : (st : Store) (left : List ℕ) (old : Option (List ℕ)) (done : Unit {0}) → RunsFirst mode honest settings st left [] old old (Ok done) st left
@@ -164,11 +243,21 @@ module _ (mode : Mode) (honest : Bool) (settings : Settings) where
 
   -- any orders end before anything of them is done
   pub RunsOn-cut : (st : Store) (left : List ℕ) (orders : List Order) (old : Option (List ℕ)) (early : SessionError) → IsCut early → RunsOn mode honest settings st left orders old old (Err early)
-  RunsOn-cut st left orders old early cut = RunsBy-cut mode honest settings st left (λ s shown. run_of mode.clean_when_full settings s shown orders) (leave mode.clean_when_full settings orders) old old (Appends-nil old) early cut
+  RunsOn-cut st left orders old early cut =
+      RunsOn-by [] mode honest settings st left orders old old (Err early)
+      (RunsBy-cut [] mode (λ off. refl) honest settings st left (λ s shown. run_of mode.clean_when_full settings s shown orders) (leave mode.clean_when_full settings orders) old old (Appends-nil old) early cut)
 
   pub RunsFirst-cut : (st : Store) (left : List ℕ) (orders : List Order) (old : Option (List ℕ)) (early : SessionError) (now : Store) (bytes : List ℕ) → IsCut early
       → RunsFirst mode honest settings st left orders old old (Err early) now bytes
   RunsFirst-cut st left orders old early now bytes cut = λ rest. RunsOn-cut st left (orders ++ rest) old early cut
+
+  -- memory was refused late, when all of them were done
+  pub RunsFirst-late : (st : Store) (left : List ℕ) (orders : List Order) (old new : Option (List ℕ)) (done : Unit {0}) (end : Result (Unit {0}) SessionError) (now : Store) (bytes : List ℕ)
+      → RunsFirst mode honest settings st left orders old new (Ok done) now bytes → (end ≡ Ok tt) ⊎ (end ≡ Err (errors.Fault NoMemory))
+      → RunsFirst mode honest settings st left orders old new end now bytes
+  RunsFirst-late st left orders old new done end now bytes p (inl e) = rw e p
+  RunsFirst-late st left orders old new done end now bytes p (inr e) =
+      rw e (λ rest. p rest new (Err (errors.Fault NoMemory)) (RunsOn-cut now bytes rest new (errors.Fault NoMemory) (inl refl)))
 
   module _ (st : Store) (left : List ℕ) (first second : List Order) (old mid : Option (List ℕ)) (between : Store) (after : List ℕ) where
     regrouped : (rest : List Order) (last : Option (List ℕ)) (end : Result (Unit {0}) SessionError) → RunsOn mode honest settings st left (first ++ (second ++ rest)) old last end
@@ -225,7 +314,7 @@ RunsOn-none mode honest settings st left old =
     let shown : Reads = λ i. untidied left in
     let none = run_of-none mode.clean_when_full settings st shown in (
       shown,
-      (λ off i. refl, λ h. subst (AreLeft settings st left shown) (sym none) tt),
+      (TidiesBy-none mode shown (run_of mode.clean_when_full settings st shown []) (λ i. refl), λ h. subst (AreLeft settings st left shown) (sym none) tt),
       subst (λ (os : List Order). Runs settings st shown os old old (Ok tt)) (sym none) (Runs-none settings st shown old),
     )
 

@@ -1,6 +1,6 @@
 -- Lemmas on the cleans that make room for flushes.
 use Rattle.std.proofs.Common.{◌≡◌, ◌≢◌, ◌⊎◌, ◌&&◌, ◌-◌, not, inl, inr, ℕ, zero, suc, Bool, true, false, List, [], ◌∷◌, ◌++◌, Option, Some, None, Result, Ok, Err, refl, sym, ap, ◌∙◌, subst, arith}
-use Rattle.std.specs.Prelude.{filter, IsTrue}
+use Rattle.std.specs.Prelude.{filter, IsTrue, OnOk}
 use Rattle.std.specs.Io.KnownBytes.{Appends}
 use Rattle.std.specs.List.{AllByRecursion, flat_map}
 use Rattle.std.specs.declared.alloc.Global.{Global}
@@ -18,10 +18,11 @@ use Rattle.bwsh.specs.declared.session.SessionError.{SessionError}
 use Rattle.bwsh.specs.declared.session.SessionError.TheVariants.{Device}
 use Rattle.bwsh.specs.declared.session.SessionError.TheVariants as errors
 use Rattle.bwsh.specs.declared.options.asked.Mode.{Mode}
-use Rattle.bwsh.specs.Session.{BeginsWith, Prints, Reads, Runs, RunsFirst, RunsOn, RunsOrder, Seen, after_order, flush_with_room, is_full, is_nothing_to_clean, later, map_after, own_lines, refusal_of, wants_clean, with_cleans}
-use Rattle.bwsh.proofs.BytesLemmas.{refusal-same}
-use Rattle.bwsh.proofs.FirstLemmas.{Leavable, RunsBy, RunsBy-asked, RunsBy-cut, RunsBy-show_call, RunsBy-stops, RunsOrder-same, leave, leave_flush}
+use Rattle.bwsh.specs.Session.{Batches, BeginsWith, Prints, Reads, Runs, RunsFirst, RunsOn, RunsOrder, Seen, TidiesTo, after_order, flush_with_room, is_full, is_nothing_to_clean, later, map_after, own_lines, refusal_of, wants_clean, with_cleans}
+use Rattle.bwsh.proofs.BytesLemmas.{after_order-same}
+use Rattle.bwsh.proofs.FirstLemmas.{Leavable, RunsBy, RunsBy-asked, RunsBy-cut, RunsBy-show_call, RunsBy-stops, RunsFirst-same, RunsOn-with, RunsOrder-same, clean_with, leave, leave_flush}
 use Rattle.bwsh.proofs.RunLemmas.{IsCut, first_shown}
+use Rattle.bwsh.proofs.TidiedLemmas.{IsTidiedBy, RunsOrder-tidied, clean_under, untidy}
 
 -- what is so of what is next is so after the cleans of a flush
 module _ {X : Type 0} (of : List Order → X) (skips : (orders : List Order) → of (Clean ∷ orders) ≡ of orders) (settings : Settings) where
@@ -87,16 +88,31 @@ pub as_roomy : (mode : Mode) → mode.clean_when_full ≡ true → (honest : Boo
 as_roomy mode full honest settings st left old new end now bytes p =
     subst (λ (w : Mode). RunsFirst w honest settings st left (Flush ∷ []) old new end now bytes) (roomy_is mode full) p
 
--- a flush with this number of cleans before it at most, with nothing of it done yet, prints after what stands there is, after what stood there
--- first, what a flush does that makes itself room
-abbrev pub LeadsRoom : Mode → Bool → Settings → Store → List ℕ → Option (List ℕ) → ℕ → Store → List ℕ → Option (List ℕ) → Type 0
-LeadsRoom mode honest settings first file old most st seen now =
+-- A flush with this number of cleans before it at most, with nothing of it done yet, prints after what stands there is, after what stood there
+-- first, what a flush does that makes itself room. These batches tidy the store for it.
+abbrev pub LeadsRoom : Mode → Bool → Settings → Store → List ℕ → Option (List ℕ) → Batches → ℕ → Store → List ℕ → Option (List ℕ) → Type 0
+LeadsRoom mode honest settings first file old batches most st seen now =
     (rest : List Order) (new : Option (List ℕ)) (end : Result (Unit {0}) SessionError)
-    → RunsBy mode honest settings st seen (λ shown. flush_with_room most settings st shown (orders_after_flush settings rest)) now new end
+    → RunsBy batches mode honest settings st seen (λ shown. flush_with_room most settings st shown (orders_after_flush settings rest)) now new end
     → RunsOn (roomy mode) honest settings first file (Flush ∷ rest) old new end
 
-pub LeadsRoom-first : (mode : Mode) (honest : Bool) (settings : Settings) (st : Store) (seen : List ℕ) (old : Option (List ℕ)) → LeadsRoom mode honest settings st seen old settings.segments st seen old
-LeadsRoom-first mode honest settings st seen old rest new end p = p
+-- the same of the store that was tidied
+abbrev pub LeadsTidied : Mode → Bool → Settings → Store → List ℕ → Option (List ℕ) → Batches → ℕ → Store → List ℕ → Option (List ℕ) → Type 0
+LeadsTidied mode honest settings first file old batches most st seen now =
+    (under : Store) × IsTidiedBy settings batches under st × LeadsRoom mode honest settings first file old batches most under seen now
+
+LeadsRoom-first : (mode : Mode) (honest : Bool) (settings : Settings) (st : Store) (seen : List ℕ) (old : Option (List ℕ)) (batches : Batches)
+    → LeadsRoom mode honest settings st seen old batches settings.segments st seen old
+LeadsRoom-first mode honest settings st seen old batches rest new end (shown, first, are, p) = (shown, are, p)
+
+-- for each store from which it was tidied, in whatever ways
+abbrev pub LeadsEach : Bool → Settings → Store → List ℕ → Option (List ℕ) → ℕ → Store → List ℕ → Option (List ℕ) → Type 0
+LeadsEach honest settings begun file old most st seen now =
+    (mode : Mode) (first : Store) (by : TidiesTo mode.tidy settings first begun) → LeadsTidied mode honest settings first file old by.batches most st seen now
+
+pub LeadsEach-first : (honest : Bool) (settings : Settings) (st : Store) (seen : List ℕ) (old : Option (List ℕ)) (most : ℕ) → most ≡ settings.segments → LeadsEach honest settings st seen old most st seen old
+LeadsEach-first honest settings st seen old most is mode first by =
+    (first, by.leaves, subst (λ (n : ℕ). LeadsRoom mode honest settings first seen old by.batches n first seen old) (sym is) (LeadsRoom-first mode honest settings first seen old by.batches))
 
 leavable_room : (settings : Settings) (rest : List Order) (most : ℕ) → Leavable settings (λ s shown. flush_with_room most settings s shown (orders_after_flush settings rest))
 leavable_room settings rest most = leave_flush settings (orders_after_flush settings rest) (leave true settings rest) most
@@ -159,10 +175,9 @@ module _ (settings : Settings) (st : Store) (file : Seen) where
   room_made zero next wants shown = refl
   room_made (suc most) next wants shown = rw wants refl
 
--- the log was full for a flush, whatever is seen
-pub full_alike : (settings : Settings) (st : Store) (f g : Seen) → refusal_of settings st f Flush ≡ Some Full → refusal_of settings st g Flush ≡ Some Full
-unfolding refusal_of
-full_alike settings st f g full = sym (refusal-same settings st f.bytes g.bytes Flush tt) ∙ full
+-- the log was full for a flush, whatever the disk shows
+full_alike : (settings : Settings) (st : Store) (f g : Seen) → f.tidying ≡ g.tidying → refusal_of settings st f Flush ≡ Some Full → refusal_of settings st g Flush ≡ Some Full
+full_alike settings st f g alike full = sym (after_order-same settings st f g alike Flush tt).1 ∙ full
 
 -- a flush that is refused so alone
 full_alone : (settings : Settings) (st : Store) (file : Seen) (now new : Option (List ℕ)) → refusal_of settings st file Flush ≡ Some Full → Appends now new []
@@ -183,20 +198,27 @@ is_refused_full mode honest settings st seen now new after bytes (file, is, runs
     by r is_r (cut none (inl e)) = absurd (cc)
     by r is_r (cut none (inr e)) = absurd (cc)
 
-module _ (mode : Mode) (honest : Bool) (settings : Settings) (first : Store) (file : List ℕ) (old : Option (List ℕ)) (most : ℕ) (st : Store) (seen : List ℕ) (now : Option (List ℕ))
-    (leads : LeadsRoom mode honest settings first file old most st seen now) where
+module _ (mode : Mode) (honest : Bool) (settings : Settings) (first : Store) (file : List ℕ) (old : Option (List ℕ)) (batches : Batches) (most : ℕ) (st : Store) (seen : List ℕ)
+    (now : Option (List ℕ)) (leads : LeadsRoom mode honest settings first file old batches most st seen now) where
   -- the flush is answered, or refused for another reason than that the log is full; or nothing may be cleaned any more
   pub LeadsRoom-ends : (new : Option (List ℕ)) (end : Result (Unit {0}) SessionError) (after : Store) (bytes : List ℕ) → (most ≡ 0) ⊎ (end ≢ Err (errors.Fault Full))
-      → RunsOrder mode honest settings st seen Flush now new end after bytes → RunsFirst (roomy mode) honest settings first file (Flush ∷ []) old new end after bytes
-  LeadsRoom-ends new (Ok done) after bytes why (of, is, runs, leaves) = λ rest last ended q.
-      leads rest last ended (RunsBy-show_call mode honest settings st seen Flush now new after bytes (λ shown. flush_with_room most settings st shown (orders_after_flush settings rest)) (orders_after_flush settings rest)
-      done (of, is, runs, leaves) (room_made settings st of most (orders_after_flush settings rest) (wants_by settings st of None (refusal_of settings st of Clean) leaves.unrefused refl)) last ended q)
-  LeadsRoom-ends new (Err early) after bytes (inl none_left) one = λ rest.
-      leads rest new (Err early) (RunsBy-stops mode honest settings st seen Flush now new after bytes (λ shown. flush_with_room most settings st shown (orders_after_flush settings rest)) (orders_after_flush settings rest)
+      → (one : RunsOrder mode honest settings st seen Flush now new end after bytes) → one.0.tidying ≡ batches
+      → RunsFirst (roomy mode) honest settings first file (Flush ∷ []) old new end after bytes
+  LeadsRoom-ends new (Ok done) after bytes why (of, is, runs, leaves) same = λ rest last ended q.
+      let (further, next) = RunsOn-with (roomy mode) honest settings after bytes rest new last ended q in
+      leads rest last ended
+      (subst (λ (b : Batches). RunsBy b mode honest settings st seen (λ shown. flush_with_room most settings st shown (orders_after_flush settings rest)) now last ended) same
+      (RunsBy-show_call mode honest settings st seen Flush now new after bytes (λ shown. flush_with_room most settings st shown (orders_after_flush settings rest)) (orders_after_flush settings rest)
+      done (of, is, runs, leaves) (room_made settings st of most (orders_after_flush settings rest) (wants_by settings st of None (refusal_of settings st of Clean) leaves.unrefused refl))
+      further (inl tt) last ended next))
+  LeadsRoom-ends new (Err early) after bytes (inl none_left) one same = λ rest.
+      leads rest new (Err early)
+      (subst (λ (b : Batches). RunsBy b mode honest settings st seen (λ shown. flush_with_room most settings st shown (orders_after_flush settings rest)) now new (Err early)) same
+      (RunsBy-stops mode honest settings st seen Flush now new after bytes (λ shown. flush_with_room most settings st shown (orders_after_flush settings rest)) (orders_after_flush settings rest)
       (leave true settings rest) early one
       (subst (λ (n : ℕ). (shown : Reads) → flush_with_room n settings st (first_shown one.0 shown) (orders_after_flush settings rest) ≡ Flush ∷ orders_after_flush settings rest (after_order settings st one.0 Flush).0 shown)
-      (sym none_left) (λ shown. refl)))
-  LeadsRoom-ends new (Err early) after bytes (inr other) (of, is, runs, none) = λ rest. leads rest new (Err early) (by rest (wants_clean settings st of) refl) where
+      (sym none_left) (λ shown. refl))))
+  LeadsRoom-ends new (Err early) after bytes (inr other) (of, is, runs, none) same = λ rest. leads rest new (Err early) (by rest (wants_clean settings st of) refl) where
     full_of : (r : Option Fault) → is_full r ≡ true → r ≡ Some Full
     full_of None e = cc
     full_of (Some fault) e = full_fault fault e
@@ -214,55 +236,64 @@ module _ (mode : Mode) (honest : Bool) (settings : Settings) (first : Store) (fi
     cut_off (refused_cut fault some how a) = (how, a)
     cut_off (cut unrefused how) = absurd (cc)
 
-    by : (rest : List Order) (b : Bool) → wants_clean settings st of ≡ b → RunsBy mode honest settings st seen (λ shown. flush_with_room most settings st shown (orders_after_flush settings rest)) now new (Err early)
+    by : (rest : List Order) (b : Bool) → wants_clean settings st of ≡ b
+        → RunsBy batches mode honest settings st seen (λ shown. flush_with_room most settings st shown (orders_after_flush settings rest)) now new (Err early)
     by rest false wants =
-        RunsBy-stops mode honest settings st seen Flush now new after bytes (λ shown. flush_with_room most settings st shown (orders_after_flush settings rest)) (orders_after_flush settings rest)
-        (leave true settings rest) early (of, is, runs, none) (room_made settings st of most (orders_after_flush settings rest) wants)
+        subst (λ (b : Batches). RunsBy b mode honest settings st seen (λ shown. flush_with_room most settings st shown (orders_after_flush settings rest)) now new (Err early)) same
+        (RunsBy-stops mode honest settings st seen Flush now new after bytes (λ shown. flush_with_room most settings st shown (orders_after_flush settings rest)) (orders_after_flush settings rest)
+        (leave true settings rest) early (of, is, runs, none) (room_made settings st of most (orders_after_flush settings rest) wants))
     by rest true wants =
         let full = full_of (refusal_of settings st of Flush) (both_true _ _ wants) in
         let (how, a) = cut_off (early_by settings st of Flush now new early (Some Full) full runs) in
-        RunsBy-cut mode honest settings st seen (λ s shown. flush_with_room most settings s shown (orders_after_flush settings rest)) (leavable_room settings rest most) now new a early how
+        RunsBy-cut batches mode (λ off. sym same ∙ is.0 off) honest settings st seen (λ s shown. flush_with_room most settings s shown (orders_after_flush settings rest)) (leavable_room settings rest most)
+        now new a early how
 
-module _ (mode : Mode) (honest : Bool) (settings : Settings) (first : Store) (file : List ℕ) (old : Option (List ℕ)) (most : ℕ) (st : Store) (seen : List ℕ) (now mid : Option (List ℕ))
-    (leads : LeadsRoom mode honest settings first file old (suc most) st seen now) (nothing : Appends now mid []) (of : Seen) (full : refusal_of settings st of Flush ≡ Some Full)
-    (new : Option (List ℕ)) (after : Store) (bytes : List ℕ) where
+module _ (mode : Mode) (honest : Bool) (settings : Settings) (first : Store) (file : List ℕ) (old : Option (List ℕ)) (batches : Batches) (most : ℕ) (st : Store) (seen : List ℕ)
+    (now mid : Option (List ℕ)) (leads : LeadsRoom mode honest settings first file old batches (suc most) st seen now) (nothing : Appends now mid []) (of : Seen)
+    (full : refusal_of settings st of Flush ≡ Some Full) (of_is : of.tidying ≡ batches) (new : Option (List ℕ)) (after : Store) (bytes : List ℕ) where
   -- a clean is done
-  pub LeadsRoom-cleaned : (done : Unit {0}) → RunsOrder mode honest settings st seen Clean mid new (Ok done) after bytes → LeadsRoom mode honest settings first file old most after bytes new
-  LeadsRoom-cleaned done (at, is, runs, leaves) rest last end q =
-      leads rest last end (RunsBy-asked mode honest settings st seen (λ shown. flush_with_room (suc most) settings st shown (orders_after_flush settings rest)) now mid last nothing end
+  LeadsRoom-cleaned : (done : Unit {0}) → (one : RunsOrder mode honest settings st seen Clean mid new (Ok done) after bytes) → one.0.tidying ≡ batches
+      → LeadsRoom mode honest settings first file old batches most after bytes new
+  LeadsRoom-cleaned done (at, is, runs, leaves) same rest last end q =
+      leads rest last end (RunsBy-asked batches mode honest settings st seen (λ shown. flush_with_room (suc most) settings st shown (orders_after_flush settings rest)) now mid last nothing end
+      (subst (λ (b : Batches). RunsBy b mode honest settings st seen (λ shown. flush_with_room (suc most) settings st shown (orders_after_flush settings rest)) mid last end) same
       (RunsBy-show_call mode honest settings st seen Clean mid new after bytes (λ shown. flush_with_room (suc most) settings st shown (orders_after_flush settings rest))
       (λ s shown. flush_with_room most settings s shown (orders_after_flush settings rest)) done (at, is, runs, leaves)
       (room_wanted settings st at most (orders_after_flush settings rest)
-      (wants_by settings st at (Some Full) None (full_alike settings st of at full) leaves.unrefused)) last end q))
+      (wants_by settings st at (Some Full) None (full_alike settings st of at (of_is ∙ sym same) full) leaves.unrefused)) batches (inr same) last end q)))
 
   -- it is refused
-  pub LeadsRoom-refused : (early result : SessionError) → ((early ≡ errors.Fault NothingToClean) × (result ≡ errors.Fault Full)) ⊎ ((early ≢ errors.Fault NothingToClean) × (result ≡ early))
-      → RunsOrder mode honest settings st seen Clean mid new (Err early) after bytes → RunsFirst (roomy mode) honest settings first file (Flush ∷ []) old new (Err result) after bytes
-  LeadsRoom-refused early result want (at, is, runs, none) = λ rest.
-      leads rest new (Err result) (RunsBy-asked mode honest settings st seen (λ shown. flush_with_room (suc most) settings st shown (orders_after_flush settings rest)) now mid new nothing (Err result)
+  LeadsRoom-refused : (early result : SessionError) → ((early ≡ errors.Fault NothingToClean) × (result ≡ errors.Fault Full)) ⊎ ((early ≢ errors.Fault NothingToClean) × (result ≡ early))
+      → (one : RunsOrder mode honest settings st seen Clean mid new (Err early) after bytes) → one.0.tidying ≡ batches
+      → RunsFirst (roomy mode) honest settings first file (Flush ∷ []) old new (Err result) after bytes
+  LeadsRoom-refused early result want (at, is, runs, none) same = λ rest.
+      leads rest new (Err result) (RunsBy-asked batches mode honest settings st seen (λ shown. flush_with_room (suc most) settings st shown (orders_after_flush settings rest)) now mid new nothing (Err result)
       (by rest (refusal_of settings st at Clean) refl (early_by settings st at Clean mid new early (refusal_of settings st at Clean) refl runs) want))
     where
       full_here : refusal_of settings st at Flush ≡ Some Full
-      full_here = full_alike settings st of at full
+      full_here = full_alike settings st of at (of_is ∙ sym same) full
 
       -- the clean stands in front, and is refused so
       stops : (rest : List Order) → wants_clean settings st at ≡ true
-          → RunsBy mode honest settings st seen (λ shown. flush_with_room (suc most) settings st shown (orders_after_flush settings rest)) mid new (Err early)
+          → RunsBy batches mode honest settings st seen (λ shown. flush_with_room (suc most) settings st shown (orders_after_flush settings rest)) mid new (Err early)
       stops rest wants =
-          RunsBy-stops mode honest settings st seen Clean mid new after bytes (λ shown. flush_with_room (suc most) settings st shown (orders_after_flush settings rest))
+          subst (λ (b : Batches). RunsBy b mode honest settings st seen (λ shown. flush_with_room (suc most) settings st shown (orders_after_flush settings rest)) mid new (Err early)) same
+          (RunsBy-stops mode honest settings st seen Clean mid new after bytes (λ shown. flush_with_room (suc most) settings st shown (orders_after_flush settings rest))
           (λ s shown. flush_with_room most settings s shown (orders_after_flush settings rest)) (leavable_room settings rest most) early (at, is, runs, none)
-          (room_wanted settings st at most (orders_after_flush settings rest) wants)
+          (room_wanted settings st at most (orders_after_flush settings rest) wants))
 
-      as_is : (rest : List Order) → result ≡ early → RunsBy mode honest settings st seen (λ shown. flush_with_room (suc most) settings st shown (orders_after_flush settings rest)) mid new (Err early)
-          → RunsBy mode honest settings st seen (λ shown. flush_with_room (suc most) settings st shown (orders_after_flush settings rest)) mid new (Err result)
-      as_is rest same p = subst (λ (x : SessionError). RunsBy mode honest settings st seen (λ shown. flush_with_room (suc most) settings st shown (orders_after_flush settings rest)) mid new (Err x)) (sym same) p
+      as_is : (rest : List Order) → result ≡ early → RunsBy batches mode honest settings st seen (λ shown. flush_with_room (suc most) settings st shown (orders_after_flush settings rest)) mid new (Err early)
+          → RunsBy batches mode honest settings st seen (λ shown. flush_with_room (suc most) settings st shown (orders_after_flush settings rest)) mid new (Err result)
+      as_is rest is_early p =
+          subst (λ (x : SessionError). RunsBy batches mode honest settings st seen (λ shown. flush_with_room (suc most) settings st shown (orders_after_flush settings rest)) mid new (Err x)) (sym is_early) p
 
       -- the flush stands in front, and the log is full for it
       flush_stops : (rest : List Order) → wants_clean settings st at ≡ false → Appends mid new []
-          → RunsBy mode honest settings st seen (λ shown. flush_with_room (suc most) settings st shown (orders_after_flush settings rest)) mid new (Err (errors.Fault Full))
+          → RunsBy batches mode honest settings st seen (λ shown. flush_with_room (suc most) settings st shown (orders_after_flush settings rest)) mid new (Err (errors.Fault Full))
       flush_stops rest wants a =
-          RunsBy-stops mode honest settings st seen Flush mid new after bytes (λ shown. flush_with_room (suc most) settings st shown (orders_after_flush settings rest)) (orders_after_flush settings rest)
-          (leave true settings rest) (errors.Fault Full) (at, is, full_alone settings st at mid new full_here a, tt) (room_made settings st at (suc most) (orders_after_flush settings rest) wants)
+          subst (λ (b : Batches). RunsBy b mode honest settings st seen (λ shown. flush_with_room (suc most) settings st shown (orders_after_flush settings rest)) mid new (Err (errors.Fault Full))) same
+          (RunsBy-stops mode honest settings st seen Flush mid new after bytes (λ shown. flush_with_room (suc most) settings st shown (orders_after_flush settings rest)) (orders_after_flush settings rest)
+          (leave true settings rest) (errors.Fault Full) (at, is, full_alone settings st at mid new full_here a, tt) (room_made settings st at (suc most) (orders_after_flush settings rest) wants))
 
       wanted : (fault : Fault) → fault ≢ NothingToClean → (is_full (Some Full) && not (is_nothing_to_clean (Some fault))) ≡ true
       wanted NothingToClean other = absurd (other refl)
@@ -274,20 +305,22 @@ module _ (mode : Mode) (honest : Bool) (settings : Settings) (first : Store) (fi
 
       kept : IsCut early → ((early ≡ errors.Fault NothingToClean) × (result ≡ errors.Fault Full)) ⊎ ((early ≢ errors.Fault NothingToClean) × (result ≡ early)) → result ≡ early
       kept how (inl (e, full_is)) = absurd (not_clean how e)
-      kept how (inr (other, same)) = same
+      kept how (inr (other, is_early)) = is_early
 
       by : (rest : List Order) (r : Option Fault) → refusal_of settings st at Clean ≡ r → Early mid new r early
           → ((early ≡ errors.Fault NothingToClean) × (result ≡ errors.Fault Full)) ⊎ ((early ≢ errors.Fault NothingToClean) × (result ≡ early))
-          → RunsBy mode honest settings st seen (λ shown. flush_with_room (suc most) settings st shown (orders_after_flush settings rest)) mid new (Err result)
+          → RunsBy batches mode honest settings st seen (λ shown. flush_with_room (suc most) settings st shown (orders_after_flush settings rest)) mid new (Err result)
       by rest r is_r (cut unrefused how) w = as_is rest (kept how w) (stops rest (wants_by settings st at (Some Full) None full_here (is_r ∙ unrefused)))
       by rest r is_r (refused_cut fault some how a) w =
-          as_is rest (kept how w) (RunsBy-cut mode honest settings st seen (λ s shown. flush_with_room (suc most) settings s shown (orders_after_flush settings rest)) (leavable_room settings rest (suc most)) mid new a early how)
+          as_is rest (kept how w)
+          (RunsBy-cut batches mode (λ off. sym same ∙ is.0 off) honest settings st seen (λ s shown. flush_with_room (suc most) settings s shown (orders_after_flush settings rest))
+          (leavable_room settings rest (suc most)) mid new a early how)
       by rest r is_r (by_right fault some e a) (inl (nothing_left, full_is)) =
-          let same : fault ≡ NothingToClean = cc in
-          subst (λ (x : SessionError). RunsBy mode honest settings st seen (λ shown. flush_with_room (suc most) settings st shown (orders_after_flush settings rest)) mid new (Err x)) (sym full_is)
-          (flush_stops rest (wants_by settings st at (Some Full) (Some NothingToClean) full_here (is_r ∙ some ∙ ap (λ (f : Fault). Some f) same)) a)
-      by rest r is_r (by_right fault some e a) (inr (other, same)) =
-          as_is rest same (stops rest (wants_by settings st at (Some Full) (Some fault) full_here (is_r ∙ some) ∙ wanted fault (λ (is_none : fault ≡ NothingToClean). other (e ∙ ap (λ (f : Fault). errors.Fault f) is_none))))
+          let nothing_is : fault ≡ NothingToClean = cc in
+          subst (λ (x : SessionError). RunsBy batches mode honest settings st seen (λ shown. flush_with_room (suc most) settings st shown (orders_after_flush settings rest)) mid new (Err x)) (sym full_is)
+          (flush_stops rest (wants_by settings st at (Some Full) (Some NothingToClean) full_here (is_r ∙ some ∙ ap (λ (f : Fault). Some f) nothing_is)) a)
+      by rest r is_r (by_right fault some e a) (inr (other, is_early)) =
+          as_is rest is_early (stops rest (wants_by settings st at (Some Full) (Some fault) full_here (is_r ∙ some) ∙ wanted fault (λ (is_none : fault ≡ NothingToClean). other (e ∙ ap (λ (f : Fault). errors.Fault f) is_none))))
 
 -- an order's run is one of a disk that shows the same if it is honest, and of the same store
 RunsOrder-from : (mode : Mode) (honest : Bool) (settings : Settings) (st was : Store) (seen left : List ℕ) → was ≡ st → (IsTrue honest → left ≡ seen) → (order : Order) (old new : Option (List ℕ))
@@ -300,40 +333,68 @@ one_more : (n : ℕ) → n ≢ 0 → n ≡ suc (n - 1)
 one_more zero some = absurd (some refl)
 one_more (suc n) some = omega arith
 
--- a turn of the cleans: the flush, and a clean where the log is full for it
-module _ (mode : Mode) (honest : Bool) (settings : Settings) (first : Store) (file : List ℕ) (old : Option (List ℕ)) (left : ℕ) (st : Store) (seen : List ℕ) (now : Option (List ℕ))
-    (leads : LeadsRoom mode honest settings first file old left st seen now) (b : Bool) (b_is : b ≡ honest) (s : Settings) (s_is : s ≡ settings)
-    (mid : Option (List ℕ)) (end : Result (Unit {0}) SessionError) (tried : Store) (shows : List ℕ) (flushed : RunsOrder mode b s st seen Flush now mid end tried shows) where
+-- a turn of the cleans: the flush of the store that was tidied, and a clean where the log is full for it
+module _ (mode : Mode) (honest : Bool) (settings : Settings) (first : Store) (file : List ℕ) (old : Option (List ℕ)) (batches : Batches) (unasked : mode.tidy ≡ 0 → batches ≡ []) (left : ℕ)
+    (st : Store) (seen : List ℕ) (now : Option (List ℕ)) (leads : LeadsTidied mode honest settings first file old batches left st seen now) (b : Bool) (b_is : b ≡ honest) (s : Settings)
+    (s_is : s ≡ settings) (mid : Option (List ℕ)) (end : Result (Unit {0}) SessionError) (tried : Store) (shows : List ℕ)
+    (flushed : RunsOrder (untidy mode) b s st seen Flush now mid end tried shows) where
+  -- the store from which it was tidied
+  abbrev under : Store
+  under = leads.0
+
+  one_flush : (one : RunsOrder mode honest settings under seen Flush now mid end tried shows) × (one.0.tidying ≡ batches)
+  one_flush = RunsOrder-tidied mode honest settings batches unasked under st leads.1 seen now mid end tried shows
+      (RunsOrder-same (untidy mode) b honest s settings b_is s_is st seen Flush now mid end tried shows flushed)
+
   pub Room-ends : (left ≡ 0) ⊎ (end ≢ Err (errors.Fault Full)) → RunsFirst (roomy mode) honest settings first file (Flush ∷ []) old mid end tried shows
   Room-ends why =
-      LeadsRoom-ends mode honest settings first file old left st seen now leads mid end tried shows why (RunsOrder-same mode b honest s settings b_is s_is st seen Flush now mid end tried shows flushed)
+      let (one, same) = one_flush in
+      LeadsRoom-ends mode honest settings first file old batches left under seen now leads.2 mid end tried shows why one same
 
   module _ (some : left ≢ 0) (full : end ≡ Err (errors.Fault Full)) (same : tried ≡ st) (unwritten : IsTrue b → shows ≡ seen) (c : Bool) (c_is : c ≡ b) (t : Settings) (t_is : t ≡ s)
       (new : Option (List ℕ)) (ended : Result (Unit {0}) SessionError) (after : Store) (bytes : List ℕ) (cleaned : RunsOrder mode c t tried shows Clean mid new ended after bytes) where
-    lower : LeadsRoom mode honest settings first file old (suc (left - 1)) st seen now
-    lower = subst (λ (n : ℕ). LeadsRoom mode honest settings first file old n st seen now) (one_more left some) leads
+    lower : LeadsRoom mode honest settings first file old batches (suc (left - 1)) under seen now
+    lower = subst (λ (n : ℕ). LeadsRoom mode honest settings first file old batches n under seen now) (one_more left some) leads.2
 
-    own_flush : RunsOrder mode honest settings st seen Flush now mid (Err (errors.Fault Full)) tried shows
-    own_flush = subst (λ (e : Result (Unit {0}) SessionError). RunsOrder mode honest settings st seen Flush now mid e tried shows) full
-        (RunsOrder-same mode b honest s settings b_is s_is st seen Flush now mid end tried shows flushed)
+    own_flush : (one : RunsOrder mode honest settings under seen Flush now mid (Err (errors.Fault Full)) tried shows) × (one.0.tidying ≡ batches)
+    own_flush = subst (λ (e : Result (Unit {0}) SessionError). (one : RunsOrder mode honest settings under seen Flush now mid e tried shows) × (one.0.tidying ≡ batches)) full one_flush
 
-    own_clean : RunsOrder mode honest settings st seen Clean mid new ended after bytes
-    own_clean = RunsOrder-same mode b honest s settings b_is s_is st seen Clean mid new ended after bytes
-        (RunsOrder-from mode b s st tried seen shows same unwritten Clean mid new ended after bytes (RunsOrder-same mode c b t s c_is t_is tried shows Clean mid new ended after bytes cleaned))
+    own_clean : (w : Store) × RunsOrder mode honest settings under seen Clean mid new ended w bytes × OnOk ended (IsTidiedBy settings batches w after)
+    own_clean = clean_under mode honest settings batches under st leads.1 seen mid new ended after bytes
+        (RunsOrder-same mode b honest s settings b_is s_is st seen Clean mid new ended after bytes
+        (RunsOrder-from mode b s st tried seen shows same unwritten Clean mid new ended after bytes (RunsOrder-same mode c b t s c_is t_is tried shows Clean mid new ended after bytes cleaned)))
 
-    pub Room-cleaned : (done : Unit {0}) → ended ≡ Ok done → LeadsRoom mode honest settings first file old (left - 1) after bytes new
+    pub Room-cleaned : (done : Unit {0}) → ended ≡ Ok done → LeadsTidied mode honest settings first file old batches (left - 1) after bytes new
     Room-cleaned done e =
-        let (refused, nothing) = is_refused_full mode honest settings st seen now mid tried shows own_flush in
-        LeadsRoom-cleaned mode honest settings first file old (left - 1) st seen now mid lower nothing own_flush.0 refused new after bytes done
-        (subst (λ (r : Result (Unit {0}) SessionError). RunsOrder mode honest settings st seen Clean mid new r after bytes) e own_clean)
+        let (flush, of_is) = own_flush in
+        let (refused, nothing) = is_refused_full mode honest settings under seen now mid tried shows flush in
+        let (w, clean, becomes) = subst (λ (r : Result (Unit {0}) SessionError). (w : Store) × RunsOrder mode honest settings under seen Clean mid new r w bytes × OnOk r (IsTidiedBy settings batches w after)) e own_clean in
+        let (one, with_these) = clean_with mode honest settings under seen mid new (Ok done) w bytes batches unasked clean in
+        (w, becomes, LeadsRoom-cleaned mode honest settings first file old batches (left - 1) under seen now mid lower nothing flush.0 refused of_is new w bytes done one with_these)
 
     pub Room-refused : (early result : SessionError) → ended ≡ Err early
         → ((early ≡ errors.Fault NothingToClean) × (result ≡ errors.Fault Full)) ⊎ ((early ≢ errors.Fault NothingToClean) × (result ≡ early))
         → RunsFirst (roomy mode) honest settings first file (Flush ∷ []) old new (Err result) after bytes
     Room-refused early result e want =
-        let (refused, nothing) = is_refused_full mode honest settings st seen now mid tried shows own_flush in
-        LeadsRoom-refused mode honest settings first file old (left - 1) st seen now mid lower nothing own_flush.0 refused new after bytes early result want
-        (subst (λ (r : Result (Unit {0}) SessionError). RunsOrder mode honest settings st seen Clean mid new r after bytes) e own_clean)
+        let (flush, of_is) = own_flush in
+        let (refused, nothing) = is_refused_full mode honest settings under seen now mid tried shows flush in
+        let (w, clean, becomes) = subst (λ (r : Result (Unit {0}) SessionError). (w : Store) × RunsOrder mode honest settings under seen Clean mid new r w bytes × OnOk r (IsTidiedBy settings batches w after)) e own_clean in
+        let (one, with_these) = clean_with mode honest settings under seen mid new (Err early) w bytes batches unasked clean in
+        LeadsRoom-refused mode honest settings first file old batches (left - 1) under seen now mid lower nothing flush.0 refused of_is new w bytes early result want one with_these
+
+-- what is so of the tidied store is so of the store that has the settings of the first, on a disk that is as honest and shows the same
+pub room_tidied : (mode : Mode) (full : mode.clean_when_full ≡ true) (b honest : Bool) → b ≡ honest → (s settings : Settings) → s ≡ settings → (shows seen : List ℕ) → shows ≡ seen → (first st : Store)
+    → TidiesTo mode.tidy settings first st → (old new : Option (List ℕ)) (end : Result (Unit {0}) SessionError) (now : Store) (bytes : List ℕ)
+    → ((m : Mode) → m.clean_when_full ≡ true → (o : Store) → TidiesTo m.tidy s o st → RunsFirst m b s o shows (Flush ∷ []) old new end now bytes)
+    → RunsFirst mode honest settings first seen (Flush ∷ []) old new end now bytes
+room_tidied mode full b honest b_is s settings s_is shows seen shows_is first st by old new end now bytes runs =
+    subst (λ (f : List ℕ). RunsFirst mode honest settings first f (Flush ∷ []) old new end now bytes) shows_is
+    (RunsFirst-same mode b honest s settings b_is s_is first shows (Flush ∷ []) old new end now bytes
+    (runs mode full first (subst (λ (t : Settings). TidiesTo mode.tidy t first st) (sym s_is) by)))
+
+-- some ways of a session
+abbrev pub some_mode : Mode
+some_mode = record { version = false; explain = false; stat = false; clean_when_full = false; stream = false; tidy = 0; progress = false }
 
 -- a flush leaves the map as it is
 pub map_after-flush : (order : Order) → is_flush order ≡ true → (m : List (List ℕ × List ℕ)) → map_after m order ≡ m

@@ -35,7 +35,7 @@ use Rattle.bwsh.specs.declared.show.StoreNumbers.{StoreNumbers}
 use Rattle.bwsh.specs.declared.session.SessionError.{SessionError}
 use Rattle.bwsh.specs.declared.session.SessionError.TheVariants as errors
 use Rattle.bwsh.specs.declared.options.asked.Mode.{Mode}
-use Rattle.bwsh.specs.Session.{Stored, Seen, Reads, AreLeft, AreUntidied, untidied, step_in, left_by, refused_by, left_by_step, refusal_of_step, refusal_of, tidied_after, after_order, map_after, map_left, own_lines, answer_lines, accepted, orders_end, numbers_of, Prints, Runs, RunsOrder, LeavesStored}
+use Rattle.bwsh.specs.Session.{Stored, Seen, Reads, Batches, AreLeft, AreTidiedOnce, AreUntidied, TidiesBy, later, untidied, step_in, left_by, refused_by, left_by_step, refusal_of_step, refusal_of, tidied_before, after_order, map_after, map_left, own_lines, answer_lines, accepted, orders_end, numbers_of, Prints, Runs, RunsOrder, LeavesStored}
 use Rattle.bwsh.specs.Shown.{shown_flushed, shown_cleaned, shown_upgraded, shown_report, shown_numbers, shown_answer}
 use Rattle.bwsh.proofs.Prints.{Prints-all, Prints-after_order, Prints-early}
 use Rattle.bwsh.proofs.StoreLemmas.{IsEndingOf}
@@ -124,42 +124,92 @@ module _ (settings : Settings) (st : Store) (file : Seen) (order : Order) (old n
         let then_on = subst (λ (t : Store). Prints new last (further t) (orders_end settings t shown rest) end) is next in
         rw none (Prints-after_order old new last lines (further left.0) (orders_end settings left.0 shown rest) end printed then_on)
 
+-- an order that is refused for the same reason and answers the same lines, on another store or where something else is seen, does the same where it is the only one
+module _ (settings : Settings) (a b : Store) (f g : Seen) (order : Order) (refused : refusal_of settings a f order ≡ refusal_of settings b g order)
+    (lines_are : own_lines settings a f (contents a.tree) order ≡ own_lines settings b g (contents b.tree) order) (old new : Option (List ℕ)) (end : Result (Unit {0}) SessionError) where
+  alike_by : (r : Option Fault) → refusal_of settings b g order ≡ r → Runs settings b (λ i. g) (order ∷ []) old new end → Runs settings a (λ i. f) (order ∷ []) old new end
+  unfolding Runs
+  alike_by None none p =
+      let own : Prints old new (own_lines settings b g (contents b.tree) order ++ []) (Ok tt) end = rw none at p in
+      let here : refusal_of settings a f order ≡ None = refused ∙ none in
+      rw here (subst (λ (l : List (List ℕ)). Prints old new (l ++ []) (Ok tt) end) (sym lines_are) own)
+  alike_by (Some fault) some p =
+      let own : Prints old new [] (Err (errors.Fault fault)) end = rw some at p in
+      let here : refusal_of settings a f order ≡ Some fault = refused ∙ some in
+      rw here own
+
+  pub Runs-alike : Runs settings b (λ i. g) (order ∷ []) old new end → Runs settings a (λ i. f) (order ∷ []) old new end
+  Runs-alike p = alike_by (refusal_of settings b g order) refl p
+
+-- and leaves the same, if it leaves the same store
+pub LeavesStored-alike : (honest : Bool) (settings : Settings) (a b : Store) (f g : Seen) (order : Order) → refusal_of settings a f order ≡ refusal_of settings b g order
+    → after_order settings a f order ≡ after_order settings b g order → contents a.tree ≡ contents b.tree → (now : Store) (bytes : List ℕ)
+    → LeavesStored honest settings b g order now bytes → LeavesStored honest settings a f order now bytes
+LeavesStored-alike honest settings a b f g order refused after held now bytes leaves = record {
+  unrefused = refused ∙ leaves.unrefused;
+  store = leaves.store ∙ ap (λ (at : Stored). at.0) (sym after);
+  bytes = λ h. leaves.bytes h ∙ ap (λ (at : Stored). at.1) (sym after);
+  holds = leaves.holds ∙ ap (λ (m : List (List ℕ × List ℕ)). map_after m order) (sym held);
+}
+
 -- ---- what the disk shows is what was left
 
+-- a read gives these bytes, and the store is tidied by these batches
+abbrev pub seen_with : Batches → List ℕ → Seen
+seen_with batches file = record { bytes = file; tidying = batches }
+
+-- all stores are tidied by these batches
+abbrev pub AreTidiedBy : Batches → Reads → Type 0
+AreTidiedBy batches shown = (i : ℕ) → (shown i).tidying ≡ batches
+
 -- what orders leave that begin with these bytes, before each of them
-abbrev pub left_shown : Settings → Store → List ℕ → List Order → Reads
-left_shown settings st file [] = λ i. untidied file
-left_shown settings st file (order ∷ rest) =
-    let left : Stored = after_order settings st (untidied file) order in first_shown (untidied file) (left_shown settings left.0 left.1 rest)
+abbrev pub left_shown : Batches → Settings → Store → List ℕ → List Order → Reads
+left_shown batches settings st file [] = λ i. seen_with batches file
+left_shown batches settings st file (order ∷ rest) =
+    let left : Stored = after_order settings st (seen_with batches file) order in first_shown (seen_with batches file) (left_shown batches settings left.0 left.1 rest)
 
-pub AreLeft-left_shown : (settings : Settings) (st : Store) (file : List ℕ) (orders : List Order) → AreLeft settings st file (left_shown settings st file orders) orders
-AreLeft-left_shown settings st file [] = tt
-AreLeft-left_shown settings st file (order ∷ rest) =
-    let left : Stored = after_order settings st (untidied file) order in (refl, AreLeft-left_shown settings left.0 left.1 rest)
+pub AreLeft-left_shown : (batches : Batches) (settings : Settings) (st : Store) (file : List ℕ) (orders : List Order) → AreLeft settings st file (left_shown batches settings st file orders) orders
+AreLeft-left_shown batches settings st file [] = tt
+AreLeft-left_shown batches settings st file (order ∷ rest) =
+    let left : Stored = after_order settings st (seen_with batches file) order in (refl, AreLeft-left_shown batches settings left.0 left.1 rest)
 
--- no store is tidied, neither at the first nor later
-pub AreUntidied-first : (file : List ℕ) (shown : Reads) → AreUntidied shown → AreUntidied (first_shown (untidied file) shown)
-AreUntidied-first file shown none zero = refl
-AreUntidied-first file shown none (suc i) = none i
+-- the stores are tidied so at the first order and later
+pub AreTidiedBy-first : (batches : Batches) (file : List ℕ) (shown : Reads) → AreTidiedBy batches shown → AreTidiedBy batches (first_shown (seen_with batches file) shown)
+AreTidiedBy-first batches file shown all zero = refl
+AreTidiedBy-first batches file shown all (suc i) = all i
 
-pub AreUntidied-left_shown : (settings : Settings) (st : Store) (file : List ℕ) (orders : List Order) → AreUntidied (left_shown settings st file orders)
-AreUntidied-left_shown settings st file [] = λ i. refl
-AreUntidied-left_shown settings st file (order ∷ rest) =
-    let left : Stored = after_order settings st (untidied file) order in
-    AreUntidied-first file (left_shown settings left.0 left.1 rest) (AreUntidied-left_shown settings left.0 left.1 rest)
+pub AreTidiedBy-left_shown : (batches : Batches) (settings : Settings) (st : Store) (file : List ℕ) (orders : List Order) → AreTidiedBy batches (left_shown batches settings st file orders)
+AreTidiedBy-left_shown batches settings st file [] = λ i. refl
+AreTidiedBy-left_shown batches settings st file (order ∷ rest) =
+    let left : Stored = after_order settings st (seen_with batches file) order in
+    AreTidiedBy-first batches file (left_shown batches settings left.0 left.1 rest) (AreTidiedBy-left_shown batches settings left.0 left.1 rest)
 
--- an order after which the store is tidied by no batches leaves what its step leaves
-untidied_after : (order : Order) (settings : Settings) (at : Stored) → tidied_after order settings [] at ≡ at
-untidied_after (Batch cs) settings at = refl
-untidied_after Flush settings at = refl
-untidied_after Clean settings at = refl
-untidied_after Upgrade settings at = refl
-untidied_after Verify settings at = refl
-untidied_after Numbers settings at = refl
+-- so they are tidied once for each flush
+pub AreTidiedOnce-alike : (batches : Batches) (shown : Reads) (orders : List Order) → AreTidiedBy batches shown → AreTidiedOnce shown orders
+AreTidiedOnce-alike batches shown [] all = tt
+AreTidiedOnce-alike batches shown (order ∷ rest) all =
+    (inr (all zero ∙ sym (all (suc zero))), AreTidiedOnce-alike batches (later shown) rest (λ i. all (suc i)))
+
+-- where no store is tidied, none is where that isn't asked for
+pub TidiesBy-none : (mode : Mode) (shown : Reads) (orders : List Order) → AreUntidied shown → TidiesBy mode shown orders
+TidiesBy-none mode shown orders none = (λ off. none, AreTidiedOnce-alike [] shown orders none)
+
+-- an order before which the store is tidied by no batches does what its step does
+untidied_before : (order : Order) (settings : Settings) (at : Stored) → tidied_before order settings [] at ≡ at
+untidied_before (Batch cs) settings at = refl
+untidied_before Flush settings at = refl
+untidied_before Clean settings at = refl
+untidied_before Upgrade settings at = refl
+untidied_before Verify settings at = refl
+untidied_before Numbers settings at = refl
 
 pub after_order-untidied : (settings : Settings) (st : Store) (file : List ℕ) (order : Order) → after_order settings st (untidied file) order ≡ left_by_step settings (st, file) (step_in order)
 unfolding after_order
-after_order-untidied settings st file order = untidied_after order settings (left_by_step settings (st, file) (step_in order))
+after_order-untidied settings st file order = ap (λ (at : Stored). left_by_step settings at (step_in order)) (untidied_before order settings (st, file))
+
+refusal_of-untidied : (settings : Settings) (st : Store) (file : List ℕ) (order : Order) → refusal_of settings st (untidied file) order ≡ refusal_of_step settings (st, file) (step_in order)
+unfolding refusal_of
+refusal_of-untidied settings st file order = ap (λ (at : Stored). refusal_of_step settings at (step_in order)) (untidied_before order settings (st, file))
 
 -- ---- what a step answers
 
@@ -298,8 +348,7 @@ module _ (settings : Settings) (st : Store) where
 -- a step is played on a store whose disk had the bytes `seen`, for an order
 module _ (mode : Mode) (honest : Bool) (settings : Settings) (st : Store) (seen : List ℕ) (order : Order) (x : code_step.Step) (is : step_in order ≡ Some (step_of x)) where
   right_by : (file : List ℕ) (fault : Fault) → after_step (batching settings) settings st file (step_of x) ≡ Err fault → refusal_of settings st (untidied file) order ≡ Some fault
-  unfolding refusal_of
-  right_by file fault e = ap (refusal_of_step settings (st, file)) is ∙ ap refused_by e
+  right_by file fault e = refusal_of-untidied settings st file order ∙ ap (refusal_of_step settings (st, file)) is ∙ ap refused_by e
 
   late_by : (file : List ℕ) (old new : ℕ) (z : code_step.Step) (fault : Fault) → fault ≢ Device → z ≡ x → IsStepFault settings st file old new (step_of z) fault
       → (fault ≡ NoMemory) ⊎ (refusal_of settings st (untidied file) order ≡ Some fault)
@@ -341,8 +390,7 @@ module _ (mode : Mode) (honest : Bool) (settings : Settings) (st : Store) (seen 
     left_is = after_order-untidied settings st done.file order ∙ ap (left_by_step settings (st, done.file)) is ∙ ap (left_by (st, done.file)) done.done
 
     none : refusal_of settings st (untidied done.file) order ≡ None
-    unfolding refusal_of
-    none = ap (refusal_of_step settings (st, done.file)) is ∙ ap refused_by done.done
+    none = refusal_of-untidied settings st done.file order ∙ ap (refusal_of_step settings (st, done.file)) is ∙ ap refused_by done.done
 
     -- on an honest disk it is done of what was there
     bytes_are : IsTrue honest → (alone settings st seen (step_of x)).bytes ≡ bytes

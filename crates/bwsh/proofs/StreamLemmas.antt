@@ -35,12 +35,12 @@ use Rattle.bwsh.specs.declared.session.SessionError.TheVariants as errors
 use Rattle.bwsh.specs.BatchFile.{IsNextLine, ended_by, first_bad, last_order, streamed, parse_text, unended, with_numbers}
 use Rattle.bwsh.specs.Line.{bad_of, parse_line}
 use Rattle.bwsh.specs.Options.{Request, copy_of}
-use Rattle.bwsh.specs.Session.{AreLeft, IsHonestStore, IsStart, IsStartBy, IsUncopied, IsUnopened, IsEndAfter, Opens, Prints, Reads, Runs, RunsFirst, RunsOn, RunsOrder, Start, Streams, StreamsFrom, StreamsOn, bad_line_error, end_streamed, first_refusal, lines_after, map_left, map_left_from, run_from, run_of, stopped_by, stream_end, stream_ended, stream_lines, untidied, without_value}
+use Rattle.bwsh.specs.Session.{AreLeft, IsHonestStore, IsStart, IsStartBy, IsUncopied, IsUnopened, IsEndAfter, Opens, Prints, Reads, Runs, RunsFirst, RunsOn, RunsOrder, Start, Streams, StreamsFrom, StreamsOn, bad_line_error, end_streamed, first_refusal, lines_after, map_left, map_left_from, run_from, run_of, stopped_by, stream_end, stream_ended, stream_lines, stream_orders, untidied, without_value}
 use Rattle.bwsh.proofs.EndLemmas.{IsStart-plain, Prints-cut, leave_from, start_of, start_of_uncopied, start_without_crew}
 use Rattle.bwsh.proofs.FirstLemmas.{MakesNone, RunsFirst-early, RunsFirst-flushed, RunsFirst-joined, RunsFirst-none, RunsFirst-one, RunsFirst-same, RunsOn-cut, RunsOn-none}
 use Rattle.bwsh.proofs.OrderLemmas.{first_bad-next}
 use Rattle.bwsh.proofs.Prints.{IsLeft, Prints-flushed, PrintsCopied-asked, PrintsCopied-before, PrintsCopied-left, PrintsCopied-plain}
-use Rattle.bwsh.proofs.RunLemmas.{IsCut, OnOk-always, map_left-append}
+use Rattle.bwsh.proofs.RunLemmas.{IsCut, OnOk-always, TidiesBy-none, map_left-append}
 
 -- ---- the lines of a text
 
@@ -391,7 +391,7 @@ module _ (mode : Mode) (known old : Option (List ℕ)) (start : Start) {D : Type
         parsed,
         is,
         shown,
-        (λ off. none, λ h. are),
+        (TidiesBy-none mode shown ran none, λ h. are),
         PrintsCopied-before copy (map_left_from start orders) old old (lines_after None start shown ran) (end_streamed (first_bad 1 parsed) start shown ran) (Err early)
             (Prints-no_store old shown ran (first_bad 1 parsed) start early (subst (Opens view start) e opens)),
       )
@@ -442,7 +442,7 @@ module _ (request : Request) (known old : Option (List ℕ)) where
         start,
         is,
         shown,
-        (λ off. none, λ memory. are),
+        (TidiesBy-none request.mode shown (stream_orders request start shown parsed) none, λ memory. are),
         PrintsCopied-before (copy_of request) (map_left_from start (streamed request.mode.stat [] parsed)) old old (stream_lines request start shown parsed) (stream_end request start shown parsed) (Err early)
             (Prints-cut old (stream_lines request start shown parsed) (stream_end request start shown parsed) early cut),
       )
@@ -459,7 +459,7 @@ module _ (request : Request) (known old : Option (List ℕ)) where
         start,
         is,
         shown,
-        (λ off i. refl, λ memory. tt),
+        (TidiesBy-none request.mode shown (stream_orders request start shown parsed) (λ i. refl), λ memory. tt),
         PrintsCopied-before (copy_of request) (map_left_from start (streamed request.mode.stat [] parsed)) old old (stream_lines request start shown parsed) (stream_end request start shown parsed)
             (Err (errors.Fault fault)) (inl (refl, Appends-nil old)),
       )

@@ -1,30 +1,39 @@
--- Lemmas on stores that are tidied after their flushes.
+-- Lemmas on stores that are tidied before their flushes.
 use Rattle.std.proofs.Common.{◌≡◌, ◌≢◌, ◌⊎◌, inl, inr, ℕ, List, [], ◌∷◌, ◌++◌, map, Option, None, Result, Ok, Err, refl, sym, ap, ◌∙◌, subst, append_assoc}
-use Rattle.std.specs.Prelude.{Bool, true, false, ◌&&◌, if◌then◌else◌}
-use Rattle.std.specs.Io.KnownBytes.{Keeps}
+use Rattle.std.specs.Prelude.{Bool, true, false, ◌&&◌, if◌then◌else◌, nat_eq, OnOk}
 use Rattle.std.specs.List.{flat_map}
 use Rattle.std.specs.declared.alloc.Global.{Global}
+use Rattle.std.proofs.lemmas.Result.{on_ok_weaker}
 use Rattle.std.proofs.lemmas.Slice.Eq.{bytes_eq-Decides}
 use Rattle.keys.proofs.RunLemmas.{map_after_all-append}
 use Rattle.keys.specs.Step.{replies_to, map_after_all}
 use Rattle.keys.specs.declared.command.Command.{Command}
-use Rattle.keys.specs.declared.fault.Fault.TheVariants.{Full, NoMemory}
+use Rattle.keys.specs.declared.fault.Fault.{Fault}
+use Rattle.keys.specs.declared.fault.Fault.TheVariants.{NoMemory, NothingToClean}
 use Rattle.keys.specs.declared.settings.Settings.{Settings}
 use Rattle.mapping.specs.Levels.{contents}
 use Rattle.mapping.specs.Tree.{Store, Tree, with_tree}
+use Rattle.flush_log.specs.AfterFlush.{file_after, is_spent, slot_of, store_after}
+use Rattle.flush_log.specs.Layout.{is_full_for_clean}
+use Rattle.flush_log.specs.Reading.{Found, log}
+use Rattle.flush_log.specs.Segments.{last_segment}
+use Rattle.flush_log.specs.Slot.{Slot}
+use Rattle.recovery.specs.LogPages.{broken_in}
+use Rattle.recovery.specs.StoreOfDisk.{and_then, frames_in, unless_found}
+use Rattle.cleaner.specs.AfterClean.{after_carried, after_clean, after_clean_of, clean_commit}
+use Rattle.cleaner.specs.CleanText.{clean_text}
 use Rattle.engine.specs.Batches.{tree_in_turn}
 use Rattle.engine.specs.Tidied.{IsTidied}
 use Rattle.bwsh.specs.declared.batch_file.Order.{Order}
 use Rattle.bwsh.specs.declared.batch_file.Order.TheVariants.{Batch, Flush, Clean, Upgrade, Verify, Numbers}
 use Rattle.bwsh.specs.declared.options.asked.Mode.{Mode}
 use Rattle.bwsh.specs.declared.session.SessionError.{SessionError}
-use Rattle.bwsh.specs.declared.session.SessionError.TheVariants.{Device}
 use Rattle.bwsh.specs.declared.session.SessionError.TheVariants as errors
 use Rattle.bwsh.specs.BatchFile.{commands_of}
-use Rattle.bwsh.specs.Session.{Batches, LeavesStored, Prints, Reads, Runs, RunsOrder, Seen, Stored, answer_lines, after_order, left_by_step, if_it_holds, is_same_map, later, map_after, own_lines, refusal_of, step_in, tidied}
-use Rattle.bwsh.specs.Shown.{shown_flushed, shown_reply}
-use Rattle.bwsh.proofs.Prints.{Prints-all, Prints-flushed, front-whole}
-use Rattle.bwsh.proofs.RunLemmas.{OnOk-always, answered}
+use Rattle.bwsh.specs.Session.{Batches, LeavesStored, Prints, Reads, Runs, RunsOrder, Seen, Stored, TidiesTo, answer_lines, after_order, if_it_holds, is_same_map, later, left_by, left_by_step, map_after, own_lines, refusal_of, refusal_of_step, refused_by, step_in, tidied}
+use Rattle.bwsh.specs.Shown.{shown_cleaned, shown_flushed, shown_reply}
+use Rattle.bwsh.proofs.Prints.{Prints-all, front-whole}
+use Rattle.bwsh.proofs.RunLemmas.{LeavesStored-alike, OnOk-always, Runs-alike, answered, answering, committed_unless, of_clean, seen_with}
 
 -- ---- maps
 
@@ -72,9 +81,18 @@ pub log-tidied : (settings : Settings) (batches : Batches) (at : Stored)
 log-tidied settings [] at = (refl, refl)
 log-tidied settings (b ∷ bs) at = (refl, refl)
 
-sequence-tidied : (settings : Settings) (batches : Batches) (at : Stored) → (tidied settings batches at).0.sequence ≡ at.0.sequence
-sequence-tidied settings [] at = refl
-sequence-tidied settings (b ∷ bs) at = refl
+-- the tree that tidying leaves depends on the tree alone
+abbrev tidied_tree : Settings → Batches → Tree → Tree
+tidied_tree settings [] tree = tree
+tidied_tree settings (b ∷ bs) tree = if_it_holds (tree_in_turn settings tree (b ∷ bs)) tree
+
+-- what is stored, with another tree
+abbrev retreed : Tree → Stored → Stored
+retreed tree at = (with_tree at.0 tree, at.1)
+
+tidied-is : (settings : Settings) (batches : Batches) (at : Stored) → tidied settings batches at ≡ retreed (tidied_tree settings batches at.0.tree) at
+tidied-is settings [] at = refl
+tidied-is settings (b ∷ bs) at = refl
 
 -- a tree that holds the same counts
 if_it_holds-is : (now old : Tree) → contents now ≡ contents old → if_it_holds now old ≡ now
@@ -125,99 +143,206 @@ replies-anywhere settings st shown m (order ∷ front) commands rest =
           ∙ sym (append_assoc own fronted (map shown_reply (replies_to (map_after_all m (commands_of order ++ further)) commands) ++ last)),
     )
 
--- ---- a flush after which the store is tidied
+-- ---- a flush before which the store is tidied
 
 -- in the same ways, but that nothing is tidied
 abbrev pub untidy : Mode → Mode
 untidy mode = record mode { tidy = 0 }
 
--- its flush is done, and the store tidied by these batches
-module _ (settings : Settings) (st : Store) (seen : Seen) (plain : seen.tidying ≡ []) (batches : Batches) where
-  abbrev with_tidying : Seen
-  with_tidying = record { bytes = seen.bytes; tidying = batches }
+-- a store becomes another one, where these batches tidy it
+abbrev pub IsTidiedBy : Settings → Batches → Store → Store → Type 0
+IsTidiedBy settings batches old now = (file : List ℕ) → tidied settings batches (old, file) ≡ (now, file)
 
-  abbrev flushed : Stored
-  flushed = left_by_step settings (st, seen.bytes) (step_in Flush)
+-- what `Store::tidy` leaves is tidied as it is asked for
+pub TidiesTo-some : (most : ℕ) (settings : Settings) (st now : Store) → most ≢ 0 → IsTidied settings st now → TidiesTo most settings st now
+TidiesTo-some most settings st now some is =
+    let (batches, are) = tidies settings st now is in
+    record { batches = batches; unasked = λ off. absurd (some off); leaves = are }
 
-  plain_is : after_order settings st seen Flush ≡ flushed
-  unfolding after_order
-  plain_is = ap (λ (b : Batches). tidied settings b flushed) plain
+module _ (settings : Settings) (batches : Batches) (under st : Store) (are : IsTidiedBy settings batches under st) where
+  -- the tidied store holds the same
+  pub held_by : contents st.tree ≡ contents under.tree
+  held_by = ap (λ (at : Stored). contents at.0.tree) (sym (are [])) ∙ holds-tidied settings batches (under, [])
 
-  tidied_is : after_order settings st with_tidying Flush ≡ tidied settings batches flushed
-  unfolding after_order
-  tidied_is = refl
+  -- it has the same log, and the tree that the batches leave
+  under_its_tree : st ≡ with_tree under st.tree
+  under_its_tree =
+      let is : tidied settings batches (under, []) ≡ (st, []) = are [] in
+      ap (λ (at : Stored). at.0) (sym is) ∙ (log-tidied settings batches (under, [])).0 ∙ ap (λ (at : Stored). with_tree under at.0.tree) is
 
-  unrefused_too : refusal_of settings st seen Flush ≡ None → refusal_of settings st with_tidying Flush ≡ None
-  unfolding refusal_of
-  unrefused_too none = none
+  tree_by : tidied_tree settings batches under.tree ≡ st.tree
+  tree_by = ap (λ (at : Stored). at.0.tree) (sym (tidied-is settings batches (under, [])) ∙ are [])
 
-  lines_too : (m : Rows) → own_lines settings st seen m Flush ≡ own_lines settings st with_tidying m Flush
-  lines_too m =
-      let same = ap (λ (at : Stored). at.0.sequence) plain_is ∙ sym (sequence-tidied settings batches flushed) ∙ ap (λ (at : Stored). at.0.sequence) (sym tidied_is) in
-      ap (λ (n : ℕ). shown_flushed n ∷ []) same
+  module _ (seen : Seen) (plain : seen.tidying ≡ []) where
+    at_hand : tidied settings batches (under, seen.bytes) ≡ tidied settings seen.tidying (st, seen.bytes)
+    at_hand = are seen.bytes ∙ ap (λ (b : Batches). tidied settings b (st, seen.bytes)) (sym plain)
 
-  -- it leaves what is tidied
-  leaves_tidied : (honest : Bool) (now after : Store) (left : List ℕ) → LeavesStored honest settings st seen Flush now left → contents after.tree ≡ contents now.tree
-      → ((file : List ℕ) → tidied settings batches (now, file) ≡ (after, file)) → LeavesStored honest settings st with_tidying Flush after left
-  leaves_tidied honest now after left leaves holds is =
-      let now_is : now ≡ flushed.0 = leaves.store ∙ ap (λ (at : Stored). at.0) plain_is in
-      let all : tidied settings batches flushed ≡ (after, flushed.1) = subst (λ (s : Store). tidied settings batches (s, flushed.1) ≡ (after, flushed.1)) now_is (is flushed.1) in
-      let whole : after_order settings st with_tidying Flush ≡ (after, flushed.1) = tidied_is ∙ all in
-      record {
-        unrefused = unrefused_too leaves.unrefused;
-        store = ap (λ (at : Stored). at.0) (sym whole);
-        bytes = λ h. leaves.bytes h ∙ ap (λ (at : Stored). at.1) plain_is ∙ ap (λ (at : Stored). at.1) (sym whole);
-        holds = holds ∙ leaves.holds;
-      }
+    -- a flush of the tidied store leaves what one leaves before which the store is tidied, and is refused for the same reason
+    after_flush_of : after_order settings under (seen_with batches seen.bytes) Flush ≡ after_order settings st seen Flush
+    unfolding after_order
+    after_flush_of = ap (λ (at : Stored). left_by_step settings at (step_in Flush)) at_hand
 
-module _ (settings : Settings) (st : Store) (left : List ℕ) (old mid new : Option (List ℕ)) where
-  -- the lines of a flush that was answered, with whatever is seen
-  lines_of_flush : (seen : Seen) (done : Unit {0}) → refusal_of settings st seen Flush ≡ None → Runs settings st (λ i. seen) (Flush ∷ []) old mid (Ok done)
-      → Prints old mid (own_lines settings st seen (contents st.tree) Flush) (Ok tt) (Ok done)
-  unfolding Runs
-  lines_of_flush seen done none runs = rw none at runs
+    refusal_flush_of : refusal_of settings under (seen_with batches seen.bytes) Flush ≡ refusal_of settings st seen Flush
+    unfolding refusal_of
+    refusal_flush_of = ap (λ (at : Stored). refusal_of_step settings at (step_in Flush)) at_hand
 
-  module _ (kept : Keeps mid new) where
-    -- it was answered, and what was written was handed on to the device; then memory was refused, or not
-    ends_tidied : (lines : List (List ℕ)) (done : Unit {0}) (end : Result (Unit {0}) SessionError) → Prints old mid lines (Ok tt) (Ok done)
-        → (end ≡ Ok tt) ⊎ (end ≡ Err (errors.Fault NoMemory)) → Prints old new lines (Ok tt) end
-    ends_tidied lines done end p (inl e) = rw e (Prints-flushed old mid new lines (Ok tt) (Ok done) (Ok tt) p kept (inl refl))
-    ends_tidied lines done end p (inr e) =
-        let all = Prints-all old new lines (Ok tt) done (Prints-flushed old mid new lines (Ok tt) (Ok done) (Ok done) p kept (inl refl)) in
-        inr (inl (e, (lines, front-whole lines, all)))
+pub RunsOrder-tidied : (mode : Mode) (honest : Bool) (settings : Settings) (batches : Batches) → (mode.tidy ≡ 0 → batches ≡ []) → (under st : Store) → IsTidiedBy settings batches under st
+    → (left : List ℕ) (old new : Option (List ℕ)) (end : Result (Unit {0}) SessionError) (now : Store) (bytes : List ℕ)
+    → RunsOrder (untidy mode) honest settings st left Flush old new end now bytes
+    → (one : RunsOrder mode honest settings under left Flush old new end now bytes) × (one.0.tidying ≡ batches)
+RunsOrder-tidied mode honest settings batches unasked under st are left old new end now bytes (seen, is, runs, leaves) =
+    let plain : seen.tidying ≡ [] = is.0 refl in
+    let too : Seen = seen_with batches seen.bytes in
+    let after = after_flush_of settings batches under st are seen plain in
+    let refused = refusal_flush_of settings batches under st are seen plain in (
+      (
+        too,
+        (unasked, is.1),
+        Runs-alike settings under st too seen Flush refused (ap (λ (at : Stored). shown_flushed at.0.sequence ∷ []) after) old new end runs,
+        on_ok_weaker end (LeavesStored-alike honest settings under st too seen Flush refused after (sym (held_by settings batches under st are)) now bytes) leaves,
+      ),
+      refl,
+    )
 
-    pub RunsOrder-tidied : (mode : Mode) (honest : Bool) (done : Unit {0}) (now after : Store) (bytes : List ℕ) (end : Result (Unit {0}) SessionError) → mode.tidy ≢ 0
-        → RunsOrder (untidy mode) honest settings st left Flush old mid (Ok done) now bytes → IsTidied settings now after
-        → (end ≡ Ok tt) ⊎ (end ≡ Err (errors.Fault NoMemory)) → RunsOrder mode honest settings st left Flush old new end after bytes
-    RunsOrder-tidied mode honest done now after bytes end some (seen, is, runs, leaves) tidied_so ended =
-        let plain : seen.tidying ≡ [] = is.0 refl in
-        let (batches, are) = tidies settings now after tidied_so in
-        let seen_too : Seen = record { bytes = seen.bytes; tidying = batches } in
-        let printed = lines_of_flush seen done leaves.unrefused runs in
-        let same = subst (λ (l : List (List ℕ)). Prints old mid l (Ok tt) (Ok done)) (lines_too settings st seen plain batches (contents st.tree)) printed in
-        let all = ends_tidied (own_lines settings st seen_too (contents st.tree) Flush) done end same ended in (
-          seen_too,
-          (λ off. absurd (some off), is.1),
-          answered settings st seen_too Flush old new end (unrefused_too settings st seen plain batches leaves.unrefused) all,
-          OnOk-always end (leaves_tidied settings st seen plain batches honest now after bytes leaves tidied_so.holds are),
-        )
+-- the same of a store that has the settings of the first, and of a disk that is as honest and shows the same
+pub flush_tidied : (mode : Mode) (b honest : Bool) → b ≡ honest → (s settings : Settings) → s ≡ settings → (shows seen : List ℕ) → shows ≡ seen → (first st : Store)
+    → TidiesTo mode.tidy settings first st → (old new : Option (List ℕ)) (end : Result (Unit {0}) SessionError) (now : Store) (bytes : List ℕ)
+    → RunsOrder (untidy mode) b s st shows Flush old new end now bytes → RunsOrder mode honest settings first seen Flush old new end now bytes
+flush_tidied mode b honest b_is s settings s_is shows seen shows_is first st by old new end now bytes one =
+    let of_honest = subst (λ (c : Bool). RunsOrder (untidy mode) c s st shows Flush old new end now bytes) b_is one in
+    let of_settings = subst (λ (t : Settings). RunsOrder (untidy mode) honest t st shows Flush old new end now bytes) s_is of_honest in
+    let own = subst (λ (f : List ℕ). RunsOrder (untidy mode) honest settings st f Flush old new end now bytes) shows_is of_settings in
+    (RunsOrder-tidied mode honest settings by.batches by.unasked first st by.leaves seen old new end now bytes own).0
 
--- the answer could not be handed on
-pub of_device : (early : SessionError) → (let end : Result (Unit {0}) SessionError = Err early in (end ≡ Ok tt) ⊎ (end ≡ Err Device)) → (let end : Result (Unit {0}) SessionError = Err early in end ≡ Err Device)
-of_device early (inl e) = absurd (cc)
-of_device early (inr e) = e
+-- ---- memory that is refused when the flush is done
 
-pub RunsOrder-unhanded : (mode : Mode) (honest : Bool) (settings : Settings) (st : Store) (left : List ℕ) (old mid new : Option (List ℕ)) (done : Unit {0}) (now : Store) (bytes : List ℕ)
-    (end : Result (Unit {0}) SessionError) → Keeps mid new → RunsOrder mode honest settings st left Flush old mid (Ok done) now bytes → end ≡ Err Device
-    → RunsOrder mode honest settings st left Flush old new end now bytes
+-- the lines of a flush that was answered, with whatever is seen
+lines_of_flush : (settings : Settings) (st : Store) (old new : Option (List ℕ)) (seen : Seen) (done : Unit {0}) → refusal_of settings st seen Flush ≡ None → Runs settings st (λ i. seen) (Flush ∷ []) old new (Ok done)
+    → Prints old new (own_lines settings st seen (contents st.tree) Flush) (Ok tt) (Ok done)
 unfolding Runs
-RunsOrder-unhanded mode honest settings st left old mid new done now bytes end kept (seen, is, runs, leaves) e =
-    rw e (seen, is, Prints-flushed old mid new _ _ (Ok done) (Err Device) runs kept (inr refl), tt)
+lines_of_flush settings st old new seen done none runs = rw none at runs
 
--- no such end is one for a full log
-pub never_full : (end : Result (Unit {0}) SessionError) → (end ≡ Ok tt) ⊎ (end ≡ Err (errors.Fault NoMemory)) → end ≡ Err (errors.Fault Full) → ⊥
-never_full end (inl e) full = cc
-never_full end (inr e) full = cc
+pub RunsOrder-late : (mode : Mode) (honest : Bool) (settings : Settings) (st : Store) (left : List ℕ) (old new : Option (List ℕ)) (done : Unit {0}) (end : Result (Unit {0}) SessionError)
+    (now : Store) (bytes : List ℕ) → RunsOrder mode honest settings st left Flush old new (Ok done) now bytes → (end ≡ Ok tt) ⊎ (end ≡ Err (errors.Fault NoMemory))
+    → RunsOrder mode honest settings st left Flush old new end now bytes
+RunsOrder-late mode honest settings st left old new done end now bytes one (inl e) = rw e one
+RunsOrder-late mode honest settings st left old new done end now bytes (seen, is, runs, leaves) (inr e) =
+    let lines : List (List ℕ) = own_lines settings st seen (contents st.tree) Flush in
+    let all = Prints-all old new lines (Ok tt) done (lines_of_flush settings st old new seen done leaves.unrefused runs) in
+    (seen, is, answered settings st seen Flush old new end leaves.unrefused (inr (inl (e, (lines, front-whole lines, all)))), OnOk-always end leaves)
 
-pub device_never_full : (end : Result (Unit {0}) SessionError) → end ≡ Err Device → end ≡ Err (errors.Fault Full) → ⊥
-device_never_full end e full = cc
+-- ---- a clean of a store that was tidied
+
+abbrev retreed_by : Tree → Result Stored Fault → Result Stored Fault
+retreed_by tree (Ok at) = Ok (retreed tree at)
+retreed_by tree (Err fault) = Err fault
+
+abbrev unless_alone : Bool → Result Stored Fault → Result Stored Fault
+unless_alone alone r = if alone then Err NothingToClean else r
+
+commit-any_tree : (tree other : Tree) (t : Slot) (spent full : Bool) (f : List ℕ) → committed_unless spent full (store_after tree t) f ≡ retreed_by tree (committed_unless spent full (store_after other t) f)
+commit-any_tree tree other t true full f = refl
+commit-any_tree tree other t false true f = refl
+commit-any_tree tree other t false false f = refl
+
+-- a clean is the same whatever the tree is, and this stays
+module _ (settings : Settings) (st : Store) (tree : Tree) (file : List ℕ) where
+  carried-any_tree : (text : _) → after_carried settings (with_tree st tree) file text ≡ retreed_by tree (after_carried settings st file text)
+  carried-any_tree text =
+      let m = clean_commit settings st file text in
+      commit-any_tree tree st.tree m.slot (is_spent m.slot) (is_full_for_clean settings st.head m.slot.tail) (file_after settings file m)
+
+  text-any_tree : (text : Result _ Fault) → and_then text (after_carried settings (with_tree st tree) file) ≡ retreed_by tree (and_then text (after_carried settings st file))
+  text-any_tree (Ok text) = carried-any_tree text
+  text-any_tree (Err fault) = refl
+
+  found-any_tree : (found : Result (List Found) Fault) → and_then found (after_clean_of settings (with_tree st tree) file) ≡ retreed_by tree (and_then found (after_clean_of settings st file))
+  found-any_tree (Ok found) = text-any_tree (unless_found (broken_in (frames_in found)) (clean_text st.head found))
+  found-any_tree (Err fault) = refl
+
+  unless-any_tree : (alone : Bool) (found : Result (List Found) Fault) → unless_alone alone (and_then found (after_clean_of settings (with_tree st tree) file))
+      ≡ retreed_by tree (unless_alone alone (and_then found (after_clean_of settings st file)))
+  unless-any_tree true found = refl
+  unless-any_tree false found = found-any_tree found
+
+  clean-any_tree : after_clean settings (with_tree st tree) file ≡ retreed_by tree (after_clean settings st file)
+  clean-any_tree = unless-any_tree (nat_eq st.head (last_segment settings st.tail)) (log settings file (slot_of st))
+
+  left-any_tree : (r : Result Stored Fault) → left_by (with_tree st tree, file) (answering of_clean (retreed_by tree r)) ≡ retreed tree (left_by (st, file) (answering of_clean r))
+  left-any_tree (Ok p) = refl
+  left-any_tree (Err fault) = refl
+
+  refused-any_tree : (r : Result Stored Fault) → refused_by (answering of_clean (retreed_by tree r)) ≡ refused_by (answering of_clean r)
+  refused-any_tree (Ok p) = refl
+  refused-any_tree (Err fault) = refl
+
+step_clean-any_tree : (settings : Settings) (at : Stored) (tree : Tree) → left_by_step settings (retreed tree at) (step_in Clean) ≡ retreed tree (left_by_step settings at (step_in Clean))
+step_clean-any_tree settings at tree =
+    ap (λ (r : Result Stored Fault). left_by (with_tree at.0 tree, at.1) (answering of_clean r)) (clean-any_tree settings at.0 tree at.1)
+    ∙ left-any_tree settings at.0 tree at.1 (after_clean settings at.0 at.1)
+
+step_clean-tree : (settings : Settings) (at : Stored) → (left_by_step settings at (step_in Clean)).0.tree ≡ at.0.tree
+step_clean-tree settings at = ap (λ (q : Stored). q.0.tree) (step_clean-any_tree settings at at.0.tree)
+
+-- so it makes no difference whether the store is tidied before or after it
+pub tidied-cleaned : (settings : Settings) (batches : Batches) (at : Stored)
+    → tidied settings batches (left_by_step settings at (step_in Clean)) ≡ left_by_step settings (tidied settings batches at) (step_in Clean)
+tidied-cleaned settings batches at =
+    let left : Stored = left_by_step settings at (step_in Clean) in
+    tidied-is settings batches left
+    ∙ ap (λ (t : Tree). retreed (tidied_tree settings batches t) left) (step_clean-tree settings at)
+    ∙ sym (step_clean-any_tree settings at (tidied_tree settings batches at.0.tree))
+    ∙ ap (λ (q : Stored). left_by_step settings q (step_in Clean)) (sym (tidied-is settings batches at))
+
+module _ (settings : Settings) (st : Store) (seen : Seen) where
+  after_clean-any_tree : (tree : Tree) → after_order settings (with_tree st tree) seen Clean ≡ retreed tree (after_order settings st seen Clean)
+  unfolding after_order
+  after_clean-any_tree tree = step_clean-any_tree settings (st, seen.bytes) tree
+
+  refusal_clean-any_tree : (tree : Tree) → refusal_of settings (with_tree st tree) seen Clean ≡ refusal_of settings st seen Clean
+  unfolding refusal_of
+  refusal_clean-any_tree tree =
+      ap (λ (r : Result Stored Fault). refused_by (answering of_clean r)) (clean-any_tree settings st tree seen.bytes)
+      ∙ refused-any_tree settings st tree seen.bytes (after_clean settings st seen.bytes)
+
+  keeps_tree : (after_order settings st seen Clean).0.tree ≡ st.tree
+  keeps_tree = ap (λ (at : Stored). at.0.tree) (after_clean-any_tree st.tree)
+
+-- what a clean of the tidied store prints and leaves, one of the store does, which is tidied then
+module _ (mode : Mode) (honest : Bool) (settings : Settings) (batches : Batches) (under st : Store) (are : IsTidiedBy settings batches under st) (left : List ℕ) (old new : Option (List ℕ))
+    (end : Result (Unit {0}) SessionError) (now : Store) (bytes : List ℕ) where
+  -- with the log of the store, and the tree of the tidied one
+  abbrev with_its_tree : Store
+  with_its_tree = with_tree under st.tree
+
+  leaves_under : (seen : Seen) → LeavesStored honest settings with_its_tree seen Clean now bytes → LeavesStored honest settings under seen Clean (after_order settings under seen Clean).0 bytes
+  leaves_under seen leaves = record {
+    unrefused = sym (refusal_clean-any_tree settings under seen st.tree) ∙ leaves.unrefused;
+    store = refl;
+    bytes = λ h. leaves.bytes h ∙ ap (λ (at : Stored). at.1) (after_clean-any_tree settings under seen st.tree);
+    holds = ap contents (keeps_tree settings under seen);
+  }
+
+  tidied_under : (seen : Seen) → LeavesStored honest settings with_its_tree seen Clean now bytes → IsTidiedBy settings batches (after_order settings under seen Clean).0 now
+  tidied_under seen leaves file =
+      let cleaned : Store = (after_order settings under seen Clean).0 in
+      let now_is : now ≡ with_tree cleaned st.tree = leaves.store ∙ ap (λ (at : Stored). at.0) (after_clean-any_tree settings under seen st.tree) in
+      tidied-is settings batches (cleaned, file)
+      ∙ ap (λ (t : Tree). retreed (tidied_tree settings batches t) (cleaned, file)) (keeps_tree settings under seen)
+      ∙ ap (λ (t : Tree). retreed t (cleaned, file)) (tree_by settings batches under st are)
+      ∙ ap (λ (s : Store). (let at : Stored = (s, file) in at)) (sym now_is)
+
+  by_its_tree : RunsOrder mode honest settings with_its_tree left Clean old new end now bytes
+      → (cleaned : Store) × RunsOrder mode honest settings under left Clean old new end cleaned bytes × OnOk end (IsTidiedBy settings batches cleaned now)
+  by_its_tree (seen, is, runs, leaves) =
+      let refused = sym (refusal_clean-any_tree settings under seen st.tree) in
+      let lines = ap (λ (at : Stored). shown_cleaned at.0.head ∷ []) (sym (after_clean-any_tree settings under seen st.tree)) in (
+        (after_order settings under seen Clean).0,
+        (seen, is, Runs-alike settings under with_its_tree seen seen Clean refused lines old new end runs, on_ok_weaker end (leaves_under seen) leaves),
+        on_ok_weaker end (tidied_under seen) leaves,
+      )
+
+  pub clean_under : RunsOrder mode honest settings st left Clean old new end now bytes
+      → (cleaned : Store) × RunsOrder mode honest settings under left Clean old new end cleaned bytes × OnOk end (IsTidiedBy settings batches cleaned now)
+  clean_under one =
+      by_its_tree (subst (λ (s : Store). RunsOrder mode honest settings s left Clean old new end now bytes) (under_its_tree settings batches under st are) one)

@@ -38,7 +38,7 @@ use Rattle.bwsh.specs.declared.session.SessionError.{SessionError}
 use Rattle.bwsh.specs.declared.session.SessionError.TheVariants.{Words, Bad, Device}
 use Rattle.bwsh.specs.declared.session.SessionError.TheVariants as errors
 use Rattle.bwsh.specs.declared.show.StoreNumbers.{StoreNumbers}
-use Rattle.bwsh.specs.BatchFile.{parse_text, first_bad, orders_of, streamed, with_numbers}
+use Rattle.bwsh.specs.BatchFile.{IsNoClean, parse_text, first_bad, orders_of, streamed, with_numbers}
 use Rattle.bwsh.specs.Line.{why_text}
 use Rattle.bwsh.specs.Options.{Text, Request, AsksFor, AsksForProgress, AsksForText, AsksToExplain, AreRefused, copy_of}
 use Rattle.bwsh.specs.Progress.{ProgressText, shown_message}
@@ -136,7 +136,8 @@ IsStart request start = MatchBool (is_crew request.crew) (IsStartBy request.sett
 abbrev pub Batches : Type 0
 Batches = List (List (Command Global))
 
--- what is seen at an order: what a read of the disk gives before it, and by which batches the store is tidied after it, where it is a flush
+-- What is seen at an order: what a read of the disk gives before it, and by which batches the store is tidied before it, if it is a flush. At a
+-- clean these are the batches that tidy the store before the flush for which the clean makes room.
 pub record Seen : Type 0 where
   pub bytes : Bytes
   pub tidying : Batches
@@ -196,18 +197,18 @@ abbrev pub tidied : Settings → Batches → Stored → Stored
 tidied settings [] at = at
 tidied settings (b ∷ bs) at = (with_tree at.0 (if_it_holds (tree_in_turn settings at.0.tree (b ∷ bs)) at.0.tree), at.1)
 
--- what it leaves after an order: after a flush the store is tidied, and after no other
-abbrev pub tidied_after : Order → Settings → Batches → Stored → Stored
-tidied_after Flush settings tidying at = tidied settings tidying at
-tidied_after _ settings tidying at = at
+-- what it leaves before an order: before a flush the store is tidied, and before no other order
+abbrev pub tidied_before : Order → Settings → Batches → Stored → Stored
+tidied_before Flush settings tidying at = tidied settings tidying at
+tidied_before _ settings tidying at = at
 
 -- what an order leaves of a store at which this is seen
 unfoldable pub after_order : Settings → Store → Seen → Order → Stored
-after_order settings st seen order = tidied_after order settings seen.tidying (left_by_step settings (st, seen.bytes) (step_in order))
+after_order settings st seen order = left_by_step settings (tidied_before order settings seen.tidying (st, seen.bytes)) (step_in order)
 
 -- why a store of these settings, at which this is seen, refuses the order by its right, if it does
 unfoldable pub refusal_of : Settings → Store → Seen → Order → Option Fault
-refusal_of settings st seen order = refusal_of_step settings (st, seen.bytes) (step_in order)
+refusal_of settings st seen order = refusal_of_step settings (tidied_before order settings seen.tidying (st, seen.bytes)) (step_in order)
 
 -- the map that an order leaves
 abbrev pub map_after : Pairs Bytes → Order → Pairs Bytes
@@ -291,7 +292,8 @@ abbrev pub is_nothing_to_clean : Option Fault → Bool
 is_nothing_to_clean (Some NothingToClean) = true
 is_nothing_to_clean _ = false
 
--- a flush of a store, at which this is seen, takes a clean in front of it: the log is full, and there is something to clean
+-- a flush of a store, at which this is seen, takes a clean in front of it: the log is full for the flush of the tidied store, and there is
+-- something to clean
 abbrev pub wants_clean : Settings → Store → Seen → Bool
 wants_clean settings st seen = is_full (refusal_of settings st seen Flush) && not (is_nothing_to_clean (refusal_of settings st seen Clean))
 
@@ -337,13 +339,24 @@ AreUntidied shown = (i : ℕ) → (shown i).tidying ≡ []
 abbrev pub AreTidiedAlike : Reads → Reads → Type 0
 AreTidiedAlike shown other = (i : ℕ) → (shown i).tidying ≡ (other i).tidying
 
--- a store is tidied only where that is asked for
-abbrev pub TidiesBy : Mode → Reads → Type 0
-TidiesBy mode shown = mode.tidy ≡ 0 → AreUntidied shown
+-- a flush and the cleans that make room for it are of a store that is tidied once: at a clean the same batches are seen as at the next order
+abbrev pub AreTidiedOnce : Reads → List Order → Type 0
+AreTidiedOnce shown [] = ⊤
+AreTidiedOnce shown (order ∷ rest) = (IsNoClean order ⊎ ((shown 0).tidying ≡ (later shown 0).tidying)) × AreTidiedOnce (later shown) rest
+
+-- a store is tidied only where that is asked for, and once for each flush
+abbrev pub TidiesBy : Mode → Reads → List Order → Type 0
+TidiesBy mode shown orders = (mode.tidy ≡ 0 → AreUntidied shown) × AreTidiedOnce shown orders
+
+-- a store becomes another one by some batches that tidy it: by none, where at most 0 leaves may be merged
+pub record TidiesTo (most : ℕ) (settings : Settings) (old now : Store) : Type 0 where
+  pub batches : Batches
+  pub unasked : most ≡ 0 → batches ≡ []
+  pub leaves : (file : Bytes) → tidied settings batches (old, file) ≡ (now, file)
 
 -- this can be seen at each of these orders, where the words give this: the disk shows in memory what was left, in a file anything
 abbrev pub IsShown : Request → Start → Reads → List Order → Type 0
-IsShown request start shown orders = TidiesBy request.mode shown × (request.disk ≡ None → AreLeftFrom start shown orders)
+IsShown request start shown orders = TidiesBy request.mode shown orders × (request.disk ≡ None → AreLeftFrom start shown orders)
 
 -- whether all is done, whatever else is returned then
 abbrev pub without_value : {X : Type 0} → Result X SessionError → Result (Unit {0}) SessionError
@@ -516,7 +529,7 @@ Runs settings st shown orders old new end =
 
 -- this can be seen at each of these orders, in such ways: the disk shows, if it is honest, what was left, and these bytes before the first
 abbrev pub AreSeen : Mode → Bool → Settings → Store → Bytes → Reads → List Order → Type 0
-AreSeen mode honest settings st left shown orders = TidiesBy mode shown × (IsTrue honest → AreLeft settings st left shown orders)
+AreSeen mode honest settings st left shown orders = TidiesBy mode shown orders × (IsTrue honest → AreLeft settings st left shown orders)
 
 -- so it is in such ways, in which flushes make themselves room or don't, where some such reads are seen at each order that is run
 abbrev pub RunsOn : Mode → Bool → Settings → Store → Bytes → List Order → Option Bytes → Option Bytes → Result (Unit {0}) SessionError → Type 0
@@ -569,7 +582,8 @@ stream_ended (Err early) = Err early
 unfoldable pub StreamsFrom : Mode → Option Settings → Type 0 → Start → Option Bytes → Option Bytes → Option Bytes → Result (Unit {0}) SessionError → Type 0
 StreamsFrom mode copy IsHonest start known old new end =
     (parsed : List Line) × IfSome known (λ text. parsed ≡ parse_text text) × (shown : Reads)
-    × (TidiesBy mode shown × (IsHonest → AreLeftFrom start shown (run_from mode.clean_when_full start shown (streamed mode.stat [] parsed))))
+    × (TidiesBy mode shown (run_from mode.clean_when_full start shown (streamed mode.stat [] parsed))
+    × (IsHonest → AreLeftFrom start shown (run_from mode.clean_when_full start shown (streamed mode.stat [] parsed))))
     × PrintsCopied copy (map_left_from start (streamed mode.stat [] parsed)) old new
     (lines_after None start shown (run_from mode.clean_when_full start shown (streamed mode.stat [] parsed)))
     (end_streamed (first_bad 1 parsed) start shown (run_from mode.clean_when_full start shown (streamed mode.stat [] parsed))) end
@@ -579,7 +593,8 @@ StreamsFrom mode copy IsHonest start known old new end =
 -- copy under some settings, if there is to be one.
 unfoldable pub RunsFrom : Mode → Option Settings → Type 0 → Start → List Order → Option Bytes → Option Bytes → Result (Unit {0}) SessionError → Type 0
 RunsFrom mode copy IsHonest start orders old new end =
-    (shown : Reads) × (TidiesBy mode shown × (IsHonest → AreLeftFrom start shown (run_from mode.clean_when_full start shown orders)))
+    (shown : Reads) × (TidiesBy mode shown (run_from mode.clean_when_full start shown orders)
+    × (IsHonest → AreLeftFrom start shown (run_from mode.clean_when_full start shown orders)))
     × PrintsCopied copy (map_left_from start orders) old new
     (lines_after None start shown (run_from mode.clean_when_full start shown orders))
     (end_after None start shown (run_from mode.clean_when_full start shown orders)) end

@@ -145,7 +145,7 @@ pub fn cleans_alone_are_put_among_orders()
 {}
 
 /// Tidying changes no reply, no pair, no byte of the disk and nothing in the log. `Store::tidy`
-/// leaves the result of `tidied` for some batches.
+/// leaves the result of `tidied` for some batches. A clean may come before or after it.
 pub fn tidying_changes_no_replies()
     ensures replies { (settings : Settings) → (st : Store) → (shown : Reads) → (m : Pairs Bytes) →
         (front : List Order) → (commands : List (Command Global)) → (rest : List Order) →
@@ -161,6 +161,9 @@ pub fn tidying_changes_no_replies()
     ensures tidies { (settings : Settings) → (st now : Store) → IsTidied settings st now →
         (batches : Batches) × ((file : Bytes) →
         tidied settings batches (st, file) ≡ (now, file)) }
+    ensures cleans { (settings : Settings) → (batches : Batches) → (at : Stored) →
+        tidied settings batches (left_by_step settings at (step_in Clean))
+        ≡ left_by_step settings (tidied settings batches at) (step_in Clean) }
     ensures untidied { (settings : Settings) → (st : Store) → (file : Bytes) → (order : Order) →
         after_order settings st (untidied file) order
         ≡ left_by_step settings (st, file) (step_in order) }

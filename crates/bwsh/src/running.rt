@@ -5,10 +5,11 @@ ghost use Rattle.std.specs.Option.{option_map};
 ghost use Rattle.crew.specs.Crew.{is_crew};
 ghost use Rattle.keys.specs.Limits.{first_bad_field};
 ghost use Rattle.mapping.specs.Levels.{contents};
+ghost use Rattle.mapping.specs.Tree as mapped;
 ghost use Rattle.engine.specs.Plays.{step_of};
 ghost use Rattle.engine.specs.Tidied.{IsTidied};
 ghost use Rattle.verify.specs.Report.{report};
-ghost use Rattle.bwsh.specs.Session.{RunsOn, RunsFirst, RunsOrder, RunsFrom, Shows, Start, Opens, IsHonestStore, map_after, map_left, step_in, numbers_of};
+ghost use Rattle.bwsh.specs.Session.{RunsOn, RunsFirst, RunsOrder, RunsFrom, Shows, Start, Opens, IsHonestStore, TidiesTo, map_after, map_left, step_in, numbers_of};
 
 use crate::batch::Batch;
 use crate::batch_file::Order;
@@ -78,8 +79,8 @@ pub(crate) fn run_step<R: Threads + Sync, D: Disk, O: Write>(
     }
 }
 
-// Tidies the store. It holds the same pairs even after a fault. Only a failed allocation ends the
-// session; after any other fault the next flush proceeds.
+// Tidies the store. It holds the same pairs even after a fault. Only a failed allocation is
+// returned, since the flush proceeds after any other fault.
 fn tidy_store<R: Threads + Sync, D: Disk>(
     rt: &R,
     crew: Crew,
@@ -99,8 +100,27 @@ fn tidy_store<R: Threads + Sync, D: Disk>(
     }
 }
 
-// Flushes the store. With `--tidy`, `out` is flushed, so that the answer is visible, before the
-// store is tidied.
+// With `--tidy`, tidies the store before a flush, which then writes the merged leaves.
+fn tidy_before_flush<R: Threads + Sync, D: Disk>(
+    rt: &R,
+    crew: Crew,
+    mode: Mode,
+    store: &mut Store<D>,
+) -> Result<(), SessionError>
+    requires crew { IsTrue (is_crew crew) }
+    requires fine { store.old.has_failed ≡ false }
+    ensures tidied { TidiesTo mode.tidy store.old.settings store.old.store store.new.store }
+    ensures end { (result ≡ Ok tt) ⊎ (result ≡ Err (SessionError.Fault Fault.NoMemory)) }
+    ensures rest { (store.new.settings ≡ store.old.settings) × (store.new.disk ≡ store.old.disk)
+        × (store.new.has_failed ≡ store.old.has_failed) }
+{
+    if mode.tidy == 0 {
+        return Ok(());
+    }
+    tidy_store(rt, crew, mode.tidy, store)
+}
+
+// Flushes the store. An allocation that fails in tidying ends the session only after the flush.
 fn run_flush<R: Threads + Sync, D: Disk, O: Write>(
     rt: &R,
     crew: Crew,
@@ -117,17 +137,10 @@ fn run_flush<R: Threads + Sync, D: Disk, O: Write>(
     ensures settings { store.new.settings ≡ store.old.settings }
     ensures honest { (D.view store.new.disk).is_honest ≡ (D.view store.old.disk).is_honest }
     ensures failed { OnOk result (store.new.has_failed ≡ store.old.has_failed) }
-    ensures full { result ≡ Err (SessionError.Fault Fault.Full) →
-        (store.new.store ≡ store.old.store) × (store.new.has_failed ≡ store.old.has_failed)
-        × (IsTrue (D.view store.old.disk).is_honest →
-        (D.view store.new.disk).seen ≡ (D.view store.old.disk).seen) }
 {
+    let tidied = tidy_before_flush(rt, crew, mode, store);
     run_step(rt, crew, store, Step::Flush, lines, out)?;
-    if mode.tidy == 0 {
-        return Ok(());
-    }
-    flush(Ok(()), out)?;
-    tidy_store(rt, crew, mode.tidy, store)
+    tidied
 }
 
 fn is_full(done: &Result<(), SessionError>) -> bool
@@ -152,8 +165,44 @@ fn full_if_nothing_to_clean(refused: SessionError) -> SessionError
     }
 }
 
-// Flushes the store. While the log is full, cleans a segment and flushes again, at most `segments`
-// times.
+// Flushes a store that was tidied for this flush. While the log is full, cleans a segment and
+// flushes again, at most `segments` times.
+fn flush_or_clean<R: Threads + Sync, D: Disk, O: Write>(
+    rt: &R,
+    crew: Crew,
+    store: &mut Store<D>,
+    lines: &mut Vec<u8>,
+    out: &mut O,
+) -> Result<(), SessionError>
+    requires crew { IsTrue (is_crew crew) }
+    requires fine { store.old.has_failed ≡ false }
+    ensures runs { (mode : Mode) → mode.clean_when_full ≡ true → (first : mapped.Store) →
+        TidiesTo mode.tidy store.old.settings first store.old.store →
+        RunsFirst mode (D.view store.old.disk).is_honest
+        store.old.settings first (D.view store.old.disk).seen (Order.Flush ∷ [])
+        (O.contents out.old) (O.contents out.new) result store.new.store
+        (D.view store.new.disk).seen }
+    ensures settings { store.new.settings ≡ store.old.settings }
+    ensures honest { (D.view store.new.disk).is_honest ≡ (D.view store.old.disk).is_honest }
+    ensures failed { OnOk result (store.new.has_failed ≡ store.old.has_failed) }
+    ensures holds { OnOk result
+        (contents store.new.store.tree ≡ contents store.old.store.tree) }
+{
+    let mut left = store.settings().segments;
+    'room: loop {
+        let done = run_step(rt, crew, store, Step::Flush, lines, out);
+        if left == 0 || !is_full(&done) {
+            return done;
+        }
+        if let Err(refused) = run_step(rt, crew, store, Step::Clean, lines, out) {
+            return Err(full_if_nothing_to_clean(refused));
+        }
+        left -= 1;
+    }
+}
+
+// Flushes the store, with cleans that make room for the flush. The store is tidied once, and an
+// allocation that fails in tidying ends the session only after the flush.
 fn run_flush_with_room<R: AllocGlobal + Threads + Sync, D: Disk, O: Write>(
     rt: &R,
     crew: Crew,
@@ -174,17 +223,9 @@ fn run_flush_with_room<R: AllocGlobal + Threads + Sync, D: Disk, O: Write>(
     ensures holds { OnOk result
         (contents store.new.store.tree ≡ contents store.old.store.tree) }
 {
-    let mut left = store.settings().segments;
-    'room: loop {
-        let done = run_flush(rt, crew, mode, store, lines, out);
-        if left == 0 || !is_full(&done) {
-            return done;
-        }
-        if let Err(refused) = run_step(rt, crew, store, Step::Clean, lines, out) {
-            return Err(full_if_nothing_to_clean(refused));
-        }
-        left -= 1;
-    }
+    let tidied = tidy_before_flush(rt, crew, mode, store);
+    flush_or_clean(rt, crew, store, lines, out)?;
+    tidied
 }
 
 fn run_batch<R: AllocGlobal + Threads + Sync, D: Disk, O: Write>(

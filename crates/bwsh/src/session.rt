@@ -471,7 +471,7 @@ where
     // (batches, flushes and the like) run on a new store, or, for an existing file, on a store that
     // some bytes encode: no clause says that these are the bytes of the file. A clean depends on
     // what the disk returns, which in memory is what was written last.
-    // `--tidy` runs some batches, which change no pairs, after each flush.
+    // `--tidy` runs some batches, which change no pairs, before each flush.
     ensures done { result ≡ 0 →
         AsksForText (map string_bytes words.now)
         ⊎ ((request : Request) × AsksFor (map string_bytes words.now) request

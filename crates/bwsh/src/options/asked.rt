@@ -31,7 +31,7 @@ pub struct Mode {
     pub clean_when_full: bool,
     /// Read line by line, and answer each batch before reading on.
     pub stream: bool,
-    /// After each flush, merge up to this many leaves with fewer than `fan / 4` pairs into their
+    /// Before each flush, merge up to this many leaves with fewer than `fan / 4` pairs into their
     /// neighbours.
     pub tidy: u32,
     /// Show progress on standard error.

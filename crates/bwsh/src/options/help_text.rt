@@ -20,7 +20,7 @@ pub const WORKERS: &str = "Threads that work on a batch, 1 to 64";
 
 pub const GRAIN: &str = "Pages that a thread claims at a time, 1 to 65535";
 
-pub const TIDY: &str = "Pages with few pairs to merge after each flush, at most";
+pub const TIDY: &str = "Pages with few pairs to merge before each flush, at most";
 
 pub const DISK: &str = "File of the store; without it the store is in memory, and is lost at exit";
 

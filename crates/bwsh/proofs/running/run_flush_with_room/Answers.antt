@@ -1,75 +1,40 @@
-use Rattle.std.proofs.Common.{◌≡◌, ◌≢◌, ◌⊎◌, ◌∙◌, ap, inl, inr, refl, Err}
-use Rattle.std.proofs.lemmas.Result.{on_ok_weaker}
-use Rattle.mapping.specs.Levels.{contents}
-use Rattle.mapping.specs.Tree.{Store}
-use Rattle.keys.specs.declared.fault.Fault.TheVariants.{Full}
-use Rattle.bwsh.specs.declared.batch_file.Order.TheVariants.{Clean}
-use Rattle.bwsh.specs.declared.session.SessionError.TheVariants as errors
-use Rattle.bwsh.proofs.RoomLemmas.{as_roomy, Room-ends, Room-cleaned, Room-refused}
+use Rattle.std.proofs.Common.{◌∙◌, [], ◌∷◌, Ok, Err, ap}
+use Rattle.std.proofs.lemmas.Result.{err_from_is_err_and}
+use Rattle.bwsh.specs.declared.batch_file.Order.TheVariants.{Flush}
+use Rattle.bwsh.proofs.FirstLemmas.{RunsFirst-late}
+use Rattle.bwsh.proofs.RoomLemmas.{room_tidied}
+use Rattle.bwsh.proofs.RunLemmas.{OnOk-always}
+use Rattle.bwsh.proofs.TidiedLemmas.{held_by}
 use Rattle.bwsh.proofs.running.run_flush_with_room.Goals as goal
-use Rattle.bwsh.proofs.running.run_flush_with_room.Goals.{then-left-eq0-via-then-left-eq0, then-left-eq0-via-else-left-eq0+then-not-is_full}
 
-pub returns-then-left-eq0-clause-runs : goal.returns-then-left-eq0-clause-runs
-returns-then-left-eq0-clause-runs g c room =
+pub returns-in_err-flush_or_clean-clause-runs : goal.returns-in_err-flush_or_clean-clause-runs
+returns-in_err-flush_or_clean-clause-runs g c room =
+    let store = c.args.store.now in
+    let ready = c.tidy_before_flush-tidied.new.store in
+    let tidied = c.tidy_before_flush-tidied.ensures in
+    let after = c.flush_or_clean.new.store in
+    let p = err_from_is_err_and c.from_residual.result c.from_residual.ensures.1 in
+    rw (p.1, p.2) (room_tidied c.args.mode room (g.D.Disk.view ready.disk).is_honest (g.D.Disk.view store.disk).is_honest (ap (λ d. (g.D.Disk.view d).is_honest) tidied.rest.1)
+    ready.settings store.settings tidied.rest.0 (g.D.Disk.view ready.disk).seen (g.D.Disk.view store.disk).seen (ap (λ d. (g.D.Disk.view d).seen) tidied.rest.1)
+    store.store ready.store tidied.tidied (g.O.Write.contents c.args.out.now) (g.O.Write.contents c.flush_or_clean.new.out) (Err c.in_err-flush_or_clean.field-0.0) after.store
+    (g.D.Disk.view after.disk).seen c.in_err-flush_or_clean.ensures.runs)
+
+pub returns-clause-runs : goal.returns-clause-runs
+returns-clause-runs g c room =
     let store = c.args.store.now in
     let disk = g.D.Disk.view store.disk in
-    let at = c.room in
-    let now = g.D.Disk.view at.store.disk in
-    let tried = c.run_flush-done.new.store in
-    let why : (at.left ≡ 0) ⊎ (c.run_flush-done.result ≢ Err (errors.Fault Full)) = elim c.then-left-eq0.branch [
-      | then-left-eq0-via-then-left-eq0 w ↦ inl w.if-left-eq0.true
-      | then-left-eq0-via-else-left-eq0+then-not-is_full w ↦ inr (w.is_full.ensures.other w.if-not-is_full.true)
-    ] in
-    as_roomy c.args.mode room disk.is_honest store.settings store.store disk.seen (g.O.Write.contents c.args.out.now) (g.O.Write.contents c.run_flush-done.new.out) c.run_flush-done.result tried.store
-    (g.D.Disk.view tried.disk).seen
-    (Room-ends c.args.mode disk.is_honest store.settings store.store disk.seen (g.O.Write.contents c.args.out.now) at.left at.store.store now.seen (g.O.Write.contents at.out) at.invariant.leads
-    now.is_honest at.invariant.honest at.store.settings at.invariant.settings (g.O.Write.contents c.run_flush-done.new.out) c.run_flush-done.result tried.store (g.D.Disk.view tried.disk).seen
-    c.run_flush-done.ensures.runs why)
+    let ready = c.tidy_before_flush-tidied.new.store in
+    let tidied = c.tidy_before_flush-tidied.ensures in
+    let after = c.flush_or_clean.new.store in
+    RunsFirst-late c.args.mode disk.is_honest store.settings store.store disk.seen (Flush ∷ []) (g.O.Write.contents c.args.out.now) (g.O.Write.contents c.flush_or_clean.new.out) tt
+    c.tidy_before_flush-tidied.result after.store (g.D.Disk.view after.disk).seen
+    (room_tidied c.args.mode room (g.D.Disk.view ready.disk).is_honest disk.is_honest (ap (λ d. (g.D.Disk.view d).is_honest) tidied.rest.1)
+    ready.settings store.settings tidied.rest.0 (g.D.Disk.view ready.disk).seen disk.seen (ap (λ d. (g.D.Disk.view d).seen) tidied.rest.1)
+    store.store ready.store tidied.tidied (g.O.Write.contents c.args.out.now) (g.O.Write.contents c.flush_or_clean.new.out) (Ok tt) after.store
+    (g.D.Disk.view after.disk).seen c.in_ok-flush_or_clean.ensures.runs) tidied.end
 
-pub returns-then-left-eq0-clause-holds : goal.returns-then-left-eq0-clause-holds
-returns-then-left-eq0-clause-holds g c =
-    on_ok_weaker c.run_flush-done.result (λ leaves. leaves.holds ∙ c.room.invariant.holds) c.run_flush-done.ensures.runs.3
-
-pub returns-in-Err-clause-runs : goal.returns-in-Err-clause-runs
-returns-in-Err-clause-runs g c room =
-    let store = c.args.store.now in
-    let disk = g.D.Disk.view store.disk in
-    let at = c.room in
-    let now = g.D.Disk.view at.store.disk in
-    let tried = c.run_flush-done.new.store in
-    let shows = g.D.Disk.view tried.disk in
-    let flushed = c.run_flush-done.ensures in
-    let full = c.is_full.ensures.full c.if-not-is_full.false in
-    let kept = flushed.full full in
-    let after = c.run_step.new.store in
-    as_roomy c.args.mode room disk.is_honest store.settings store.store disk.seen (g.O.Write.contents c.args.out.now) (g.O.Write.contents c.run_step.new.out) (Err c.full_if_nothing_to_clean.result) after.store
-    (g.D.Disk.view after.disk).seen
-    (Room-refused c.args.mode disk.is_honest store.settings store.store disk.seen (g.O.Write.contents c.args.out.now) at.left at.store.store now.seen (g.O.Write.contents at.out) at.invariant.leads
-    now.is_honest at.invariant.honest at.store.settings at.invariant.settings (g.O.Write.contents c.run_flush-done.new.out) c.run_flush-done.result tried.store shows.seen
-    flushed.runs c.if-left-eq0.false full kept.0 kept.2 shows.is_honest flushed.honest tried.settings flushed.settings
-    (g.O.Write.contents c.run_step.new.out) _ after.store (g.D.Disk.view after.disk).seen (c.in-Err.ensures.runs c.args.mode Clean refl) c.in-Err.refused c.full_if_nothing_to_clean.result refl c.full_if_nothing_to_clean.ensures)
-
-pub room-preserved-in_default-3 : goal.room-preserved-in_default-3
-room-preserved-in_default-3 g c =
-    let store = c.args.store.now in
-    let disk = g.D.Disk.view store.disk in
-    let at = c.room in
-    let now = g.D.Disk.view at.store.disk in
-    let tried = c.run_flush-done.new.store in
-    let shows = g.D.Disk.view tried.disk in
-    let flushed = c.run_flush-done.ensures in
-    let full = c.is_full.ensures.full c.if-not-is_full.false in
-    let kept = flushed.full full in
-    let after = c.run_step.new.store in
-    let cleaned = c.in_default.ensures in
-    record {
-      settings = cleaned.settings ∙ (flushed.settings ∙ at.invariant.settings);
-      honest = cleaned.honest ∙ (flushed.honest ∙ at.invariant.honest);
-      fine = cleaned.failed ∙ (kept.1 ∙ at.invariant.fine);
-      same = at.invariant.same;
-      holds = (cleaned.runs c.args.mode Clean refl).3.holds ∙ (ap (λ (s : Store). contents s.tree) kept.0 ∙ at.invariant.holds);
-      leads = Room-cleaned c.args.mode disk.is_honest store.settings store.store disk.seen (g.O.Write.contents c.args.out.now) at.left at.store.store now.seen (g.O.Write.contents at.out) at.invariant.leads
-          now.is_honest at.invariant.honest at.store.settings at.invariant.settings (g.O.Write.contents c.run_flush-done.new.out) c.run_flush-done.result tried.store shows.seen
-          flushed.runs c.if-left-eq0.false full kept.0 kept.2 shows.is_honest flushed.honest tried.settings flushed.settings
-          (g.O.Write.contents c.run_step.new.out) _ after.store (g.D.Disk.view after.disk).seen (cleaned.runs c.args.mode Clean refl) c.in_default.field-0 refl;
-    }
+pub returns-clause-holds : goal.returns-clause-holds
+returns-clause-holds g c =
+    let by = c.tidy_before_flush-tidied.ensures.tidied in
+    OnOk-always c.tidy_before_flush-tidied.result
+    (c.in_ok-flush_or_clean.ensures.holds ∙ held_by c.args.store.now.settings by.batches c.args.store.now.store c.tidy_before_flush-tidied.new.store.store by.leaves)

@@ -1,7 +1,7 @@
 use Rattle.std.proofs.Common.{◌≡◌, false}
 use Rattle.mapping.specs.Levels.{contents}
-use Rattle.bwsh.proofs.RoomLemmas.{LeadsRoom}
-use Rattle.bwsh.proofs.running.run_flush_with_room.Given as goal
+use Rattle.bwsh.proofs.RoomLemmas.{LeadsEach}
+use Rattle.bwsh.proofs.running.flush_or_clean.Given as goal
 
 -- what a flush prints of the store that is there, with as many cleans in front of it at most as are left, is, after what was printed, what this one prints
 abbrev pub invariant-room : goal.invariant-room
@@ -11,7 +11,7 @@ invariant-room g l = record {
   fine : l.store.has_failed ≡ false;
   same : l.fn.store.has_failed ≡ false;
   holds : contents l.store.store.tree ≡ contents l.fn.store.store.tree;
-  leads : LeadsRoom l.fn.mode (g.D.Disk.view l.fn.store.disk).is_honest l.fn.store.settings l.fn.store.store (g.D.Disk.view l.fn.store.disk).seen (g.O.Write.contents l.fn.out)
+  leads : LeadsEach (g.D.Disk.view l.fn.store.disk).is_honest l.fn.store.settings l.fn.store.store (g.D.Disk.view l.fn.store.disk).seen (g.O.Write.contents l.fn.out)
       l.left l.store.store (g.D.Disk.view l.store.disk).seen (g.O.Write.contents l.out);
 }
 
