@@ -2,6 +2,7 @@ pub mod Batch
 pub mod Batches
 pub mod Calls
 pub mod Cleaning
+pub mod Cleans
 pub mod Copies
 pub mod FileStore
 pub mod Late
@@ -11,6 +12,7 @@ pub mod OnlyRoute
 pub mod Opened
 pub mod Pending
 pub mod Plays
+pub mod Readings
 pub mod Refusal
 pub mod SoundTree
 pub mod State
