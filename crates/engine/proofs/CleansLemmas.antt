@@ -16,7 +16,7 @@ use Rattle.engine.specs.Plays.{IsStepDone, answer_of}
 use Rattle.engine.specs.State.{State, IsSound}
 use Rattle.engine.specs.Steps.{Step, Answer, Stepped}
 use Rattle.engine.specs.Steps.Step.{Clean}
-use Rattle.engine.specs.Steps.Answer as answers
+use Rattle.engine.specs.Steps.Answer.{Cleaned as said_cleaned}
 use Rattle.engine.specs.declared.step.Answer as code_answer
 use Rattle.engine.specs.declared.step.Answer.TheVariants as answered
 use Rattle.engine.specs.declared.step.Step.TheVariants as called
@@ -45,8 +45,8 @@ same_left a b p q h =
 -- a clean leaves the tree as it is
 clean_tree : (honest : Bool) (s : Settings) (st : Store) (seen : List ℕ) (a : code_answer.Answer) (now : Store) (bytes : List ℕ) → IsStepDone honest s st seen Clean a now bytes → now.tree ≡ st.tree
 clean_tree honest s st seen a now bytes done =
-    let (p, was, is) = ok-then (after_clean s st done.file) (λ (p : Left). ok_step (answers.Cleaned p.0.head) p) (answer_of a, (now, bytes)) done.done in
-    (cleaned-store s st now done.file bytes (was ∙ ap ok_left (same_left (answers.Cleaned p.0.head) (answer_of a) p (now, bytes) is))).0
+    let (p, was, is) = ok-then (after_clean s st done.file) (λ (p : Left). ok_step (said_cleaned p.0.head) p) (answer_of a, (now, bytes)) done.done in
+    (cleaned-store s st now done.file bytes (was ∙ ap ok_left (same_left (said_cleaned p.0.head) (answer_of a) p (now, bytes) is))).0
 
 -- ---- so far
 
@@ -82,6 +82,7 @@ module _ {D : Type 0} (view : D → View) (failures : D → ℕ) (lawful : (disk
       played = still_said view failures lawful old (cleans count) done.said cur done.turn next r.store;
       exact = still_exact view failures lawful old (cleans count) done.said cur done.turn next r.store;
       tree = ap (λ (x : Store). x.tree) r.store ∙ done.tree;
+      sound = r.sound;
       rest = (r.rest.0 ∙ done.turn.settings, kept_then (view old.disk) (view cur.disk) (view next.disk) done.turn.kept r.rest.1);
       turn = λ other. stays view failures lawful old (cleans count) done.said cur done.turn next r.rest r.store (r.counted other) (λ honest. r.same honest other) r.sound;
       device = r.device;
@@ -139,3 +140,7 @@ some_done (Err reported) done fault P h p = tt
 pub some_stopped : (r : Result ℕ Fault) (done : ℕ) (fault : Fault) (P : Fault → Type 0) → IsAfterSome done fault r → ((done ≡ 0) ⊎ (fault ≡ Device) → P fault) → IfErr r P
 some_stopped (Ok n) done fault P h p = tt
 some_stopped (Err reported) done fault P (same, why) p = subst P (sym same) (p why)
+
+pub either : {X S : Type 0} (r : Result X Fault) (P : X → Type 0) (Q : Fault → Type 0) → IfOk r P → IfErr r Q → ((x : X) → P x → S) → ((fault : Fault) → Q fault → S) → S
+either (Ok x) P Q p q done stopped = done x p
+either (Err fault) P Q p q done stopped = stopped fault q

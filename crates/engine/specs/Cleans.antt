@@ -33,6 +33,7 @@ pub record AreStopped {D : Type 0} (view : D → View) (failures : D → ℕ) (o
   pub played : IsPlayed (view old.disk).is_honest old.settings old.store (view old.disk).seen (cleans count) said now.store
   pub exact : IsTrue (view old.disk).is_honest → IsPlayedOn old.settings old.store (view old.disk).seen (cleans count) said now.store
   pub tree : now.store.tree ≡ old.store.tree
+  pub sound : IsSound view now
   pub rest : (now.settings ≡ old.settings) × Kept (view old.disk) (view now.disk)
   -- all that is promised of these, unless a call of the disk failed; then the store has failed
   pub turn : fault ≢ Device → IsTurn view failures old (cleans count) said now

@@ -1,5 +1,5 @@
 -- STUB: what one reading of a log holds, which crate cleaner will say.
-use Rattle.std.specs.Prelude.{◌≡◌, ℕ, List}
+use Rattle.std.specs.Prelude.{◌≡◌, ℕ}
 use Rattle.keys.specs.Bytes.{Bytes}
 use Rattle.frame_codec.specs.declared.format.Format.{Format}
 use Rattle.flush_log.specs.Disk.{View}
@@ -8,7 +8,6 @@ use Rattle.recovery.specs.Recovered.{IsReadOf}
 
 pub record PagesRead : Type 0 where
   pub limit : ℕ
-  pub pages : ℕ → List Bytes
 
 pub record IsReading (g : Format) (e : LogEnds) (file : Bytes) (r : PagesRead) : Type 0 where
   pub some : r.limit ≡ r.limit

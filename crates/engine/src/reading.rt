@@ -29,12 +29,11 @@ pub struct Reading {
 }
 
 impl Model for Reading {
-    ghost use Rattle.std.specs.Prelude.{[]};
     ghost use Rattle.engine.specs.Readings.{PagesRead};
 
     ghost Value = { PagesRead };
 
-    ghost view = { λ r. record { limit = r.limit; pages = λ n. [] } };
+    ghost view = { λ r. record { limit = r.limit } };
 }
 
 impl Reading {

@@ -1,5 +1,5 @@
 //! Many cleans in turn, by one reading of the log.
-ghost use Rattle.std.specs.Prelude.{◌≡◌, ◌≢◌, ◌⊎◌, ◌<◌, ◌≤◌, Ok, Err, IsTrue, IfOk, IfErr, MatchResult, true, false};
+ghost use Rattle.std.specs.Prelude.{◌≡◌, ◌≢◌, ◌⊎◌, ℕ, ◌<◌, ◌≤◌, Ok, Err, IsTrue, IfOk, IfErr, MatchResult, true, false};
 ghost use Rattle.engine.specs.Cleans.{AreCleaned, AreStopped, IsReadFor, IsOnlyRead, IsDoneClean, IsRefusedClean, IsCleanedOn, IsStoppedOn};
 ghost use Rattle.engine.specs.Refusal.{is_crew};
 ghost use Rattle.engine.specs.State.{IsSound};

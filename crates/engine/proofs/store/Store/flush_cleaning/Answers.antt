@@ -54,7 +54,24 @@ returns-in-Err-clean_ahead-clause-refused g c fine able =
     n c.in-Err-clean_ahead.fault c.want_of_room.result (omega (arith, less, same)) (omega (arith, less, all, same)) c.want_of_room.ensures first_or (stopped old count mid.done)
 
 pub clean_ahead-requires-clause-fine : goal.clean_ahead-requires-clause-fine
-clean_ahead-requires-clause-fine g c = ?
+clean_ahead-requires-clause-fine g c = λ κs within.
+    let old = c.args.self.now in
+    let (count, all, done) = c.room.invariant in
+    let fine : old.has_failed ≡ false = subst (λ x. x.has_failed ≡ false) c.self.view_is c.if-self.false in
+    let (full, more, other) = gone_on c.in-Err.fault c.room.left c.in_ok-go_on-in-Err.ensures in
+    (c.in-Err.ensures.fine other).0 ∙ done.done.turn.has_failed ∙ fine
+
+pub returns-in-Err-clean_ahead-clause-sound : goal.returns-in-Err-clean_ahead-clause-sound
+returns-in-Err-clean_ahead-clause-sound g c =
+    let old = c.args.self.now in
+    let view = g.D.Disk.view in
+    let failed = g.D.Disk.failed in
+    let (count, all, done) = c.room.invariant in
+    let err = c.in-Err.ensures in
+    let (full, more, other) = gone_on c.in-Err.fault c.room.left c.in_ok-go_on-in-Err.ensures in
+    let mid = still_done view failed g.met.D.Disk.lawful old count c.room.self done c.step.new.self err.unchanged err.rest err.sound.1 (err.fine other) (λ h. err.same h other) in
+    let (n, less, first_or, stopped) = c.in-Err-clean_ahead.ensures.stopped in
+    (rw (← c.self.view_is) c.self.invariant.sound, (stopped old count mid.done).sound)
 
 pub room-preserved : goal.room-preserved
 room-preserved g c =

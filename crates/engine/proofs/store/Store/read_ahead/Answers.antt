@@ -17,7 +17,7 @@ invariant_of-self g c =
     let st = store_in c.self.inside.tree c.self.inside.log c.self.inside.version in
     record {
       home = c.self.invariant.home;
-      sound = (only_read g.D.Disk.view g.D.Disk.failed c.self.inside.settings st c.self.inside.disk c.self.inside.has_failed c.self.invariant.sound (rw c.self.view_is c.requires.fine) c.read_for_cleans.new.disk
+      sound = (only_read g.D.Disk.view g.D.Disk.failed c.self.inside.settings st c.self.inside.disk c.self.inside.has_failed c.self.invariant.sound (subst (λ x. x.has_failed ≡ false) (sym c.self.view_is) c.requires.fine) c.read_for_cleans.new.disk
           c.read_for_cleans.ensures.kept c.in-Ok.ensures.counted c.read_for_cleans.ensures.same).sound;
     }
 
@@ -28,7 +28,7 @@ returns-in-Ok-clause-read g c = rw (← c.self.view_is) (
     let new = c.read_for_cleans.new.disk in
     let some = c.requires.some in
     let limit = c.in-Ok.ensures.limit in (
-      only_read g.D.Disk.view g.D.Disk.failed s st c.self.inside.disk c.self.inside.has_failed c.self.invariant.sound (rw c.self.view_is c.requires.fine) new c.read_for_cleans.ensures.kept c.in-Ok.ensures.counted c.read_for_cleans.ensures.same,
+      only_read g.D.Disk.view g.D.Disk.failed s st c.self.inside.disk c.self.inside.has_failed c.self.invariant.sound (subst (λ x. x.has_failed ≡ false) (sym c.self.view_is) c.requires.fine) new c.read_for_cleans.ensures.kept c.in-Ok.ensures.counted c.read_for_cleans.ensures.same,
       read_for g.D.Disk.view s st new c.self.inside.has_failed _ c.self.inside.version c.self.inside.log refl refl c.in-Ok.ensures.reading,
       omega (arith, some, limit.0, limit.1),
     ))
@@ -40,7 +40,7 @@ invariant_of-self-in-Err g c =
     let st = store_in c.self.inside.tree c.self.inside.log c.self.inside.version in
     record {
       home = c.self.invariant.home;
-      sound = refused-sound g.D.Disk.view c.self.inside.settings st c.self.inside.disk c.read_for_cleans.new.disk c.self.inside.has_failed c.self.invariant.sound (rw c.self.view_is c.requires.fine) c.read_for_cleans.ensures.kept
+      sound = refused-sound g.D.Disk.view c.self.inside.settings st c.self.inside.disk c.read_for_cleans.new.disk c.self.inside.has_failed c.self.invariant.sound (subst (λ x. x.has_failed ≡ false) (sym c.self.view_is) c.requires.fine) c.read_for_cleans.ensures.kept
           c.is_of_disk-self-inside.result c.in-Err.fault Unit c.is_of_disk-self-inside.ensures (λ honest. inl (c.read_for_cleans.ensures.same honest));
     }
 
@@ -51,7 +51,7 @@ returns-in-Err-clause-refused g c = rw (← c.self.view_is) (
     let disk = c.self.inside.disk in
     let st = store_in c.self.inside.tree c.self.inside.log c.self.inside.version in
     let (file, read, reported) = c.in-Err.ensures.err in
-    one_refused view g.D.Disk.failed s st disk c.self.inside.has_failed c.self.invariant.sound (rw c.self.view_is c.requires.fine) c.read_for_cleans.new.disk c.read_for_cleans.ensures.kept
+    one_refused view g.D.Disk.failed s st disk c.self.inside.has_failed c.self.invariant.sound (subst (λ x. x.has_failed ≡ false) (sym c.self.view_is) c.requires.fine) c.read_for_cleans.new.disk c.read_for_cleans.ensures.kept
     (λ settled step. leaves_the_same (view disk) (view c.read_for_cleans.new.disk) _ (g.met.D.Disk.lawful disk settled.honest) (c.read_for_cleans.ensures.same settled.honest) settled (inl refl))
     c.is_of_disk-self-inside.result c.in-Err.fault Unit c.is_of_disk-self-inside.ensures
     (file, read, reported st refl refl) (λ honest. inl (c.read_for_cleans.ensures.same honest)) c.in-Err.ensures.uncounted)
