@@ -1,4 +1,4 @@
-use Rattle.std.proofs.Common.{◌≡◌, ◌≢◌, ◌+◌, ◌-◌, ◌<◌, ◌∙◌, ⊎_elim, min, arith, refl, inl, inr, sym, ap}
+use Rattle.std.proofs.Common.{◌≡◌, ◌≢◌, ◌+◌, ◌-◌, ◌<◌, ◌∙◌, ⊎_elim, ℕ, min, arith, refl, inl, inr, sym, ap}
 use Rattle.flush_log.specs.Segments.{last_segment}
 use Rattle.flush_log.specs.declared.slot.LogEnds.{LogEnds}
 use Rattle.recovery.proofs.ReadBytes.{first_read, read_before, err_on}
@@ -34,8 +34,12 @@ returns-clause-reading g c =
     let f = c.args.format.now in
     let t = c.args.ends.now in
     let (file, is) = first_read (view c.args.disk.now) (g.met.D.Disk.lawful c.args.disk.now) in
-    let (now, bytes, front, found, read, gathered) = c.in_ok-pages.ensures.read file is in
-    new-reading (view c.read_log.new.disk) f t now _ found _ c.new.result bytes read (omega arith) (c.new.ensures f found c.requires.checked gathered)
+    let (now, bytes, front, (found, read, gathered)) = c.in_ok-pages.ensures.read file is in
+    let more : t.head ≢ last_segment f.settings t.tail = (λ e. c.if-ends-last.false (e ∙ sym c.last_segment-last.ensures)) in
+    let less = more_in_use f t c.requires.checked c.requires.ends more in
+    let last = c.last_segment-last.ensures in
+    let count = c.min.ensures in
+    new-reading (view c.read_log.new.disk) f t now _ found _ c.new.result bytes read (omega (arith, less, last, count)) (c.new.ensures f found c.requires.checked gathered)
 
 pub returns-clause-limit : goal.returns-clause-limit
 returns-clause-limit g c =
@@ -44,8 +48,9 @@ returns-clause-limit g c =
     let t = c.args.ends.now in
     let more : t.head ≢ last_segment f.settings t.tail = (λ e. c.if-ends-last.false (e ∙ sym c.last_segment-last.ensures)) in
     let (file, is) = first_read (view c.args.disk.now) (g.met.D.Disk.lawful c.args.disk.now) in
-    let (now, bytes, front, found, read, gathered) = c.in_ok-pages.ensures.read file is in
-    new-limit (view c.read_log.new.disk) f t now _ found _ (λ n. (n ≡ t.head + min c.args.count (last_segment f.settings t.tail - t.head)) × (t.head < last_segment f.settings t.tail)) c.new.result (omega arith, more_in_use f t c.requires.checked c.requires.ends more) (c.new.ensures f found c.requires.checked gathered)
+    let (now, bytes, front, (found, read, gathered)) = c.in_ok-pages.ensures.read file is in
+    new-limit (view c.read_log.new.disk) f t now _ found _ (λ n. (n ≡ t.head + min c.args.count (last_segment f.settings t.tail - t.head)) × (t.head < last_segment f.settings t.tail)) c.new.result
+    (ap (λ (n : ℕ). t.head + n) (c.min.ensures ∙ ap (λ (n : ℕ). min c.args.count (n - t.head)) c.last_segment-last.ensures), more_in_use f t c.requires.checked c.requires.ends more) (c.new.ensures f found c.requires.checked gathered)
 
 pub returns-clause-err : goal.returns-clause-err
 returns-clause-err g c =
@@ -55,7 +60,7 @@ returns-clause-err g c =
     let t = c.args.ends.now in
     let more : t.head ≢ last_segment f.settings t.tail = (λ e. c.if-ends-last.false (e ∙ sym c.last_segment-last.ensures)) in
     let (file, is) = first_read (view c.args.disk.now) (g.met.D.Disk.lawful c.args.disk.now) in
-    let (now, bytes, front, found, read, gathered) = c.in_ok-pages.ensures.read file is in (
+    let (now, bytes, front, (found, read, gathered)) = c.in_ok-pages.ensures.read file is in (
       now,
       read_before (view c.args.disk.now) (view c.read_log.new.disk) now c.in_ok-pages.ensures.kept c.in_ok-pages.ensures.same bytes,
       λ st same version. new-fault f t now more (failed c.args.disk.now) (failed c.read_log.new.disk) found read st same version _ c.new.result (c.new.ensures f found c.requires.checked gathered),
