@@ -32,7 +32,7 @@ use Rattle.flush_log.specs.Reading.{Found}
 use Rattle.flush_log.specs.Slot.{Slot}
 use Rattle.verify.specs.Report.{IsFaultOf}
 use Rattle.recovery.specs.BuiltTree.{in_places, log_pids, pages_of_logs, logs_made, pages_made, filled, log_under}
-use Rattle.recovery.specs.Gathered.{live_frames, wanted_of, IsKept, IsKeptOf, AreGathered, first_segment}
+use Rattle.recovery.specs.Gathered.{live_frames, wanted_of, IsKept, IsKeptOf, AreGathered}
 use Rattle.recovery.specs.LogPages.{in_log, pages_under, pages_of, broken_in}
 use Rattle.recovery.specs.PageByLog.{page_from_start, page_in}
 use Rattle.recovery.specs.Rebuild.{HeldLog, held_log, page_of_frames}
@@ -322,31 +322,31 @@ module _ (s : Format) (t : Mapping PageOfKind) (logs : List HeldLog) (left all :
 
 -- ---- what is kept gives the pages of the log
 
-module _ (s : Format) (good : first_bad_field s.settings ≡ None) (head : ℕ) (found : List Found) (within : AllByRecursion (λ f. is_frame s f.frame ≡ true) found) where
+module _ (s : Format) (good : first_bad_field s.settings ≡ None) (found : List Found) (within : AllByRecursion (λ f. is_frame s f.frame ≡ true) found) where
   -- the frames that are kept of a page make it
-  page_kept : (k : Kept) (pid : ℕ) → IsKept Every head k (live_frames pid found) → page_in (page_of_frames s k.frames.items) ≡ page_in (in_log (frames_in found) pid)
+  page_kept : (k : Kept) (pid : ℕ) → IsKept Every k (live_frames pid found) → page_in (page_of_frames s k.frames.items) ≡ page_in (in_log (frames_in found) pid)
   page_kept k pid h =
       ap (λ (bs : List ℕ). page_in (page_of_frames s bs)) h.frames
-      ∙ ap (λ (fs : List Frame). page_in (page_from_start (map (λ (f : Frame). f.content) fs))) (bytes-frames s good (wanted_of Every head (live_frames pid found)) (wanted-within s Every head (live_frames pid found) (live_frames-within s pid found within)))
-      ∙ wanted-page head (live_frames pid found)
+      ∙ ap (λ (fs : List Frame). page_in (page_from_start (map (λ (f : Frame). f.content) fs))) (bytes-frames s good (wanted_of Every (live_frames pid found)) (wanted-within s Every (live_frames pid found) (live_frames-within s pid found within)))
+      ∙ wanted-page (live_frames pid found)
       ∙ ap page_in (sym (state-in_log found pid))
 
   abbrev KeepEach : List (ℕ × Kept) → Type 0
-  KeepEach es = (n : ℕ) → is_among n (keys_of es) ≡ true → IsKeptOf Every head (lookup (nat_eq n) es) (live_frames n found)
+  KeepEach es = (n : ℕ) → is_among n (keys_of es) ≡ true → IsKeptOf Every (lookup (nat_eq n) es) (live_frames n found)
 
   pages_kept : (es : List (ℕ × Kept)) → AreRisingPids (keys_of es) → KeepEach es → pages_of_logs s (map log_under es) ≡ pages_under (frames_in found) (keys_of es)
   pages_kept [] r h = refl
   pages_kept ((k, v) ∷ es) r h =
-      ap (λ (o : Option PageOfKind). entry_if k o ++ pages_of_logs s (map log_under es)) (page_kept v k (first_is Every head found k v es h))
-      ∙ ap (λ (ps : List (ℕ × PageOfKind)). entry_if k (page_in (in_log (frames_in found) k)) ++ ps) (pages_kept es r.1 (later_are Every head found k v es r h))
+      ap (λ (o : Option PageOfKind). entry_if k o ++ pages_of_logs s (map log_under es)) (page_kept v k (first_is Every found k v es h))
+      ∙ ap (λ (ps : List (ℕ × PageOfKind)). entry_if k (page_in (in_log (frames_in found) k)) ++ ps) (pages_kept es r.1 (later_are Every found k v es r h))
 
 -- of a log whose frames are all kept
 pub pages-gathered : (s : Format) (g : Gathering) (found : List Found) → first_bad_field s.settings ≡ None → IsStrictlySortedBy nat_cmp (keys_of g.by_pid.entries) → AreGathered s Every g found
     → pages_of_logs s (map log_under g.by_pid.entries) ≡ pages_of (frames_in found)
 pages-gathered s g found good sorted h =
     let es = g.by_pid.entries in
-    let order = in-order Every (first_segment found) g.by_pid found sorted h.live.kept in
-    pages_kept s good (first_segment found) found h.within es order.rise order.each ∙ ap (λ (ns : List ℕ). pages_under (frames_in found) ns) order.all
+    let order = in-order Every g.by_pid found sorted h.live.kept in
+    pages_kept s good found h.within es order.rise order.each ∙ ap (λ (ns : List ℕ). pages_under (frames_in found) ns) order.all
 
 -- ---- the tree
 

@@ -1,10 +1,10 @@
 -- What is kept of each page, one frame more at a time.
-use Rattle.std.specs.Prelude.{◌≡◌, ◌≢◌, ℕ, ◌≤◌, Bool, true, false, cond, ◌&&◌, ◌||◌, nat_eq, List, [], ◌∷◌, ◌++◌, length, map, Option, Some, None, is_some, unwrap_or}
+use Rattle.std.specs.Prelude.{◌≡◌, ◌≢◌, ℕ, suc, ◌+◌, ◌-◌, ◌^◌, ◌≤◌, min, Bool, true, false, cond, ◌&&◌, ◌||◌, nat_eq, List, [], ◌∷◌, ◌++◌, length, map, Option, Some, None, is_some}
 use Rattle.std.proofs.Common.{refl, sym, ap, ◌∙◌, subst, arith, length-append, append_assoc}
 use Rattle.std.specs.BTreeMap.{BTreeMap, get}
 use Rattle.std.specs.List.{filter, list_any}
 use Rattle.std.specs.Ordering.{nat_cmp, is_eq}
-use Rattle.std.proofs.lemmas.Bool.{eqb-true}
+use Rattle.std.proofs.lemmas.Bool.{eqb-true, ne_eqb}
 use Rattle.std.proofs.lemmas.List.{map-append, append-nil}
 use Rattle.std.proofs.lemmas.List.Folds.{list_any-append}
 use Rattle.std.proofs.lemmas.List.Sums.{fold-append}
@@ -14,8 +14,10 @@ use Rattle.mapping.specs.FreshPids.{is_among}
 use Rattle.frame_codec.specs.Frame.{Content, Frame, bytes_of}
 use Rattle.frame_codec.specs.Frame.Content.{FullLeaf, DeltaLeaf, FullIndex, DeltaIndex, Free}
 use Rattle.frame_codec.specs.Skimmed.{kind_of}
+use Rattle.frame_codec.specs.declared.skim.FrameKind.{FrameKind}
+use Rattle.frame_codec.specs.declared.skim.FrameKind.TheVariants as kinds
 use Rattle.flush_log.specs.Reading.{Found}
-use Rattle.recovery.specs.Gathered.{live_frames, contents_in, is_wanted_in, wanted_of, spelled, IsStateOf, IsKept, with_leaf_run, with_index_run, state_after, with_base, with_run, kept_with, IsKeptOf, AreKept, first_segment, first_found}
+use Rattle.recovery.specs.Gathered.{live_frames, contents_in, is_wanted_in, wanted_of, spelled, live_size, IsStateOf, IsKept, with_leaf_run, with_index_run, state_after, segment_after, run_size, size_after, with_base, with_run, kept_with, IsKeptOf, AreKept, first_segment}
 use Rattle.recovery.specs.LogPages.{contents_of}
 use Rattle.recovery.specs.PageByLog.{is_base, is_start, from_last, InLog, with_newer_run, begun_page, continued, page_from_start}
 use Rattle.recovery.specs.PageByLog.InLog.{Missing, Present, Broken}
@@ -24,6 +26,7 @@ use Rattle.recovery.specs.declared.gather.Kept.{Kept}
 use Rattle.recovery.specs.declared.gather.PageState.{PageState}
 use Rattle.recovery.specs.declared.gather.PageState.TheVariants as state
 use Rattle.recovery.specs.declared.gather.Wanted.{Wanted}
+use Rattle.recovery.specs.declared.gather.Wanted.TheVariants.{Every}
 use Rattle.recovery.proofs.GatherLemmas.{same_at, among_more, same_turned}
 use Rattle.recovery.proofs.PartLemmas.{from_last-none, from_last-at, from_last-more, from_last-some}
 
@@ -141,6 +144,19 @@ contents_by : (b : Bool) (fs : List Found) (f : Found) → contents_in (cond b (
 contents_by true fs f = refl
 contents_by false fs f = contents_after_some fs f
 
+-- ---- the segment of its last base or free frame
+
+run_segment : (fs : List Found) (f : Found) → first_segment fs ≡ first_segment (after_some fs f)
+run_segment [] f = refl
+run_segment (g ∷ gs) f = refl
+
+segment-more : (c : Content) (n pid : ℕ) (fs : List Found) → segment_after (first_segment fs) (kind_of c) n ≡ first_segment (part_with fs (record { segment = n; frame = record { pid = pid; content = c } }))
+segment-more (FullLeaf spelling low base) n pid fs = refl
+segment-more (DeltaLeaf run) n pid fs = run_segment fs (record { segment = n; frame = record { pid = pid; content = DeltaLeaf run } })
+segment-more (FullIndex spelling low base) n pid fs = refl
+segment-more (DeltaIndex run) n pid fs = run_segment fs (record { segment = n; frame = record { pid = pid; content = DeltaIndex run } })
+segment-more Free n pid fs = refl
+
 -- ---- which of its frames are kept
 
 pub some_bytes : (f : Frame) → 1 ≤ length (bytes_of f)
@@ -174,43 +190,77 @@ follows_by true g f gs bytes e =
     ∙ ap (λ (fs : List Frame). spelled (g.frame ∷ fs)) (sym (map-append (λ (h : Found). h.frame) gs (f ∷ [])))
 follows_by false g f gs bytes e = ap (λ (bs : List ℕ). with_run bs (bytes_of f.frame)) e
 
-module _ (w : Wanted) (head : ℕ) where
-  run_kept : (fs : List Found) (f : Found) (bytes : List ℕ) → bytes ≡ spelled (wanted_of w head fs) → with_run bytes (bytes_of f.frame) ≡ spelled (wanted_of w head (after_some fs f))
+module _ (w : Wanted) where
+  run_kept : (fs : List Found) (f : Found) (bytes : List ℕ) → bytes ≡ spelled (wanted_of w fs) → with_run bytes (bytes_of f.frame) ≡ spelled (wanted_of w (after_some fs f))
   run_kept [] f bytes e = ap (λ (bs : List ℕ). with_run bs (bytes_of f.frame)) e
-  run_kept (g ∷ gs) f bytes e = follows_by (is_wanted_in w head g.segment && is_base g.frame.content) g f gs bytes e
+  run_kept (g ∷ gs) f bytes e = follows_by (is_wanted_in w g.segment && is_base g.frame.content) g f gs bytes e
 
-  kept_as : (c : Content) (n pid : ℕ) (fs : List Found) (bytes : List ℕ) → bytes ≡ spelled (wanted_of w head fs)
-      → (let f : Found = record { segment = n; frame = record { pid = pid; content = c } } in kept_with bytes (kind_of c) (is_wanted_in w head n) (bytes_of f.frame) ≡ spelled (wanted_of w head (part_with fs f)))
-  kept_as (FullLeaf spelling low base) n pid fs bytes e = base_kept (is_wanted_in w head n) (record { pid = pid; content = FullLeaf spelling low base })
+  kept_as : (c : Content) (n pid : ℕ) (fs : List Found) (bytes : List ℕ) → bytes ≡ spelled (wanted_of w fs)
+      → (let f : Found = record { segment = n; frame = record { pid = pid; content = c } } in kept_with bytes (kind_of c) (is_wanted_in w n) (bytes_of f.frame) ≡ spelled (wanted_of w (part_with fs f)))
+  kept_as (FullLeaf spelling low base) n pid fs bytes e = base_kept (is_wanted_in w n) (record { pid = pid; content = FullLeaf spelling low base })
   kept_as (DeltaLeaf run) n pid fs bytes e = run_kept fs (record { segment = n; frame = record { pid = pid; content = DeltaLeaf run } }) bytes e
-  kept_as (FullIndex spelling low base) n pid fs bytes e = base_kept (is_wanted_in w head n) (record { pid = pid; content = FullIndex spelling low base })
+  kept_as (FullIndex spelling low base) n pid fs bytes e = base_kept (is_wanted_in w n) (record { pid = pid; content = FullIndex spelling low base })
   kept_as (DeltaIndex run) n pid fs bytes e = run_kept fs (record { segment = n; frame = record { pid = pid; content = DeltaIndex run } }) bytes e
-  kept_as Free n pid fs bytes e = free_kept (is_wanted_in w head n) (record { pid = pid; content = Free })
+  kept_as Free n pid fs bytes e = free_kept (is_wanted_in w n) (record { pid = pid; content = Free })
 
-  -- what is kept of a page, with one more of its frames
-  pub kept-more : (k now : Kept) (fs : List Found) (f : Found) → IsKept w head k fs → now.state ≡ state_after k.state (kind_of f.frame.content)
-      → now.frames.items ≡ kept_with k.frames.items (kind_of f.frame.content) (is_wanted_in w head f.segment) (bytes_of f.frame) → IsKept w head now (part_with fs f)
-  kept-more k now fs f h t i =
+-- ---- how many bytes they have
+
+abbrev as_size : List ℕ → ℕ
+as_size bytes = min (length bytes) (2 ^ 64 - 1)
+
+sum_of : (m n more : ℕ) → n ≡ min (suc m) (2 ^ 64 - 1) → run_size n more ≡ min (suc m + more) (2 ^ 64 - 1)
+sum_of m n more e =
+    ap (λ (b : Bool). cond b 0 (min (n + more) (2 ^ 64 - 1))) (ne_eqb n 0 (λ none. omega (arith, none, e)))
+    ∙ omega (arith, e)
+
+run_sized : (bytes frame : List ℕ) (n : ℕ) → n ≡ as_size bytes → run_size n (length frame) ≡ as_size (with_run bytes frame)
+run_sized [] frame n e = ap (λ (m : ℕ). run_size m (length frame)) e
+run_sized (b ∷ bytes) frame n e = sum_of (length bytes) n (length frame) e ∙ ap (λ (m : ℕ). min m (2 ^ 64 - 1)) (sym (length-append (b ∷ bytes) frame))
+
+sized : (kind : FrameKind) (bytes frame : List ℕ) (n : ℕ) → n ≡ as_size bytes → size_after n kind (length frame) ≡ as_size (kept_with bytes kind true frame)
+sized kinds.FullLeaf bytes frame n e = refl
+sized kinds.DeltaLeaf bytes frame n e = run_sized bytes frame n e
+sized kinds.FullIndex bytes frame n e = refl
+sized kinds.DeltaIndex bytes frame n e = run_sized bytes frame n e
+sized kinds.Free bytes frame n e = refl
+
+size-more : (fs : List Found) (f : Found) (n : ℕ) → n ≡ live_size fs → size_after n (kind_of f.frame.content) (length (bytes_of f.frame)) ≡ live_size (part_with fs f)
+size-more fs f n e =
+    let bytes = spelled (wanted_of Every fs) in
+    sized (kind_of f.frame.content) bytes (bytes_of f.frame) n e ∙ ap as_size (kept_as Every f.frame.content f.segment f.frame.pid fs bytes refl)
+
+-- ---- what is kept of a page
+
+module _ (w : Wanted) where
+  -- what is kept of it, with one more of its frames
+  pub kept-more : (k now : Kept) (fs : List Found) (f : Found) → IsKept w k fs → now.state ≡ state_after k.state (kind_of f.frame.content) → now.segment ≡ segment_after k.segment (kind_of f.frame.content) f.segment
+      → now.size ≡ size_after k.size (kind_of f.frame.content) (length (bytes_of f.frame))
+      → now.frames.items ≡ kept_with k.frames.items (kind_of f.frame.content) (is_wanted_in w f.segment) (bytes_of f.frame) → IsKept w now (part_with fs f)
+  kept-more k now fs f h t s z i =
       let state' : IsStateOf (state_after k.state (kind_of f.frame.content)) (contents_in (part_with fs f)) =
       subst (λ (cs : List Content). IsStateOf (state_after k.state (kind_of f.frame.content)) cs) (sym (contents_by (starts f) fs f)) (state-more k.state (contents_in fs) f.frame.content h.state) in
       record {
         state = subst (λ (u : PageState). IsStateOf u (contents_in (part_with fs f))) (sym t) state';
-        frames = i ∙ kept_as f.frame.content f.segment f.frame.pid fs k.frames.items h.frames;
+        segment = s ∙ ap (λ (n : ℕ). segment_after n (kind_of f.frame.content) f.segment) h.segment ∙ segment-more f.frame.content f.segment f.frame.pid fs;
+        size = z ∙ size-more fs f k.size h.size;
+        frames = i ∙ kept_as w f.frame.content f.segment f.frame.pid fs k.frames.items h.frames;
       }
 
   -- of a page without a frame so far
-  pub kept-none : (k : Kept) (fs : List Found) → k.state ≡ state.Nothing → k.frames.items ≡ [] → fs ≡ [] → IsKept w head k fs
-  kept-none k fs t i none = record {
+  pub kept-none : (k : Kept) (fs : List Found) → k.state ≡ state.Nothing → k.segment ≡ 0 → k.size ≡ 0 → k.frames.items ≡ [] → fs ≡ [] → IsKept w k fs
+  kept-none k fs t s z i none = record {
     state = subst (λ (u : PageState). IsStateOf u (contents_in fs)) (sym t) (ap contents_in none);
-    frames = i ∙ ap (λ (gs : List Found). spelled (wanted_of w head gs)) (sym none);
+    segment = s ∙ ap first_segment (sym none);
+    size = z ∙ ap live_size (sym none);
+    frames = i ∙ ap (λ (gs : List Found). spelled (wanted_of w gs)) (sym none);
   }
 
   -- what came out of the map, or nothing
-  pub kept-some : (o : Option Kept) (k : Kept) (fs : List Found) → o ≡ Some k → IsKeptOf w head o fs → IsKept w head k fs
+  pub kept-some : (o : Option Kept) (k : Kept) (fs : List Found) → o ≡ Some k → IsKeptOf w o fs → IsKept w k fs
   kept-some None k fs e h = absurd (cc)
-  kept-some (Some j) k fs e h = let same : j ≡ k = cc in subst (λ (i : Kept). IsKept w head i fs) same h
+  kept-some (Some j) k fs e h = let same : j ≡ k = cc in subst (λ (i : Kept). IsKept w i fs) same h
 
-  pub none-kept : (o : Option Kept) (fs : List Found) → o ≡ None → IsKeptOf w head o fs → fs ≡ []
+  pub none-kept : (o : Option Kept) (fs : List Found) → o ≡ None → IsKeptOf w o fs → fs ≡ []
   none-kept None fs e h = h
   none-kept (Some j) fs e h = absurd (cc)
 
@@ -220,7 +270,7 @@ abbrev no_page : Option Kept
 no_page = None
 
 -- one frame more: what was kept of its pid comes out, and what is kept then goes in
-module _ (w : Wanted) (head : ℕ) (old mid now : BTreeMap ℕ Kept) (f : Found) (kept : Kept)
+module _ (w : Wanted) (old mid now : BTreeMap ℕ Kept) (f : Found) (kept : Kept)
     (out : (n : ℕ) → get nat_cmp mid n ≡ cond (is_eq (nat_cmp f.frame.pid n)) None (get nat_cmp old n))
     (into : (n : ℕ) → get nat_cmp now n ≡ cond (is_eq (nat_cmp f.frame.pid n)) (Some kept) (get nat_cmp mid n)) where
   in_by : (b : Bool) (n : ℕ) → nat_eq f.frame.pid n ≡ b → get nat_cmp now n ≡ cond b (Some kept) (get nat_cmp old n)
@@ -229,16 +279,16 @@ module _ (w : Wanted) (head : ℕ) (old mid now : BTreeMap ℕ Kept) (f : Found)
       into n ∙ ap (λ (b : Bool). cond b (Some kept) (get nat_cmp mid n)) (same_at f.frame.pid n ∙ e)
       ∙ (out n ∙ ap (λ (b : Bool). cond b no_page (get nat_cmp old n)) (same_at f.frame.pid n ∙ e))
 
-  each_by : (b : Bool) (found : List Found) (n : ℕ) → nat_eq f.frame.pid n ≡ b → AreKept w head old found → IsKept w head kept (part_with (live_frames f.frame.pid found) f)
-      → IsKeptOf w head (get nat_cmp now n) (live_frames n (found ++ f ∷ []))
+  each_by : (b : Bool) (found : List Found) (n : ℕ) → nat_eq f.frame.pid n ≡ b → AreKept w old found → IsKept w kept (part_with (live_frames f.frame.pid found) f)
+      → IsKeptOf w (get nat_cmp now n) (live_frames n (found ++ f ∷ []))
   each_by true found n e h k =
       let own : live_frames n (found ++ f ∷ []) ≡ part_with (live_frames f.frame.pid found) f = live_frames-own n found f e ∙ ap (λ (m : ℕ). part_with (live_frames m found) f) (sym (eqb-true f.frame.pid n e)) in
-      subst (λ (o : Option Kept). IsKeptOf w head o (live_frames n (found ++ f ∷ []))) (sym (in_by true n e)) (subst (λ (fs : List Found). IsKept w head kept fs) (sym own) k)
+      subst (λ (o : Option Kept). IsKeptOf w o (live_frames n (found ++ f ∷ []))) (sym (in_by true n e)) (subst (λ (fs : List Found). IsKept w kept fs) (sym own) k)
   each_by false found n e h k =
-      subst (λ (o : Option Kept). IsKeptOf w head o (live_frames n (found ++ f ∷ []))) (sym (in_by false n e))
-      (subst (λ (fs : List Found). IsKeptOf w head (get nat_cmp old n) fs) (sym (live_frames-other n found f e)) (h.each n))
+      subst (λ (o : Option Kept). IsKeptOf w o (live_frames n (found ++ f ∷ []))) (sym (in_by false n e))
+      (subst (λ (fs : List Found). IsKeptOf w (get nat_cmp old n) fs) (sym (live_frames-other n found f e)) (h.each n))
 
-  pids_by : (b : Bool) (found : List Found) (n : ℕ) → nat_eq f.frame.pid n ≡ b → AreKept w head old found → is_some (get nat_cmp now n) ≡ (is_among n (map (λ (g : Found). g.frame.pid) found) || b)
+  pids_by : (b : Bool) (found : List Found) (n : ℕ) → nat_eq f.frame.pid n ≡ b → AreKept w old found → is_some (get nat_cmp now n) ≡ (is_among n (map (λ (g : Found). g.frame.pid) found) || b)
   pids_by true found n e h = ap (λ o. is_some o) (in_by true n e) ∙ sym (or_true (is_among n (map (λ (g : Found). g.frame.pid) found)))
     where
       or_true : (b : Bool) → (b || true) ≡ true
@@ -250,7 +300,7 @@ module _ (w : Wanted) (head : ℕ) (old mid now : BTreeMap ℕ Kept) (f : Found)
       or_none true = refl
       or_none false = refl
 
-  pub pages-more : (found : List Found) → AreKept w head old found → IsKept w head kept (part_with (live_frames f.frame.pid found) f) → AreKept w head now (found ++ f ∷ [])
+  pub pages-more : (found : List Found) → AreKept w old found → IsKept w kept (part_with (live_frames f.frame.pid found) f) → AreKept w now (found ++ f ∷ [])
   pages-more found h k = record {
     each = λ n. each_by (nat_eq f.frame.pid n) found n refl h k;
     pids = λ n. pids_by (nat_eq f.frame.pid n) found n refl h
@@ -258,39 +308,6 @@ module _ (w : Wanted) (head : ℕ) (old mid now : BTreeMap ℕ Kept) (f : Found)
         ∙ sym (ap (λ (ns : List ℕ). is_among n ns) (map-append (λ (g : Found). g.frame.pid) found (f ∷ [])) ∙ among_more n f.frame.pid (map (λ (g : Found). g.frame.pid) found));
   }
 
--- ---- the segment where the first frame stands
-
-first-append : (found : List Found) (f : Found) → unwrap_or (first_found found) f.segment ≡ first_segment (found ++ f ∷ [])
-first-append [] f = refl
-first-append (g ∷ gs) f = refl
-
-found-append : (found : List Found) (f : Found) → Some (first_segment (found ++ f ∷ [])) ≡ first_found (found ++ f ∷ [])
-found-append [] f = refl
-found-append (g ∷ gs) f = refl
-
--- before the first frame any segment may be the head
-kept_any : (w : Wanted) (head other : ℕ) (by_pid : BTreeMap ℕ Kept) (found : List Found) → first_found found ≡ None → AreKept w head by_pid found → AreKept w other by_pid found
-kept_any w head other by_pid [] e h = record { each = λ pid. any (get nat_cmp by_pid pid) (h.each pid); pids = h.pids }
-  where
-    any : (o : Option Kept) → IsKeptOf w head o [] → IsKeptOf w other o []
-    any None k = k
-    any (Some k) is = record { state = is.state; frames = is.frames }
-kept_any w head other by_pid (f ∷ fs) e h = absurd (cc)
-
-pub kept-before : (w : Wanted) (by_pid : BTreeMap ℕ Kept) (found : List Found) (f : Found) → AreKept w (first_segment found) by_pid found → AreKept w (first_segment (found ++ f ∷ [])) by_pid found
-kept-before w by_pid [] f h = kept_any w 0 f.segment by_pid [] refl h
-kept-before w by_pid (g ∷ gs) f h = h
-
--- the segment that is the first is so with one frame more
-pub first-more : (o : Option ℕ) (found : List Found) (f : Found) (n : ℕ) → o ≡ first_found found → f.segment ≡ n → unwrap_or o n ≡ first_segment (found ++ f ∷ [])
-first-more o found f n is at = ap (λ (m : ℕ). unwrap_or o m) (sym at) ∙ ap (λ (p : Option ℕ). unwrap_or p f.segment) is ∙ first-append found f
-
-pub found-more : (found : List Found) (f : Found) (n : ℕ) → n ≡ first_segment (found ++ f ∷ []) → Some n ≡ first_found (found ++ f ∷ [])
-found-more found f n is = ap (λ (m : ℕ). some_number m) is ∙ found-append found f
-  where
-    some_number : ℕ → Option ℕ
-    some_number m = Some m
-
--- whether a base is wanted, as the code asks it, where the first frame stands in that segment
-pub wanted-same : (w v : Wanted) (head first n m : ℕ) (b : Bool) → v ≡ w → first ≡ head → m ≡ n → b ≡ is_wanted_in v first m → b ≡ is_wanted_in w head n
-wanted-same w v head first n m b e at same is = is ∙ ap (λ (u : Wanted). is_wanted_in u first m) e ∙ ap (λ (k : ℕ). is_wanted_in w k m) at ∙ ap (λ (k : ℕ). is_wanted_in w head k) same
+-- whether a base is wanted, as the code asks it
+pub wanted-same : (w v : Wanted) (n m : ℕ) (b : Bool) → v ≡ w → m ≡ n → b ≡ is_wanted_in v m → b ≡ is_wanted_in w n
+wanted-same w v n m b e same is = is ∙ ap (λ (u : Wanted). is_wanted_in u m) e ∙ ap (λ (k : ℕ). is_wanted_in w k) same

@@ -18,7 +18,7 @@ use Rattle.frame_codec.specs.Frame.{Content, Frame, bytes_of, is_frame}
 use Rattle.frame_codec.specs.Frame.Content.{FullLeaf, DeltaLeaf, FullIndex, DeltaIndex, Free}
 use Rattle.frame_codec.proofs.FrameLemmas.{in_limits, frame-back}
 use Rattle.flush_log.specs.Reading.{Found, is_at_tail, with_first, read_frames}
-use Rattle.recovery.specs.Gathered.{live_frames, contents_in, wanted_of, spelled, IsStateOf, IsKept, IsKeptOf, AreKept, AreLive, first_segment, is_unfit, first_unfit}
+use Rattle.recovery.specs.Gathered.{live_frames, contents_in, wanted_of, spelled, IsStateOf, IsKept, IsKeptOf, AreKept, AreLive, is_unfit, first_unfit}
 use Rattle.recovery.specs.LogPages.{in_log, pids_of, broken_under, broken_in}
 use Rattle.recovery.specs.PageByLog.{is_base, is_start, from_last, continued, page_from_start, page_in, is_broken}
 use Rattle.recovery.specs.PageByLog.InLog.{Missing}
@@ -43,36 +43,36 @@ looked_up : (b : Bool) (k : ℕ) (v : Kept) (n : ℕ) (es : List (ℕ × Kept)) 
 looked_up true k v n es e = rw e refl
 looked_up false k v n es e = rw e refl
 
-module _ (w : Wanted) (head : ℕ) (found : List Found) where
+module _ (w : Wanted) (found : List Found) where
   -- under each pid that there is, what is kept of its page
   abbrev pub KeepEach : List (ℕ × Kept) → Type 0
-  KeepEach es = (n : ℕ) → is_among n (keys_of es) ≡ true → IsKeptOf w head (lookup (nat_eq n) es) (live_frames n found)
+  KeepEach es = (n : ℕ) → is_among n (keys_of es) ≡ true → IsKeptOf w (lookup (nat_eq n) es) (live_frames n found)
 
-  pub first_is : (k : ℕ) (v : Kept) (es : List (ℕ × Kept)) → KeepEach ((k, v) ∷ es) → IsKept w head v (live_frames k found)
-  first_is k v es h = kept-some w head (lookup (nat_eq k) ((k, v) ∷ es)) v (live_frames k found) (looked_up true k v k es (eq-eqb k k refl)) (h k (there k (keys_of es)))
+  pub first_is : (k : ℕ) (v : Kept) (es : List (ℕ × Kept)) → KeepEach ((k, v) ∷ es) → IsKept w v (live_frames k found)
+  first_is k v es h = kept-some w (lookup (nat_eq k) ((k, v) ∷ es)) v (live_frames k found) (looked_up true k v k es (eq-eqb k k refl)) (h k (there k (keys_of es)))
 
   pub later_are : (k : ℕ) (v : Kept) (es : List (ℕ × Kept)) → AreRisingPids (keys_of ((k, v) ∷ es)) → KeepEach ((k, v) ∷ es) → KeepEach es
   later_are k v es r h n among = of (nat_eq n k) refl
     where
-      of : (b : Bool) → nat_eq n k ≡ b → IsKeptOf w head (lookup (nat_eq n) es) (live_frames n found)
+      of : (b : Bool) → nat_eq n k ≡ b → IsKeptOf w (lookup (nat_eq n) es) (live_frames n found)
       of true e =
           let none : is_among n (keys_of es) ≡ false = subst (λ (j : ℕ). is_among j (keys_of es) ≡ false) (sym (eqb-true n k e)) (none_above k (keys_of es) r.0) in
           let both : true ≡ false = sym among ∙ none in
           absurd (cc)
-      of false e = subst (λ (o : Option Kept). IsKeptOf w head o (live_frames n found)) (looked_up false k v n es e) (h n (ap (λ (b : Bool). b || is_among n (keys_of es)) e ∙ among))
+      of false e = subst (λ (o : Option Kept). IsKeptOf w o (live_frames n found)) (looked_up false k v n es e) (h n (ap (λ (b : Bool). b || is_among n (keys_of es)) e ∙ among))
 
 -- what is kept, by rising pid: of each pid with a frame
-pub record AreInOrder (w : Wanted) (head : ℕ) (found : List Found) (es : List (ℕ × Kept)) : Type 0 where
+pub record AreInOrder (w : Wanted) (found : List Found) (es : List (ℕ × Kept)) : Type 0 where
   pub rise : AreRisingPids (keys_of es)
-  pub each : KeepEach w head found es
+  pub each : KeepEach w found es
   pub all : keys_of es ≡ pids_of (frames_in found)
 
 pids-found : (found : List Found) → map (λ (f : Found). f.frame.pid) found ≡ pids (frames_in found)
 pids-found [] = refl
 pids-found (f ∷ fs) = ap (λ (ns : List ℕ). f.frame.pid ∷ ns) (pids-found fs)
 
-pub in-order : (w : Wanted) (head : ℕ) (by_pid : BTreeMap ℕ Kept) (found : List Found) → IsStrictlySortedBy nat_cmp (keys_of by_pid.entries) → AreKept w head by_pid found → AreInOrder w head found by_pid.entries
-in-order w head by_pid found sorted h =
+pub in-order : (w : Wanted) (by_pid : BTreeMap ℕ Kept) (found : List Found) → IsStrictlySortedBy nat_cmp (keys_of by_pid.entries) → AreKept w by_pid found → AreInOrder w found by_pid.entries
+in-order w by_pid found sorted h =
     let es = by_pid.entries in
     let fs = frames_in found in
     let rise : AreRisingPids (keys_of es) = keys-rise (keys_of es) sorted in
@@ -80,7 +80,7 @@ in-order w head by_pid found sorted h =
     λ n. among_found n es ∙ ap (λ o. is_some o) (sym (lookup-same n es)) ∙ h.pids n ∙ ap (λ (ns : List ℕ). is_among n ns) (pids-found found) ∙ sym (among-pids_of fs n) in
     record {
       rise = rise;
-      each = λ n among. subst (λ (o : Option Kept). IsKeptOf w head o (live_frames n found)) (lookup-same n es) (h.each n);
+      each = λ n among. subst (λ (o : Option Kept). IsKeptOf w o (live_frames n found)) (lookup-same n es) (h.each n);
       all = same_rising (keys_of es) (pids_of fs) rise (rising-with_numbers (pids fs) [] tt) among;
     }
 
@@ -100,21 +100,21 @@ state_unfit state.Index cs (p, h) = ap is_broken (sym h)
 state_unfit state.Free cs h = ap (λ (ds : List Content). is_broken (page_from_start ds)) (sym h)
 state_unfit state.Unfit cs h = ap is_broken (sym h)
 
-module _ (w : Wanted) (head : ℕ) (found : List Found) where
+module _ (w : Wanted) (found : List Found) where
   abbrev unfit_at : ℕ → Option Finding
   unfit_at pid = Some (record { rule = 1; pid = pid })
 
-  kept_unfit : (es : List (ℕ × Kept)) → AreRisingPids (keys_of es) → KeepEach w head found es → first_unfit es ≡ broken_under (frames_in found) (keys_of es)
+  kept_unfit : (es : List (ℕ × Kept)) → AreRisingPids (keys_of es) → KeepEach w found es → first_unfit es ≡ broken_under (frames_in found) (keys_of es)
   kept_unfit [] r h = refl
   kept_unfit ((k, v) ∷ es) r h =
-      ap (λ (b : Bool). cond b (unfit_at k) (first_unfit es)) (state_unfit v.state (contents_in (live_frames k found)) (first_is w head found k v es h).state ∙ ap is_broken (sym (state-in_log found k)))
-      ∙ ap (λ (o : Option Finding). cond (is_broken (in_log (frames_in found) k)) (unfit_at k) o) (kept_unfit es r.1 (later_are w head found k v es r h))
+      ap (λ (b : Bool). cond b (unfit_at k) (first_unfit es)) (state_unfit v.state (contents_in (live_frames k found)) (first_is w found k v es h).state ∙ ap is_broken (sym (state-in_log found k)))
+      ∙ ap (λ (o : Option Finding). cond (is_broken (in_log (frames_in found) k)) (unfit_at k) o) (kept_unfit es r.1 (later_are w found k v es r h))
 
 -- the first page whose frames fit no page is that of the log
 pub unfit-found : (w : Wanted) (g : Gathering) (found : List Found) → IsStrictlySortedBy nat_cmp (keys_of g.by_pid.entries) → AreLive w g found → first_unfit g.by_pid.entries ≡ broken_in (frames_in found)
 unfit-found w g found sorted live =
-    let order = in-order w (first_segment found) g.by_pid found sorted live.kept in
-    kept_unfit w (first_segment found) found g.by_pid.entries order.rise order.each ∙ ap (λ (ns : List ℕ). broken_under (frames_in found) ns) order.all
+    let order = in-order w g.by_pid found sorted live.kept in
+    kept_unfit w found g.by_pid.entries order.rise order.each ∙ ap (λ (ns : List ℕ). broken_under (frames_in found) ns) order.all
 
 -- one entry after the other
 next-unfit : (e : ℕ × Kept) (es : List (ℕ × Kept)) (b : Bool) → is_unfit e.1.state ≡ b → first_unfit (e ∷ es) ≡ cond b (Some (record { rule = 1; pid = e.0 })) (first_unfit es)
@@ -162,9 +162,9 @@ module _ (s : Format) where
   wanted_by true fs a = a
   wanted_by false fs a = tt
 
-  pub wanted-within : (w : Wanted) (head : ℕ) (fs : List Found) → AllByRecursion (λ f. is_frame s f.frame ≡ true) fs → AllByRecursion (λ f. is_frame s f ≡ true) (wanted_of w head fs)
-  wanted-within w head [] a = tt
-  wanted-within w head (f ∷ fs) a = wanted_by _ (frames_in (f ∷ fs)) (all_frames (f ∷ fs) a)
+  pub wanted-within : (w : Wanted) (fs : List Found) → AllByRecursion (λ f. is_frame s f.frame ≡ true) fs → AllByRecursion (λ f. is_frame s f ≡ true) (wanted_of w fs)
+  wanted-within w [] a = tt
+  wanted-within w (f ∷ fs) a = wanted_by _ (frames_in (f ∷ fs)) (all_frames (f ∷ fs) a)
 
 -- ---- the frames of every page
 
@@ -185,10 +185,10 @@ none-page (DeltaIndex run) cs e = missing_none cs
 none-page Free cs e = missing_none cs
 
 -- what is kept of a page, where that of every page is, makes it
-pub wanted-page : (head : ℕ) (fs : List Found) → page_in (page_from_start (map (λ (f : Frame). f.content) (wanted_of Every head fs))) ≡ page_in (page_from_start (contents_in fs))
-wanted-page head [] = refl
-wanted-page head (f ∷ fs) = of (is_base f.frame.content) refl
+pub wanted-page : (fs : List Found) → page_in (page_from_start (map (λ (f : Frame). f.content) (wanted_of Every fs))) ≡ page_in (page_from_start (contents_in fs))
+wanted-page [] = refl
+wanted-page (f ∷ fs) = of (is_base f.frame.content) refl
   where
-    of : (b : Bool) → is_base f.frame.content ≡ b → page_in (page_from_start (map (λ (g : Frame). g.content) (wanted_of Every head (f ∷ fs)))) ≡ page_in (page_from_start (contents_in (f ∷ fs)))
+    of : (b : Bool) → is_base f.frame.content ≡ b → page_in (page_from_start (map (λ (g : Frame). g.content) (wanted_of Every (f ∷ fs)))) ≡ page_in (page_from_start (contents_in (f ∷ fs)))
     of true e = rw e (ap (λ (cs : List Content). page_in (page_from_start cs)) (contents_of_frames (f ∷ fs)))
     of false e = rw e (sym (none-page f.frame.content (contents_in fs) e))

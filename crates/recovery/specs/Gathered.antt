@@ -1,5 +1,5 @@
 -- What is kept of each page while a log is read: the state after its frames, and the bytes of those that are wanted.
-use Rattle.std.specs.Prelude.{◌≡◌, ℕ, Bool, true, false, ◌&&◌, nat_eq, if◌then◌else◌, List, [], ◌∷◌, ◌++◌, map, flat_map, Option, Some, None, is_some, Result, Ok, Err}
+use Rattle.std.specs.Prelude.{◌≡◌, ℕ, ◌+◌, ◌-◌, ◌^◌, min, Bool, true, false, ◌&&◌, nat_eq, nat_lt, if◌then◌else◌, List, [], ◌∷◌, ◌++◌, length, map, flat_map, Option, Some, None, is_some, Result, Ok, Err}
 use Rattle.std.specs.BTreeMap.{BTreeMap, get}
 use Rattle.std.specs.List.{AllByRecursion, filter}
 use Rattle.std.specs.Ordering.{nat_cmp}
@@ -23,7 +23,7 @@ use Rattle.recovery.specs.declared.gather.Kept.{Kept}
 use Rattle.recovery.specs.declared.gather.PageState.{PageState}
 use Rattle.recovery.specs.declared.gather.PageState.TheVariants as state
 use Rattle.recovery.specs.declared.gather.Wanted.{Wanted}
-use Rattle.recovery.specs.declared.gather.Wanted.TheVariants.{Every, Head}
+use Rattle.recovery.specs.declared.gather.Wanted.TheVariants.{Every, Before}
 
 -- ---- the frames of a page
 
@@ -35,19 +35,28 @@ live_frames pid found = from_last (λ f. is_start f.frame.content) (filter (λ f
 abbrev pub contents_in : List Found → List Content
 contents_in fs = map (λ f. f.frame.content) fs
 
--- whether a base in this segment is wanted, where the log begins with that one
-abbrev pub is_wanted_in : Wanted → ℕ → ℕ → Bool
-is_wanted_in Every head n = true
-is_wanted_in Head head n = nat_eq n head
+-- the segment of the first of these frames; 0 if there are none
+abbrev pub first_segment : List Found → ℕ
+first_segment [] = 0
+first_segment (f ∷ fs) = f.segment
+
+-- whether the frames of a page whose base is in this segment are wanted
+abbrev pub is_wanted_in : Wanted → ℕ → Bool
+is_wanted_in Every n = true
+is_wanted_in (Before end) n = nat_lt n end
 
 -- of a page's live frames those that are kept: all of them, where the first is a base that is wanted
-abbrev pub wanted_of : Wanted → ℕ → List Found → List Frame
-wanted_of w head [] = []
-wanted_of w head (f ∷ fs) = if is_wanted_in w head f.segment && is_base f.frame.content then frames_in (f ∷ fs) else []
+abbrev pub wanted_of : Wanted → List Found → List Frame
+wanted_of w [] = []
+wanted_of w (f ∷ fs) = if is_wanted_in w f.segment && is_base f.frame.content then frames_in (f ∷ fs) else []
 
 -- the bytes of frames, back to back
 abbrev pub spelled : List Frame → Bytes
 spelled fs = flat_map bytes_of fs
+
+-- the bytes of a page's live frames if the first is a base, else 0; at most the greatest number of 64 bits
+abbrev pub live_size : List Found → ℕ
+live_size fs = min (length (spelled (wanted_of Every fs))) (2 ^ 64 - 1)
 
 -- ---- one page
 
@@ -59,10 +68,12 @@ IsStateOf state.Index cs = (p : Page ℕ) × (page_from_start cs ≡ Present (In
 IsStateOf state.Free cs = cs ≡ Free ∷ []
 IsStateOf state.Unfit cs = page_from_start cs ≡ Broken
 
--- what is kept of a page with these live frames, where the log begins at this segment
-pub record IsKept (w : Wanted) (head : ℕ) (k : Kept) (fs : List Found) : Type 0 where
+-- what is kept of a page with these live frames
+pub record IsKept (w : Wanted) (k : Kept) (fs : List Found) : Type 0 where
   pub state : IsStateOf k.state (contents_in fs)
-  pub frames : k.frames.items ≡ spelled (wanted_of w head fs)
+  pub segment : k.segment ≡ first_segment fs
+  pub size : k.size ≡ live_size fs
+  pub frames : k.frames.items ≡ spelled (wanted_of w fs)
 
 -- ---- one frame more
 
@@ -90,6 +101,26 @@ state_after t kinds.FullIndex = state.Index
 state_after t kinds.DeltaIndex = with_index_run t
 state_after t kinds.Free = state.Free
 
+-- the segment of the page's last base or free frame, after one more frame
+abbrev pub segment_after : ℕ → FrameKind → ℕ → ℕ
+segment_after last kinds.FullLeaf n = n
+segment_after last kinds.DeltaLeaf n = last
+segment_after last kinds.FullIndex n = n
+segment_after last kinds.DeltaIndex n = last
+segment_after last kinds.Free n = n
+
+-- the bytes of a page's frames with those of a run after them: where there are none, the run doesn't count
+abbrev pub run_size : ℕ → ℕ → ℕ
+run_size n more = if nat_eq n 0 then 0 else min (n + more) (2 ^ 64 - 1)
+
+-- and with any frame
+abbrev pub size_after : ℕ → FrameKind → ℕ → ℕ
+size_after n kinds.FullLeaf more = min more (2 ^ 64 - 1)
+size_after n kinds.DeltaLeaf more = run_size n more
+size_after n kinds.FullIndex more = min more (2 ^ 64 - 1)
+size_after n kinds.DeltaIndex more = run_size n more
+size_after n kinds.Free more = 0
+
 -- the frames that are kept with a base: that alone, where it is wanted
 abbrev pub with_base : Bool → Bytes → Bytes
 with_base is_wanted frame = if is_wanted then frame else []
@@ -110,30 +141,19 @@ kept_with frames kinds.Free is_wanted frame = []
 -- ---- all pages
 
 -- what is kept under a pid whose live frames these are
-abbrev pub IsKeptOf : Wanted → ℕ → Option Kept → List Found → Type 0
-IsKeptOf w head None fs = fs ≡ []
-IsKeptOf w head (Some k) fs = IsKept w head k fs
+abbrev pub IsKeptOf : Wanted → Option Kept → List Found → Type 0
+IsKeptOf w None fs = fs ≡ []
+IsKeptOf w (Some k) fs = IsKept w k fs
 
 -- Of what was found so far, under each pid what is kept of its page; and each pid with a frame that was found is known to have one.
-pub record AreKept (w : Wanted) (head : ℕ) (by_pid : BTreeMap ℕ Kept) (found : List Found) : Type 0 where
-  pub each : (pid : ℕ) → IsKeptOf w head (get nat_cmp by_pid pid) (live_frames pid found)
+pub record AreKept (w : Wanted) (by_pid : BTreeMap ℕ Kept) (found : List Found) : Type 0 where
+  pub each : (pid : ℕ) → IsKeptOf w (get nat_cmp by_pid pid) (live_frames pid found)
   pub pids : (pid : ℕ) → is_some (get nat_cmp by_pid pid) ≡ is_among pid (map (λ f. f.frame.pid) found)
 
--- the segment where the first of these stands
-abbrev pub first_segment : List Found → ℕ
-first_segment [] = 0
-first_segment (f ∷ fs) = f.segment
-
--- that segment, where there is one
-abbrev pub first_found : List Found → Option ℕ
-first_found [] = None
-first_found (f ∷ fs) = Some f.segment
-
--- what is kept of the pages is the state after these frames, and those that are wanted, in a log that begins where the first stands
+-- what is kept of the pages is the state after these frames, and those that are wanted
 pub record AreLive (w : Wanted) (g : Gathering) (found : List Found) : Type 0 where
   pub wanted : g.wanted ≡ w
-  pub first : g.first ≡ first_found found
-  pub kept : AreKept w (first_segment found) g.by_pid found
+  pub kept : AreKept w g.by_pid found
 
 -- and they are frames that a log of this format may have
 pub record AreGathered (s : Format) (w : Wanted) (g : Gathering) (found : List Found) : Type 0 where

@@ -3,7 +3,7 @@
 //! Whoever wrote a disk chose its page ids. So they are looked up by their order and not by a hash, which ids could be chosen to share.
 ghost use Rattle.std.specs.Prelude.{◌≡◌, ◌++◌, ◌∷◌, [], List, IfOk, OnOk};
 ghost use Rattle.flush_log.specs.Reading.{Found};
-ghost use Rattle.recovery.specs.Gathered.{AreLive, is_wanted_in, state_after, with_base, with_run, kept_with, is_unfit};
+ghost use Rattle.recovery.specs.Gathered.{AreLive, is_wanted_in, state_after, segment_after, run_size, size_after, with_base, with_run, kept_with, is_unfit};
 ghost use Rattle.recovery.specs.LogPages.{broken_in};
 ghost use Rattle.recovery.specs.Scan.{held_frame, said_of_frame};
 ghost use Rattle.recovery.specs.StoreOfDisk.{frames_in};
@@ -23,8 +23,8 @@ const UNFIT_FRAMES: u32 = 1;
 pub enum Wanted {
     /// Those of every page that there is, as a recovery needs them.
     Every,
-    /// Those of the pages whose base stands in the segment of the log's first frame, as a clean needs them.
-    Head,
+    /// Those of the pages whose base is in a segment below this one, as cleans need them.
+    Before(u64),
 }
 
 /// The state of a page after its frames so far. What stands before a base or a free frame no longer counts.
@@ -47,6 +47,10 @@ pub enum PageState {
 pub struct Kept {
     /// The state after its frames.
     pub state: PageState,
+    /// The segment of its last base or free frame; 0 if it has neither.
+    pub segment: u64,
+    /// How many bytes its frames from its last base on have, whether they are wanted or not; 0 if it has no base. At most `u64::MAX`.
+    pub size: u64,
     /// Its frames from its last base on, back to back, where they are wanted; else none, and then they take no memory.
     pub frames: Vec<u8>,
 }
@@ -58,8 +62,6 @@ pub struct Gathering {
     pub alloc: Global,
     /// Whose frames are kept.
     pub wanted: Wanted,
-    /// The segment where the first frame stands, once one came.
-    pub first: Option<u64>,
     /// What is kept, under the number of the page id.
     pub by_pid: BTreeMap<u64, Kept, Global>,
 }
@@ -86,6 +88,43 @@ fn state_after(state: PageState, kind: FrameKind) -> PageState
             PageState::Unfit => PageState::Unfit,
         },
         FrameKind::Free => PageState::Free,
+    }
+}
+
+// The segment of the page's last base or free frame after one more frame of this kind, which stands in `segment`.
+fn segment_after(last: u64, kind: FrameKind, segment: u64) -> u64
+    ensures { result ≡ segment_after last kind segment }
+{
+    match kind {
+        FrameKind::FullLeaf => segment,
+        FrameKind::DeltaLeaf => last,
+        FrameKind::FullIndex => segment,
+        FrameKind::DeltaIndex => last,
+        FrameKind::Free => segment,
+    }
+}
+
+// The bytes from the page's base on with a run of `more` bytes after them.
+fn run_size(size: u64, more: u64) -> u64
+    ensures { result ≡ run_size size more }
+{
+    if size == 0 {
+        0
+    } else {
+        size.saturating_add(more)
+    }
+}
+
+// The bytes from the page's last base on after one more frame of this kind, which has `more` bytes.
+fn size_after(size: u64, kind: FrameKind, more: u64) -> u64
+    ensures { result ≡ size_after size kind more }
+{
+    match kind {
+        FrameKind::FullLeaf => more,
+        FrameKind::DeltaLeaf => run_size(size, more),
+        FrameKind::FullIndex => more,
+        FrameKind::DeltaIndex => run_size(size, more),
+        FrameKind::Free => 0,
     }
 }
 
@@ -150,18 +189,17 @@ impl Gathering {
         Gathering {
             alloc,
             wanted,
-            first: None,
             by_pid: BTreeMap::new(alloc),
         }
     }
 
-    // Whether the frames of a page are kept whose base stands in this segment, where the log begins with that one.
-    fn is_wanted(&self, first: u64, segment: u64) -> bool
-        ensures { result ≡ is_wanted_in self.now.wanted first segment }
+    // Whether the frames of a page are kept whose base stands in this segment.
+    fn is_wanted(&self, segment: u64) -> bool
+        ensures { result ≡ is_wanted_in self.now.wanted segment }
     {
         match self.wanted {
             Wanted::Every => true,
-            Wanted::Head => segment == first,
+            Wanted::Before(end) => segment < end,
         }
     }
 
@@ -172,22 +210,29 @@ impl Gathering {
             OnOk result (AreLive w self.new (found ++ f ∷ [])) }
     {
         let ScannedFrame { pid, kind, bytes } = frame;
-        let first = self.first.unwrap_or(segment);
-        let is_wanted = self.is_wanted(first, segment);
+        let is_wanted = self.is_wanted(segment);
         let before = match self.by_pid.remove(&pid) {
             Some(kept) => kept,
             None => Kept {
                 state: PageState::Nothing,
+                segment: 0,
+                size: 0,
                 frames: Vec::new(self.alloc),
             },
         };
-        let Kept { state, frames } = before;
+        let Kept {
+            state,
+            segment: last,
+            size,
+            frames,
+        } = before;
         let kept = Kept {
             state: state_after(state, kind),
+            segment: segment_after(last, kind, segment),
+            size: size_after(size, kind, bytes.len() as u64),
             frames: frames_with(self.alloc, frames, kind, is_wanted, bytes)?,
         };
         self.by_pid.insert(pid, kept)?;
-        self.first = Some(first);
         Ok(())
     }
 
