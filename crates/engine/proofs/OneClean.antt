@@ -16,8 +16,8 @@ use Rattle.recovery.specs.Recovered.{IsReadOf}
 use Rattle.recovery.specs.StoreOfDisk.{store_of_disk}
 use Rattle.cleaner.specs.AfterClean.{after_clean}
 use Rattle.cleaner.specs.Cleaned.{IsCleanFault}
+use Rattle.cleaner.specs.PagesRead.{PagesRead, IsReadingOf}
 use Rattle.engine.specs.Cleans.{IsReadFor, IsOnlyRead, IsDoneClean, IsRefusedClean}
-use Rattle.engine.specs.Readings.{PagesRead, IsReadingOf}
 use Rattle.engine.specs.State.{State, IsSound}
 use Rattle.engine.specs.Steps.Step.{Clean}
 use Rattle.engine.proofs.CleanDone.{cleaned-sound, refused-sound}

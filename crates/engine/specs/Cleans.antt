@@ -6,12 +6,12 @@ use Rattle.keys.specs.declared.fault.Fault.{Fault}
 use Rattle.keys.specs.declared.fault.Fault.TheVariants.{Device}
 use Rattle.flush_log.specs.Disk.{View, IsSettled, Kept, Same, LeavesOnly}
 use Rattle.flush_log.specs.Ends.{ends_of}
+use Rattle.cleaner.specs.PagesRead.{PagesRead, IsReadingOf}
 use Rattle.engine.specs.Plays.{IsPlayed, IsPlayedOn, IsStepDone, IsStepFault, IsLeftInStep, answer_of}
 use Rattle.engine.specs.State.{State, IsSound}
 use Rattle.engine.specs.Steps.{Step, StandsAfterSome, after_step, batching, plays}
 use Rattle.engine.specs.Steps.Step.{Clean}
 use Rattle.engine.specs.Turns.{IsTurn}
-use Rattle.engine.specs.Readings.{PagesRead, IsReadingOf}
 use Rattle.engine.specs.declared.step.Answer as code_answer
 use Rattle.engine.specs.declared.step.Answer.TheVariants.{Cleaned}
 

@@ -12,7 +12,6 @@ pub mod OnlyRoute
 pub mod Opened
 pub mod Pending
 pub mod Plays
-pub mod Readings
 pub mod Refusal
 pub mod SoundTree
 pub mod State

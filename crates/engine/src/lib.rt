@@ -9,7 +9,6 @@ mod file_store;
 pub mod laws;
 mod leaf_tasks;
 mod leaves;
-mod reading;
 mod reads;
 mod refusal;
 mod step;

@@ -4,11 +4,11 @@ ghost use Rattle.engine.specs.Cleans.{AreCleaned, AreStopped, IsReadFor, IsOnlyR
 ghost use Rattle.engine.specs.Refusal.{is_crew};
 ghost use Rattle.engine.specs.State.{IsSound};
 
-use crate::reading::{Reading, clean_by, read_for_cleans};
 use crate::refusal::admit_crew;
 use crate::store::Store;
 use crate::store::clean::is_of_disk;
 use cleaner::laws::a_clean_keeps_the_store;
+use cleaner::{Reading, clean_by, read_for_cleans};
 use crew::Crew;
 use flush_log::Disk;
 use frame_codec::Format;
