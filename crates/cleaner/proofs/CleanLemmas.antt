@@ -62,6 +62,10 @@ pub all-carried : (P : Frame → Type 0) (head : ℕ) (fs : List Found) → AllB
 all-carried P head [] a = tt
 all-carried P head (f ∷ fs) a = carried_by P (nat_eq f.segment head && is_base f.frame.content) (frames_in (f ∷ fs)) a
 
+pub nil_from : (xs : List Found) → contents_in xs ≡ [] → xs ≡ []
+nil_from [] e = refl
+nil_from (x ∷ xs) e = absurd (cc)
+
 module _ (head : ℕ) (found : List Found) where
   abbrev carried_of : ℕ → List Frame
   carried_of pid = carried head (live_frames pid found)
@@ -73,10 +77,6 @@ module _ (head : ℕ) (found : List Found) where
   own_carried n pid =
       of_each n pid (carried_of n) (all-carried (λ f. nat_eq f.pid n ≡ true) head (live_frames n found) (frames_own n (live_frames n found) (from_last-all starts (λ f. nat_eq f.frame.pid n ≡ true) (of_pid n found) (own n found))))
 
-  nil_from : (xs : List Found) → contents_in xs ≡ [] → xs ≡ []
-  nil_from [] e = refl
-  nil_from (x ∷ xs) e = absurd (cc)
-
   else_due : (b : Bool) (pid : ℕ) → is_among pid (pids_of (frames_in found)) ≡ b → cond b (due pid) [] ≡ due pid
   else_due true pid e = refl
   else_due false pid e =
@@ -84,7 +84,7 @@ module _ (head : ℕ) (found : List Found) where
       sym (ap (λ (fs : List Found). map (λ (f : Frame). f.content) (carried head (from_last starts fs))) none)
 
   -- of each pid the text has what is carried on of it
-  text-of_pid : (pid : ℕ) → contents_of pid (clean_text head found) ≡ due pid
+  pub text-of_pid : (pid : ℕ) → contents_of pid (clean_text head found) ≡ due pid
   text-of_pid pid =
       made-under carried_of due own_carried (pids_of (frames_in found)) pid (rising-with_numbers (pids (frames_in found)) [] tt)
       ∙ else_due (is_among pid (pids_of (frames_in found))) pid refl

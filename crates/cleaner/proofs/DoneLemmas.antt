@@ -1,7 +1,8 @@
 -- What a clean that was planned leaves of a disk.
-use Rattle.std.specs.Prelude.{◌≡◌, ◌≢◌, ◌⊎◌, ℕ, List, Result, Ok}
+use Rattle.std.specs.Prelude.{◌≡◌, ◌≢◌, ◌⊎◌, ℕ, List, Result, Ok, Err, MatchResult, IfOk, IfErr}
 use Rattle.std.proofs.Common.{sym, ap, ◌∙◌, subst, inl, inr}
 use Rattle.keys.specs.declared.fault.Fault.{Fault}
+use Rattle.keys.specs.declared.fault.Fault.TheVariants.{Device}
 use Rattle.keys.specs.declared.settings.Settings.{Settings}
 use Rattle.mapping.specs.Tree.{Store}
 use Rattle.frame_codec.specs.Frame.{Frame}
@@ -15,8 +16,9 @@ use Rattle.flush_log.proofs.SameLemmas.{left_after}
 use Rattle.flush_log.proofs.ViewLemmas.{weaker}
 use Rattle.recovery.specs.InStep.{IsInStep}
 use Rattle.recovery.specs.StoreOfDisk.{store_of_disk}
+use Rattle.recovery.proofs.ReadBytes.{same_then}
 use Rattle.cleaner.specs.AfterClean.{after_clean}
-use Rattle.cleaner.specs.Cleaned.{WouldClean, IsClean}
+use Rattle.cleaner.specs.Cleaned.{WouldClean, IsCleanFault, IsClean}
 use Rattle.cleaner.specs.CleanText.{clean_text}
 use Rattle.cleaner.proofs.CleanCrash.{clean-hidden}
 use Rattle.cleaner.proofs.PlanLemmas.{format_for, base_in, own_done}
@@ -56,3 +58,24 @@ module _ (s : Settings) (st : Store) (m : CommitPlan) (more : st.head ≢ last_s
       let text : List Frame = clean_text st.head p.0 in
       weaker old new (LeftOf s base text old.seen) (CleanLeaves old.seen) (λ c h. plan-leaves old.seen c step p h)
       (left_after old mid new (LeftOf s base text old.seen) same (subst (λ (f : List ℕ). LeavesOnly mid new (LeftOf s base text f)) same.seen run))
+
+-- ---- after a reading, which left the disk as it was
+
+module _ (s : Settings) (st : Store) where
+  pub fault-since : (r : Result Slot Fault) (Done : Slot → Type 0) (file : List ℕ) (old mid new : ℕ) → mid ≡ old → MatchResult r Done (IsCleanFault s st file mid new) → MatchResult r Done (IsCleanFault s st file old new)
+  fault-since r Done file old mid new same h = subst (λ (n : ℕ). MatchResult r Done (IsCleanFault s st file n new)) same h
+
+  pub written-since : (r : Result Slot Fault) (old mid new : View) → Same old mid → IfOk r (λ u. after_clean s st mid.seen ≡ Ok (store_after st.tree u, new.seen)) → IfOk r (λ u. after_clean s st old.seen ≡ Ok (store_after st.tree u, new.seen))
+  written-since r old mid new same h = subst (λ (file : List ℕ). IfOk r (λ u. after_clean s st file ≡ Ok (store_after st.tree u, new.seen))) same.seen h
+
+  -- what a crash leaves: the store before, or all that a clean leaves
+  abbrev Leaves : List ℕ → List ℕ → Type 0
+  Leaves file c = (store_of_disk c ≡ store_of_disk file) ⊎ ((x : Store) × (after_clean s st file ≡ Ok (x, c)))
+
+  pub crash-since : (old mid new : View) → Same old mid → LeavesOnly mid new (Leaves mid.seen) → LeavesOnly old new (Leaves old.seen)
+  crash-since old mid new same run = left_after old mid new (Leaves old.seen) same (subst (λ (file : List ℕ). LeavesOnly mid new (Leaves file)) same.seen run)
+
+  pub unwritten-since : (r : Result Slot Fault) (old mid new : View) → Same old mid → IfErr r (λ fault. Same mid new ⊎ ((fault ≡ Device) × WouldClean s st mid.seen)) → IfErr r (λ fault. Same old new ⊎ ((fault ≡ Device) × WouldClean s st old.seen))
+  unwritten-since (Ok u) old mid new same h = tt
+  unwritten-since (Err fault) old mid new same (inl still) = inl (same_then old mid new same still)
+  unwritten-since (Err fault) old mid new same (inr (device, would)) = inr (device, subst (λ (file : List ℕ). WouldClean s st file) same.seen would)

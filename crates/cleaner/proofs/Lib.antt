@@ -5,4 +5,8 @@ pub mod CleanCrash
 mod CleanLemmas
 mod CleanRows
 mod DoneLemmas
+mod LaterCleans
+mod NextReading
+mod NumberLists
 mod PlanLemmas
+mod ReadingLemmas

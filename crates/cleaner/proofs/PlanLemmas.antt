@@ -23,7 +23,7 @@ use Rattle.flush_log.specs.Disk.{HasFailed}
 use Rattle.flush_log.specs.Ends.{ends_of, AreEnds}
 use Rattle.flush_log.specs.Images.{AreOfText, admitted}
 use Rattle.flush_log.specs.Layout.{spans, is_full_for_clean}
-use Rattle.flush_log.specs.Overlay.{overlay}
+use Rattle.flush_log.specs.Overlay.{overlay, IsBeside, AgreeAt}
 use Rattle.flush_log.specs.Reading.{Found, all_in, log_between, log}
 use Rattle.flush_log.specs.Segments.{segments_begin, last_segment}
 use Rattle.flush_log.specs.Slot.{Slot, format_of, greatest, slot_place, slot_in}
@@ -33,7 +33,7 @@ use Rattle.flush_log.proofs.CommitLemmas.{slot_low}
 use Rattle.flush_log.proofs.FitLemmas.{are_sized}
 use Rattle.flush_log.proofs.HeadLemmas.{HeadOff, head-off}
 use Rattle.flush_log.proofs.LayoutLemmas.{split-tail}
-use Rattle.flush_log.proofs.OverlayLemmas.{overlay-part}
+use Rattle.flush_log.proofs.OverlayLemmas.{overlay-part, overlay-beside, agree_less}
 use Rattle.flush_log.proofs.PlannedLemmas.{head-low}
 use Rattle.flush_log.proofs.TailLemmas.{clean-is-flush}
 use Rattle.recovery.specs.LogPages.{broken_in}
@@ -41,17 +41,12 @@ use Rattle.recovery.specs.Recovered.{IsLate}
 use Rattle.recovery.specs.StoreOfDisk.{unless_found, frames_in}
 use Rattle.recovery.proofs.FoundWithin.{log-within}
 use Rattle.cleaner.specs.AfterClean.{slot_on_disk, clean_slot, after_carried, after_clean_of, after_clean}
-use Rattle.cleaner.specs.Cleaned.{IsRefused, IsRead, IsText, cleaned_slot, IsClean}
+use Rattle.cleaner.specs.Cleaned.{IsCleanFault, IsRefused, IsRead, cleaned_slot, IsClean}
 use Rattle.cleaner.specs.CleanText.{clean_text}
-use Rattle.cleaner.specs.Chosen.{BeginsAt}
 use Rattle.cleaner.proofs.CleanLemmas.{all-clean_text}
 
 abbrev left : Store → List ℕ → Result (Store × List ℕ) Fault
 left now bytes = Ok (now, bytes)
-
--- a fault was late also where no read had failed before
-pub since : (g : Format) (e : LogEnds) (file : List ℕ) (old mid new : ℕ) (fault : Fault) → mid ≡ old → IsRefused g e file fault ⊎ IsLate mid new fault → IsRefused g e file fault ⊎ IsLate old new fault
-since g e file old mid new fault same h = subst (λ (n : ℕ). IsRefused g e file fault ⊎ IsLate n new fault) same h
 
 -- ---- the log of a store
 
@@ -86,14 +81,11 @@ slot-read n file buf room long =
     subst (λ (k : ℕ). take k (drop (slot_place n) (overlay file (slot_place n) buf)) ≡ buf) long (overlay-part file (slot_place n) buf (omega (arith, low, room, long))) in
     ap slot_in (sym part)
 
-front-part : (at : ℕ) (file : List ℕ) → at + 64 ≤ 512 → take 64 (drop at file) ≡ drop at (take (at + 64) (take 512 file))
-front-part at file low = sym (drop-take at 64 file) ∙ ap (λ (bs : List ℕ). drop at bs) (sym (take-take (at + 64) 512 file low))
-
--- and it stays so where the bytes in front of the segments do
-pub slot-still : (n : ℕ) (file now : List ℕ) → take segments_begin now ≡ take segments_begin file → slot_on_disk n now ≡ slot_on_disk n file
-slot-still n file now front =
-    let low : slot_place n + 64 ≤ 512 = (let few = slot_low n in omega (arith, few)) in
-    ap slot_in (front-part (slot_place n) now low ∙ ap (λ (bs : List ℕ). drop (slot_place n) (take (slot_place n + 64) bs)) front ∙ sym (front-part (slot_place n) file low))
+-- and the segments stay as they are
+pub slot-beside : (n : ℕ) (file buf : List ℕ) → 512 ≤ length file → length buf ≡ 64 → AgreeAt (λ i. 512 ≤ i) file (overlay file (slot_place n) buf)
+slot-beside n file buf room long =
+    let low = slot_low n in
+    agree_less (IsBeside (slot_place n) (length buf)) (λ i. 512 ≤ i) file (overlay file (slot_place n) buf) (λ i high. inr (omega (arith, low, long, high))) (overlay-beside file (slot_place n) buf (omega (arith, low, room, long)))
 
 -- ---- why a clean is refused
 
@@ -136,24 +128,12 @@ module _ (g : Format) (e : LogEnds) (good : first_bad_field g.settings ≡ None)
   pub head-room : e.head ≤ greatest
   head-room = (let far = are.after in let low = head-low g.settings e.head e.tail good (omega (arith, far)) in let tail = are.tail in omega (arith, low, tail))
 
-  more_in_use : e.head ≢ last_segment g.settings e.tail → e.head < last_segment g.settings e.tail
+  pub more_in_use : e.head ≢ last_segment g.settings e.tail → e.head < last_segment g.settings e.tail
   more_in_use more =
       let size = (are_sized g.settings good).least_size in
       let far = are.after in
       let from = (split-tail g.settings e.head e.tail (omega (arith, size)) (omega (arith, far))).from in
       elim (cases_lt e.head (last_segment g.settings e.tail)) [ inl k ↦ k | inr k ↦ absurd (more (omega (arith, from, k))) ]
-
-  -- the first frame stands in the head segment, or none does
-  pub log-begins : (file : List ℕ) (found : List Found) → e.head ≢ last_segment g.settings e.tail → log_between g file e.head e.tail ≡ Ok found → BeginsAt e.head found
-  log-begins file found more read =
-      let off : HeadOff g file e.head e.tail found (more_in_use more) read = head-off g file e.head e.tail found (more_in_use more) read in
-      subst (λ (fs : List Found). BeginsAt e.head fs) (sym off.all)
-      (of off.here off.rest (all_weaker (λ f. (suc e.head ≤ f.segment) × (f.segment ≤ last_segment g.settings e.tail)) (λ f. nat_eq f.segment e.head ≡ false) (λ f h. ne_eqb f.segment e.head (λ same. let l = h.0 in omega (arith, l, same))) off.rest off.later))
-    where
-      of : (here : List Frame) (rest : List Found) → AllByRecursion (λ f. nat_eq f.segment e.head ≡ false) rest → BeginsAt e.head (all_in e.head here ++ rest)
-      of (f ∷ fs) rest later = inl refl
-      of [] [] later = tt
-      of [] (f ∷ fs) later = inr later
 
   -- the log without its first segment doesn't end in front of what is left
   pub log-left : e.head ≢ last_segment g.settings e.tail → suc e.head * g.settings.seg_size < e.tail
@@ -170,10 +150,6 @@ module _ (g : Format) (e : LogEnds) (good : first_bad_field g.settings ≡ None)
 -- what its text is added to, by these bytes
 abbrev pub base_in : Format → LogEnds → List ℕ → Slot
 base_in g e file = cleaned_slot g.version e (slot_on_disk e.sequence file)
-
--- once it was read, and the front of the disk stays
-pub base_still : (g : Format) (e : LogEnds) (on_disk u : Slot) (file now : List ℕ) → on_disk ≡ slot_on_disk e.sequence file → take segments_begin now ≡ take segments_begin file → u ≡ cleaned_slot g.version e on_disk → u ≡ base_in g e now
-base_still g e on_disk u file now read front is = is ∙ ap (λ (d : Slot). cleaned_slot g.version e d) (read ∙ sym (slot-still e.sequence file now front))
 
 -- images for a log of this format are so by a slot with its version
 pub images-by : (g : Format) (u : Slot) (text : List Frame) (images : List (List (List ℕ))) → u.version ≡ g.version → AreImages g text images → AreImages (format_of g.settings u) text images
@@ -213,35 +189,33 @@ module _ (g : Format) (e : LogEnds) (file : List ℕ) (st : Store) (ends : ends_
   pub clean-planned : (m : CommitPlan) → DoneBy g.settings file st m g e
   clean-planned m = of-store g e st ends version (DoneBy g.settings file st m) (own_done g.settings file st m)
 
--- the plan of the commit that adds the text to this slot's log is that of the clean
-pub as-clean : (g : Format) (e : LogEnds) (u : Slot) (file : List ℕ) (found : List Found) (old new : ℕ) (r : Result CommitPlan Fault) → e.head ≢ last_segment g.settings e.tail → IsRead g e file found → u ≡ base_in g e file
+-- the plan of the commit that adds the text to this slot's log is that of the clean, and what holds of the frames that were found holds of them still
+pub as-clean : (g : Format) (e : LogEnds) (u : Slot) (file : List ℕ) (found : List Found) (Such : List Found → Type 0) (old new : ℕ) (r : Result CommitPlan Fault) → e.head ≢ last_segment g.settings e.tail → IsRead g e file found → Such found → u ≡ base_in g e file
     → MatchResult r (λ m. IsPlanned g.settings u (clean_text e.head found) m) (λ fault. (fault ≡ NoMemory) ⊎ (next_tail g.settings u (clean_text e.head found) ≡ Err fault))
-    → MatchResult r (λ m. IsClean g e file m) (λ fault. IsRefused g e file fault ⊎ IsLate old new fault)
-as-clean g e u file found old new (Ok m) more read is p = (found, read, subst (λ (v : Slot). IsPlanned g.settings v (clean_text e.head found) m) is p)
-as-clean g e u file found old new (Err fault) more read is (inl memory) = inr (inl memory)
-as-clean g e u file found old new (Err fault) more read is (inr full) =
+    → MatchResult r (λ m. (p : IsClean g e file m) × Such p.0) (λ fault. IsRefused g e file fault ⊎ IsLate old new fault)
+as-clean g e u file found Such old new (Ok m) more read such is p = ((found, read, subst (λ (v : Slot). IsPlanned g.settings v (clean_text e.head found) m) is p), such)
+as-clean g e u file found Such old new (Err fault) more read such is (inl memory) = inr (inl memory)
+as-clean g e u file found Such old new (Err fault) more read such is (inr full) =
     inl (λ st same version. tail-refused g e file st same version fault more found read (subst (λ (v : Slot). next_tail g.settings v (clean_text e.head found) ≡ Err fault) is full))
 
--- ---- what was chosen of what was read
+-- ---- what was read
 
--- what is known of the choice of this head segment's text
-abbrev pub IsChoice : {X : Type 0} → (X → List (List (List ℕ))) → ℕ → List Found → Result X Fault → Type 0
-IsChoice items head found r = MatchResult r (λ x. (broken_in (frames_in found) ≡ None) × AreOfText (items x) (clean_text head found))
-    (λ fault. (fault ≡ NoMemory) ⊎ ((f : Finding) × (broken_in (frames_in found) ≡ Some f) × (fault ≡ BadStructure f)))
+module _ (g : Format) (e : LogEnds) (file : List ℕ) (more : e.head ≢ last_segment g.settings e.tail) (old new : ℕ) where
+  -- a fault of a reading is one of a clean
+  pub clean-fault : (st : Store) → ends_of st ≡ e → st.version ≡ g.version → (fault : Fault) → IsRefused g e file fault ⊎ IsLate old new fault → IsCleanFault g.settings st file old new fault
+  clean-fault st same version fault (inl refused) = inl (refused st same version)
+  clean-fault st same version fault (inr late) = inr (more-of g e st same version more, late)
 
-abbrev pub HasSome : {X : Type 0} → (X → List (List (List ℕ))) → ℕ → List Found → Result X Fault → Type 0
-HasSome items head found r = IfOk r (λ x. (items x ≡ []) ⊎ (1 ≤ length (clean_text head found)))
+  -- what is wrong with what was read
+  pub wrong-read : (found : List Found) → log_between g file e.head e.tail ≡ Ok found → (fault : Fault) → (fault ≡ NoMemory) ⊎ ((f : Finding) × (broken_in (frames_in found) ≡ Some f) × (fault ≡ BadStructure f))
+      → IsRefused g e file fault ⊎ IsLate old new fault
+  wrong-read found read fault (inl memory) = inr (inl memory)
+  wrong-read found read fault (inr (f, broken, fits)) = inl (pages-refused g file e more found fault f read broken fits)
 
-module _ {X : Type 0} (items : X → List (List (List ℕ))) (g : Format) (e : LogEnds) (file : List ℕ) (more : e.head ≢ last_segment g.settings e.tail) (old new : ℕ) where
-  -- of the text
-  abbrev IsTextOf : Result X Fault → Type 0
-  IsTextOf r = MatchResult r (λ x. IsText g e file (items x)) (λ fault. IsRefused g e file fault ⊎ IsLate old new fault)
-
-  pub text-of_choice : (found : List Found) → log_between g file e.head e.tail ≡ Ok found → (r : Result X Fault) → IsChoice items e.head found r → HasSome items e.head found r → IsTextOf r
-  text-of_choice found read (Ok x) h some =
-      (found, record { read = read; sound = h.0 }, record { of = h.1; some = some; within = all-clean_text (λ f. is_frame g f ≡ true) e.head found (log-within g file e.head e.tail found read) })
-  text-of_choice found read (Err fault) (inl memory) some = inr (inl memory)
-  text-of_choice found read (Err fault) (inr (f, broken, fits)) some = inl (pages-refused g file e more found fault f read broken fits)
+-- the images of a text that was chosen
+pub chosen-images : (g : Format) (e : LogEnds) (file : List ℕ) (found : List Found) (images : List (List (List ℕ))) → IsRead g e file found → AreOfText images (clean_text e.head found) → (images ≡ []) ⊎ (1 ≤ length (clean_text e.head found)) → AreImages g (clean_text e.head found) images
+chosen-images g e file found images is of some =
+    record { of = of; some = some; within = all-clean_text (λ f. is_frame g f ≡ true) e.head found (log-within g file e.head e.tail found is.read) }
 
 -- a plan of a log is one of a store with that log, and of the bytes that the disk shows
 pub plan-of : (g : Format) (e : LogEnds) (file seen : List ℕ) (m : CommitPlan) (st : Store) → ends_of st ≡ e → st.version ≡ g.version → file ≡ seen → IsClean g e file m → IsClean (format_for g.settings st) (ends_of st) seen m

@@ -6,7 +6,7 @@ use Rattle.keys.specs.declared.settings.Settings.{Settings}
 use Rattle.keys.specs.declared.version.Version.{Version}
 use Rattle.mapping.specs.Tree.{Store}
 use Rattle.frame_codec.specs.declared.format.Format.{Format}
-use Rattle.flush_log.specs.CommitPlan.{AreImages, CommitPlan, IsPlanned}
+use Rattle.flush_log.specs.CommitPlan.{CommitPlan, IsPlanned}
 use Rattle.flush_log.specs.Ends.{ends_of}
 use Rattle.flush_log.specs.Reading.{Found, log_between}
 use Rattle.flush_log.specs.Segments.{last_segment}
@@ -38,10 +38,6 @@ IsRefused g e file fault = (st : Store) → ends_of st ≡ e → st.version ≡ 
 pub record IsRead (g : Format) (e : LogEnds) (file : Bytes) (found : List Found) : Type 0 where
   pub read : log_between g file e.head e.tail ≡ Ok found
   pub sound : broken_in (frames_in found) ≡ None
-
--- these images are the frames of its text
-abbrev pub IsText : Format → LogEnds → Bytes → List (List Bytes) → Type 0
-IsText g e file images = (found : List Found) × IsRead g e file found × AreImages g (clean_text e.head found) images
 
 -- what a clean adds its text to: the log without its first segment, of this version, with the root and the height of a slot on the disk
 abbrev pub cleaned_slot : Version → LogEnds → Slot → Slot

@@ -6,6 +6,7 @@ mod BatchLeaves
 mod BlankAnswers
 mod CleanDone
 mod CleaningLemmas
+mod CleansLemmas
 mod CommandsWithin
 mod ContentsFit
 mod CopyDone
@@ -25,6 +26,7 @@ mod InTurn
 mod LeafRoutes
 mod NeutralLemmas
 mod NumbersLemmas
+mod OneClean
 mod OneLeaf
 mod OpenedLemmas
 mod OwnRuns

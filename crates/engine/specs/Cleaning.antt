@@ -1,5 +1,5 @@
--- A flush that cleans as often as it takes: which steps it plays, and why it is refused.
-use Rattle.std.specs.Prelude.{◌≡◌, ◌≢◌, ◌⊎◌, ℕ, ◌<◌, ◌≤◌, IsTrue, true, false, List, [], ◌∷◌, ◌++◌, replicate, Err}
+-- A flush that cleans a full log: which steps it plays, and why it is refused.
+use Rattle.std.specs.Prelude.{◌≡◌, ◌≢◌, ◌⊎◌, ℕ, ◌+◌, ◌/◌, max, ◌<◌, ◌≤◌, IsTrue, true, false, List, [], ◌∷◌, ◌++◌, Err}
 use Rattle.std.specs.declared.alloc.Global.{Global}
 use Rattle.keys.specs.Bytes.{Bytes}
 use Rattle.keys.specs.declared.fault.Fault.{Fault}
@@ -9,6 +9,7 @@ use Rattle.mapping.specs.Levels.{contents}
 use Rattle.mapping.specs.Tree.{Store}
 use Rattle.flush_log.specs.AfterFlush.{after_flush}
 use Rattle.flush_log.specs.Disk.{View, IsSettled, Kept, LeavesOnly}
+use Rattle.engine.specs.Cleans.{cleans}
 use Rattle.engine.specs.Plays.{IsPlayed, IsPlayedOn, IsStepFault}
 use Rattle.engine.specs.State.{State}
 use Rattle.engine.specs.Steps.{Step, Played, StandsAfterSome, batching, plays}
@@ -16,15 +17,19 @@ use Rattle.engine.specs.Steps.Step.{Flush, Clean}
 use Rattle.engine.specs.Turns.{IsTurn}
 use Rattle.engine.specs.declared.step.Answer as code_answer
 
--- a number of cleans, as steps
-abbrev pub cleans : ℕ → List (Step Global)
-cleans n = replicate n Clean
+-- how many cleans may follow a flush that finds the log full, before the next flush
+abbrev pub most_ahead : Settings → ℕ
+most_ahead s = max (s.segments / 8) 1
 
--- after each fewer cleans than these, the log would be full for a flush
+-- after so many cleans the log would be full for a flush
+abbrev pub IsFullAfter : Settings → Store → Bytes → ℕ → Type 0
+IsFullAfter s st file n = (let p : Played Global = plays (batching s) s st file (cleans n) in after_flush s p.store p.bytes ≡ Err Full)
+
+-- each of these cleans, counted from 0, comes after so many that left the log full for a flush, or less than `most_ahead` later
 abbrev pub AreNeeded : Settings → Store → Bytes → ℕ → Type 0
-AreNeeded s st file n = (i : ℕ) → i < n → (let p : Played Global = plays (batching s) s st file (cleans i) in after_flush s p.store p.bytes ≡ Err Full)
+AreNeeded s st file n = (i : ℕ) → i < n → (j : ℕ) × (j ≤ i) × (i < j + most_ahead s) × IsFullAfter s st file j
 
--- a store was cleaned as often as it took, at most once a segment, and then flushed, as a play of these steps does; what it holds stays
+-- a store was cleaned, at most once a segment, and then flushed, as a play of these steps does; what it holds stays
 pub record IsFlushedCleaning {D : Type 0} (view : D → View) (failures : D → ℕ) (old now : State D) : Type 0 where
   pub count : ℕ
   pub most : count ≤ old.settings.segments
@@ -37,11 +42,12 @@ pub record IsFlushedCleaning {D : Type 0} (view : D → View) (failures : D → 
 abbrev pub IsWantOfRoom : Fault → Fault → Type 0
 IsWantOfRoom why fault = ((why ≡ NothingToClean) × (fault ≡ Full)) ⊎ ((why ≢ NothingToClean) × (fault ≡ why))
 
--- why it stops after a number of cleans, at a flush or at one more clean; a flush that finds the log full is the last one
+-- Why it stops after a number of cleans, at a flush or at one more clean. A flush that finds the log full is the last one. A clean is the
+-- first after such a flush, or a call of the disk failed in it.
 abbrev pub IsStop : Settings → Store → Bytes → ℕ → ℕ → ℕ → Step Global → Fault → Type 0
 IsStop s st file old new count x fault =
     ((x ≡ Flush) × IsStepFault s st file old new Flush fault × (fault ≡ Full → count ≡ s.segments))
-    ⊎ ((x ≡ Clean) × (count < s.segments) × (after_flush s st file ≡ Err Full) × (why : Fault) × IsWantOfRoom why fault × IsStepFault s st file old new Clean why)
+    ⊎ ((x ≡ Clean) × (count < s.segments) × ((after_flush s st file ≡ Err Full) ⊎ (fault ≡ Device)) × (why : Fault) × IsWantOfRoom why fault × IsStepFault s st file old new Clean why)
 
 -- It was refused after a number of cleans, which are done, as a play of these does. The store has the tree that it had.
 pub record IsStoppedCleaning {D : Type 0} (view : D → View) (failures : D → ℕ) (old now : State D) (fault : Fault) : Type 0 where

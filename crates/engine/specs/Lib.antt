@@ -2,6 +2,7 @@ pub mod Batch
 pub mod Batches
 pub mod Calls
 pub mod Cleaning
+pub mod Cleans
 pub mod Copies
 pub mod FileStore
 pub mod Hidden

@@ -15,6 +15,7 @@ ghost use Rattle.engine.specs.Steps.Step.{Batch};
 ghost use Rattle.verify.specs.Report.{report};
 
 mod clean;
+mod clean_many;
 mod cleaning;
 mod copy;
 mod creation;

@@ -21,7 +21,7 @@ use keys::Fault;
 use std::thread::Threads;
 
 // Whether a call of the disk failed.
-fn is_of_disk(fault: &Fault) -> bool
+pub(super) fn is_of_disk(fault: &Fault) -> bool
     ensures { ((fault.now ≡ Fault.Device) × (result ≡ true))
         ⊎ ((fault.now ≢ Fault.Device) × (result ≡ false)) }
 {

@@ -1,4 +1,4 @@
-//! The flush that makes itself room: it cleans as often as it takes.
+//! The flush that makes itself room: it cleans if the log is full.
 ghost use Rattle.std.specs.Prelude.{◌≡◌, ◌≢◌, ◌⊎◌, ◌<◌, Ok, Err, IsTrue, IfOk, IfErr, true, false};
 ghost use Rattle.engine.specs.Cleaning.{IsFlushedCleaning, IsStoppedCleaning, IsWantOfRoom};
 ghost use Rattle.engine.specs.Refusal.{is_crew};
@@ -13,7 +13,7 @@ use keys::Fault;
 use std::thread::Threads;
 
 // Whether to go on with a clean where a flush is refused: where the log is full, and some cleans are left.
-fn go_on(fault: Fault, left: u32) -> Result<(), Fault>
+fn go_on(fault: Fault, left: u64) -> Result<(), Fault>
     ensures { ((fault ≡ Fault.Full) × (0 < left) × (result ≡ Ok tt))
         ⊎ ((fault ≡ Fault.Full → left ≡ 0) × (result ≡ Err fault)) }
 {
@@ -34,16 +34,19 @@ fn want_of_room(fault: Fault) -> Fault
 }
 
 impl<D: Disk> Store<D> {
-    /// Writes what the log lacks, as `flush` does, and returns the sequence number now. Where the log is full, it is cleaned as often as it
-    /// takes, at most once for each of its segments: it does what that many calls of `clean` and one of `flush` do.
+    /// Writes what the log lacks, as `flush` does, and returns the sequence number now. If the log is full, segments are cleaned first: it
+    /// does what some calls of `clean`, at most one for each segment, and then one of `flush` do.
     ///
-    /// A store that has failed is `Fault::Failed`, and then a crew out of range `Fault::BadCrew`. Where all these cleans make no room,
+    /// Cleaning goes ahead. Once a flush finds the log full, the log is read once, and then up to an eighth of the segments are cleaned in
+    /// turn, as `clean_many` does, before the next flush is tried. So most flushes after that one find room without a clean.
+    ///
+    /// A store that has failed is `Fault::Failed`, and then a crew out of range `Fault::BadCrew`. If all these cleans make no room,
     /// or no more of them can be done, there is `Fault::Full`: what lives needs a larger log. Else there are the faults of `flush` and of
-    /// `clean`. After an `Err` the store holds what it held, and the cleans before it are done. After `Fault::Device` the store has failed, and the
-    /// disk holds the store of before or the one that it has.
+    /// `clean`. After an `Err` the store holds what it held, and the cleans before it are done. After `Fault::Device` the store has
+    /// failed, and the disk holds the store of before or the one that it has.
     ///
-    /// Each clean reads all segments in use, and each flush that is refused makes its frames: so where the log is mostly full, this costs
-    /// up to `segments` readings of the log and as many times the frames that it lacks.
+    /// Each flush that is refused makes its frames, and then the log is read. A log that is full of live data is so read about 8 times, or as
+    /// often as it has segments if these are less than 16.
     pub fn flush_cleaning(&mut self, rt: &(impl Threads + Sync), crew: Crew) -> Result<u64, Fault>
         // Some cleans and a flush, as a play of them does, whatever the disk does.
         ensures number { IfOk result (λ n. n ≡ self.new.store.sequence) }
@@ -64,14 +67,15 @@ impl<D: Disk> Store<D> {
             return Err(Fault::Failed);
         }
         admit_crew(crew)?;
-        let mut left = self.settings.segments;
+        let ahead = u64::from((self.settings.segments / 8).max(1));
+        let mut left = u64::from(self.settings.segments);
         'room: loop {
             match self.step(rt, crew, &NoGate, Step::Flush) {
                 Ok(_flushed) => return Ok(self.log.sequence),
                 Err(fault) => go_on(fault, left)?,
             }
-            match self.step(rt, crew, &NoGate, Step::Clean) {
-                Ok(_cleaned) => left -= 1,
+            match self.clean_ahead(rt, crew, ahead.min(left)) {
+                Ok(cleaned) => left -= cleaned,
                 Err(fault) => return Err(want_of_room(fault)),
             }
         }

@@ -1,6 +1,7 @@
+use Rattle.std.specs.Vec.Iter.{into_iter_items}
 use Rattle.cleaner.proofs.ChooseLemmas.{AreChosen}
 use Rattle.cleaner.proofs.choose.images_in.Given as goal
 
 -- the pages that are left, and the images of those in front
-abbrev pub invariant-loop-entry : goal.invariant-loop-entry
-invariant-loop-entry l = AreChosen l.format l.images.items l.entry-iterator l.fn.by_pid.entries
+abbrev pub invariant-loop-page : goal.invariant-loop-page
+invariant-loop-page l = AreChosen l.format l.images.items (into_iter_items l.page-iterator) l.fn.pages.items

@@ -1,0 +1,123 @@
+//! What one reading of a log keeps for the cleans of its first segments.
+ghost use Rattle.std.specs.Prelude.{◌≡◌, ◌≢◌, ◌⊎◌, ◌++◌, ℕ, List, None, Some, nat_lt, OnOk, IfOk, MatchResult};
+ghost use Rattle.std.specs.BTreeMap.{get};
+ghost use Rattle.std.specs.List.Sorted.{IsStrictlySortedBy};
+ghost use Rattle.std.specs.Map.{keys_of};
+ghost use Rattle.std.specs.Ordering.{nat_cmp};
+ghost use Rattle.keys.specs.Limits.{first_bad_field};
+ghost use Rattle.keys.specs.declared.fault.Fault.TheVariants.{NoMemory, BadStructure};
+ghost use Rattle.mapping.specs.Finding as findings;
+ghost use Rattle.frame_codec.specs.declared.format.Format.{Format};
+ghost use Rattle.flush_log.specs.Reading.{Found};
+ghost use Rattle.recovery.specs.Gathered.{AreGathered};
+ghost use Rattle.recovery.specs.LogPages.{broken_in};
+ghost use Rattle.recovery.specs.StoreOfDisk.{frames_in};
+ghost use Rattle.recovery.specs.declared.gather.Wanted.TheVariants.{Before};
+ghost use Rattle.cleaner.specs.Chosen.{page_in, pages_in, held};
+ghost use Rattle.cleaner.specs.PagesRead.{pages_at, HasTexts};
+
+use keys::Fault;
+use recovery::{Gathering, Kept};
+use std::alloc::{AllocError, Global};
+use std::collections::BTreeMap;
+use std::marker::Model;
+
+/// What one reading of a log found of the pages that live in its first segments. It is enough to clean the segments below a limit, one
+/// after the other. `read_for_cleans` makes it, and `clean_by` takes from it.
+#[derive(Drop)]
+pub struct Reading {
+    limit: u64,
+    // Of each segment the pages that live in it, by rising page id: the frames of each page, back to back.
+    pages: BTreeMap<u64, Vec<Vec<u8>>, Global>,
+}
+
+impl Model for Reading {
+    ghost use Rattle.cleaner.specs.Chosen.{entries_held};
+    ghost use Rattle.cleaner.specs.PagesRead.{PagesRead};
+
+    ghost Value = { PagesRead };
+
+    ghost view = { λ r. record { limit = r.limit; pages = entries_held r.pages.entries } };
+}
+
+// Adds a page to those of its segment, after them. It is left out if no frame of it is kept.
+fn add_page(
+    alloc: Global,
+    pages: &mut BTreeMap<u64, Vec<Vec<u8>>, Global>,
+    kept: Kept,
+) -> Result<(), AllocError>
+    ensures { (n : ℕ) → OnOk result
+        (held (get nat_cmp pages.new n) ≡ held (get nat_cmp pages.old n) ++ page_in n kept) }
+{
+    let Kept {
+        segment, frames, ..
+    } = kept;
+    if frames.is_empty() {
+        return Ok(());
+    }
+    let mut here = match pages.remove(&segment) {
+        Some(here) => here,
+        None => Vec::new(alloc),
+    };
+    here.push(frames)?;
+    pages.insert(segment, here)?;
+    Ok(())
+}
+
+// Groups the pages by the segment in which each of them lives.
+fn by_segment(
+    alloc: Global,
+    by_pid: BTreeMap<u64, Kept, Global>,
+) -> Result<BTreeMap<u64, Vec<Vec<u8>>, Global>, AllocError>
+    ensures pages { IfOk result
+        (λ pages. (n : ℕ) → held (get nat_cmp pages n) ≡ pages_in n by_pid.entries) }
+    ensures ordered { IsStrictlySortedBy nat_cmp (keys_of by_pid.entries) }
+{
+    // `len` is called only for the proof: it says that the page ids rise.
+    let _rising = by_pid.len();
+    let mut pages = BTreeMap::new(alloc);
+    for entry in by_pid {
+        let (_pid, kept) = entry;
+        add_page(alloc, &mut pages, kept)?;
+    }
+    Ok(pages)
+}
+
+impl Reading {
+    /// Keeps what was read of the pages that live in the segments below this limit.
+    ///
+    /// Fails with `Fault::BadStructure`, rule 1, if the frames of a page fit no page, with the least such page id; and with
+    /// `Fault::NoMemory`.
+    pub(crate) fn new(pages: Gathering, limit: u64) -> Result<Reading, Fault>
+        ensures { (g : Format) (found : List Found) → first_bad_field g.settings ≡ None →
+            AreGathered g (Before limit) pages found →
+            MatchResult result
+            (λ r. (broken_in (frames_in found) ≡ None) × (r.limit ≡ limit) × HasTexts g 0 found r)
+            (λ fault. (fault ≡ NoMemory)
+            ⊎ ((f : findings.Finding) × (broken_in (frames_in found) ≡ Some f)
+            × (fault ≡ BadStructure f))) }
+    {
+        if let Some(finding) = pages.unfit() {
+            return Err(Fault::BadStructure(finding));
+        }
+        let Gathering { alloc, by_pid, .. } = pages;
+        let pages = by_segment(alloc, by_pid)?;
+        Ok(Reading { limit, pages })
+    }
+
+    /// Returns whether a log that begins at this segment can be cleaned by this reading.
+    pub fn has(&self, head: u64) -> bool
+        ensures { result ≡ nat_lt head self.now.limit }
+    {
+        head < self.limit
+    }
+
+    /// Takes out the pages that live in this segment: none if there are none.
+    pub(crate) fn take(&mut self, segment: u64) -> Option<Vec<Vec<u8>>>
+        ensures taken { held result ≡ pages_at segment self.old }
+        ensures limit { self.new.limit ≡ self.old.limit }
+        ensures rest { (n : ℕ) → n ≢ segment → pages_at n self.new ≡ pages_at n self.old }
+    {
+        self.pages.remove(&segment)
+    }
+}

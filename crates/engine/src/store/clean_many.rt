@@ -1,0 +1,174 @@
+//! Many cleans in turn, by one reading of the log.
+ghost use Rattle.std.specs.Prelude.{◌≡◌, ◌≢◌, ◌⊎◌, ℕ, ◌<◌, ◌≤◌, Ok, Err, IsTrue, IfOk, IfErr, MatchResult, true, false};
+ghost use Rattle.engine.specs.Cleans.{AreCleaned, AreStopped, IsReadFor, IsOnlyRead, IsDoneClean, IsRefusedClean, IsCleanedOn, IsStoppedOn};
+ghost use Rattle.engine.specs.Refusal.{is_crew};
+ghost use Rattle.engine.specs.State.{IsSound};
+
+use crate::refusal::admit_crew;
+use crate::store::Store;
+use crate::store::clean::is_of_disk;
+use cleaner::laws::a_clean_keeps_the_store;
+use cleaner::{Reading, clean_by, read_for_cleans};
+use crew::Crew;
+use flush_log::Disk;
+use frame_codec::Format;
+use keys::Fault;
+use std::thread::Threads;
+
+// What is answered if a clean is refused after `done` others: how many were done; but the fault if none was, or a call of the disk failed.
+fn after_some(fault: Fault, done: u64) -> Result<u64, Fault>
+    ensures { MatchResult result
+        (λ n. (n ≡ done) × (0 < done) × (fault ≢ Fault.Device))
+        (λ reported. (reported ≡ fault) × ((done ≡ 0) ⊎ (fault ≡ Fault.Device))) }
+{
+    if done == 0 || is_of_disk(&fault) {
+        return Err(fault);
+    }
+    Ok(done)
+}
+
+impl<D: Disk> Store<D> {
+    // Reads the log for at most `count` cleans.
+    fn read_ahead(
+        &mut self,
+        rt: &(impl Threads + Sync),
+        crew: Crew,
+        count: u64,
+    ) -> Result<Reading, Fault>
+        requires fine { self.old.has_failed ≡ false }
+        requires some { 0 < count }
+        ensures read { IfOk result (λ reading. IsOnlyRead D.view D.failed self.old self.new
+            × IsReadFor D.view self.new reading × (self.new.store.head < reading.limit)) }
+        ensures refused { IfErr result (IsRefusedClean D.view D.failed self.old self.new) }
+    {
+        let format = Format {
+            settings: self.settings,
+            version: self.version,
+        };
+        match read_for_cleans(
+            rt,
+            crew,
+            self.alloc,
+            &mut self.disk,
+            &format,
+            &self.log,
+            count,
+        ) {
+            Ok(reading) => Ok(reading),
+            Err(fault) => {
+                self.has_failed = is_of_disk(&fault);
+                Err(fault)
+            }
+        }
+    }
+
+    // Cleans the first segment by a reading that has it, as `clean` does.
+    fn clean_by_reading(&mut self, reading: &mut Reading) -> Result<u64, Fault>
+        requires fine { self.old.has_failed ≡ false }
+        requires read { IsReadFor D.view self.old reading.old }
+        requires next { self.old.store.head < reading.old.limit }
+        ensures done { IfOk result (λ head. IsDoneClean D.view D.failed self.old self.new head
+            × IsReadFor D.view self.new reading.new) }
+        ensures refused { IfErr result (IsRefusedClean D.view D.failed self.old self.new) }
+    {
+        // Only for the proof.
+        a_clean_keeps_the_store();
+        let format = Format {
+            settings: self.settings,
+            version: self.version,
+        };
+        match clean_by(self.alloc, &mut self.disk, &format, &self.log, reading) {
+            Ok(committed) => {
+                self.log = committed.ends;
+                self.version = committed.version;
+                Ok(self.log.head)
+            }
+            Err(fault) => {
+                self.has_failed = is_of_disk(&fault);
+                Err(fault)
+            }
+        }
+    }
+
+    // Cleans up to `most` segments, as long as the reading has them, and returns how many.
+    fn clean_all_read(&mut self, reading: &mut Reading, most: u64) -> Result<u64, Fault>
+        requires fine { self.old.has_failed ≡ false }
+        requires read { IsReadFor D.view self.old reading.old }
+        requires next { self.old.store.head < reading.old.limit }
+        requires some { 0 < most }
+        ensures done { IfOk result (λ n. (0 < n) × (n ≤ most)
+            × IsCleanedOn D.view D.failed self.old n self.new) }
+        ensures stopped { IfErr result (λ fault. (n : ℕ) × (n < most)
+            × (((n ≡ 0) × (self.new.store ≡ self.old.store)) ⊎ (fault ≡ Fault.Device))
+            × IsStoppedOn D.view D.failed self.old n fault self.new) }
+    {
+        let mut done = 0;
+        'each: loop {
+            match self.clean_by_reading(reading) {
+                Ok(_head) => done += 1,
+                Err(fault) => return after_some(fault, done),
+            }
+            if done == most || !reading.has(self.log.head) {
+                return Ok(done);
+            }
+        }
+    }
+
+    // Cleans up to `most` segments by one reading of the log, and returns how many. If a clean is refused after the first, that ends it,
+    // and is no error unless a call of the disk failed.
+    pub(super) fn clean_ahead(
+        &mut self,
+        rt: &(impl Threads + Sync),
+        crew: Crew,
+        most: u64,
+    ) -> Result<u64, Fault>
+        requires fine { self.old.has_failed ≡ false }
+        requires some { 0 < most }
+        ensures done { IfOk result (λ n. (0 < n) × (n ≤ most)
+            × IsCleanedOn D.view D.failed self.old n self.new) }
+        ensures stopped { IfErr result (λ fault. (n : ℕ) × (n < most)
+            × (((n ≡ 0) × (self.new.store ≡ self.old.store)) ⊎ (fault ≡ Fault.Device))
+            × IsStoppedOn D.view D.failed self.old n fault self.new) }
+    {
+        let mut reading = self.read_ahead(rt, crew, most)?;
+        self.clean_all_read(&mut reading, most)
+    }
+
+    /// Makes up to `most` segments at the log's beginning free, one clean after the other, and returns how many. The log is read once for
+    /// all of them, where each call of `clean` reads it. Each clean is a commit of its own, with the bytes that `clean` writes.
+    ///
+    /// It ends early if the log is in one segment, or if a later clean is refused, as by `Fault::Full`; the store is then as after the
+    /// cleans that were done. The faults are those of the first clean, as `clean` has them. If a call of the disk fails in a later one,
+    /// that is `Fault::Device`, too: the store has failed, and the disk stands for the same pages still. If `most` is 0, nothing is done.
+    pub fn clean_many(
+        &mut self,
+        rt: &(impl Threads + Sync),
+        crew: Crew,
+        most: u64,
+    ) -> Result<u64, Fault>
+        // So many cleans in turn, as a play of them does, whatever the disk does.
+        ensures done { IfOk result (λ n. (n ≤ most) × (0 < most → 0 < n)
+            × AreCleaned D.view D.failed self.old n self.new) }
+
+        // Which fault, and what it leaves: the first clean is refused, or a call of the disk failed in a later one.
+        ensures failed { self.old.has_failed ≡ true →
+            (result ≡ Err Fault.Failed) × (self.new ≡ self.old) }
+        ensures bad_crew { self.old.has_failed ≡ false → is_crew crew ≡ false →
+            (result ≡ Err Fault.BadCrew) × (self.new ≡ self.old) }
+        ensures refused { self.old.has_failed ≡ false → IsTrue (is_crew crew) →
+            IfErr result (λ fault. (n : ℕ) × (n < most) × ((n ≡ 0) ⊎ (fault ≡ Fault.Device))
+            × AreStopped D.view D.failed self.old self.new n fault) }
+
+        // The store was sound, and is so again.
+        ensures sound { IsSound D.view self.old × IsSound D.view self.new }
+    {
+        if self.has_failed {
+            return Err(Fault::Failed);
+        }
+        admit_crew(crew)?;
+        if most == 0 {
+            return Ok(0);
+        }
+        self.clean_ahead(rt, crew, most)
+    }
+}
