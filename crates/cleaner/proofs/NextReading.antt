@@ -72,10 +72,10 @@ module _ (v : View) (g : Format) (e : LogEnds) (now : List ℕ) (limit : ℕ) (f
 
   pub new-reading : (r : Result PagesRead Fault) → IsReadOf v now → log_between g now e.head e.tail ≡ Ok found → limit ≤ last_segment g.settings e.tail → IsKeptOf r → IfOk r (IsReadingOf v g e)
   new-reading (Ok r) is read below (sound, same, texts) = (
-      now,
-      is,
-      record { found = found; read = record { read = read; sound = sound }; within = omega (arith, same, below); texts = λ n from in_front. texts n (omega arith) in_front },
-    )
+    now,
+    is,
+    record { found = found; read = record { read = read; sound = sound }; within = omega (arith, same, below); texts = λ n from in_front. texts n (omega arith) in_front },
+  )
   new-reading (Err fault) is read below h = tt
 
   pub new-limit : (Such : ℕ → Type 0) (r : Result PagesRead Fault) → Such limit → IsKeptOf r → IfOk r (λ r. Such r.limit)
