@@ -1,9 +1,9 @@
 -- What a clean of a later segment carries on is the same before a clean of the head segment and after it.
-use Rattle.std.specs.Prelude.{◌≡◌, ℕ, Bool, true, false, cond, ◌&&◌, ◌||◌, nat_eq, List, [], ◌∷◌, ◌++◌, map, flat_map}
+use Rattle.std.specs.Prelude.{◌≡◌, ℕ, Bool, true, false, cond, ◌&&◌, ◌||◌, nat_eq, List, [], ◌∷◌, ◌++◌, map}
 use Rattle.std.proofs.Common.{refl, sym, ap, ◌∙◌, append-nil}
 use Rattle.std.specs.List.{AllByRecursion, list_any}
 use Rattle.std.proofs.lemmas.Bool.{eqb-true}
-use Rattle.index_page.proofs.ListLemmas.{all-filter, all_weaker}
+use Rattle.index_page.proofs.ListLemmas.{all-filter}
 use Rattle.mapping.specs.FreshPids.{is_among}
 use Rattle.mapping.proofs.KnownPids.{rising-with_numbers}
 use Rattle.frame_codec.specs.Frame.{Content, Frame}

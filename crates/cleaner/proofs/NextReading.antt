@@ -1,9 +1,9 @@
 -- A reading of a log serves the cleans of its first segments in turn: after a clean it is one of the log that the clean leaves.
-use Rattle.std.specs.Prelude.{◌≡◌, ◌≢◌, ◌⊎◌, ℕ, suc, ◌+◌, ◌-◌, ◌*◌, ◌/◌, ◌<◌, ◌≤◌, Bool, true, false, nat_eq, min, IsTrue, List, [], ◌∷◌, ◌++◌, length, map, flat_map, None, Some, Result, Ok, Err, MatchResult, IfOk, IfErr}
+use Rattle.std.specs.Prelude.{◌≡◌, ◌≢◌, ◌⊎◌, ℕ, suc, ◌+◌, ◌-◌, ◌/◌, ◌<◌, ◌≤◌, true, false, nat_eq, min, IsTrue, List, [], ◌∷◌, ◌++◌, length, map, flat_map, None, Some, Result, Ok, Err, MatchResult, IfOk, IfErr}
 use Rattle.std.proofs.Common.{refl, sym, ap, ◌∙◌, arith, subst}
-use Rattle.std.specs.List.{AllByRecursion, sum_by}
+use Rattle.std.specs.List.{AllByRecursion}
 use Rattle.std.proofs.Math.Nat.{div-mul-le_self}
-use Rattle.std.proofs.lemmas.Bool.{eqb-true, eq-eqb, ne_eqb}
+use Rattle.std.proofs.lemmas.Bool.{eq-eqb, ne_eqb}
 use Rattle.std.proofs.lemmas.List.{map-append}
 use Rattle.std.proofs.lemmas.Nat.{le-div}
 use Rattle.keys.specs.Limits.{first_bad_field}
@@ -15,11 +15,11 @@ use Rattle.mapping.specs.Finding.{Finding}
 use Rattle.mapping.specs.Tree.{Store}
 use Rattle.frame_codec.specs.Frame.{Frame, bytes_of, is_frame}
 use Rattle.frame_codec.specs.declared.format.Format.{Format}
-use Rattle.flush_log.specs.Commit.{AreWithin, committed}
-use Rattle.flush_log.specs.CommitPlan.{CommitPlan, IsPlanned, next_slot, file_with}
-use Rattle.flush_log.specs.Disk.{View, Kept, Same}
+use Rattle.flush_log.specs.Commit.{AreWithin}
+use Rattle.flush_log.specs.CommitPlan.{CommitPlan, next_slot, file_with}
+use Rattle.flush_log.specs.Disk.{View, Kept}
 use Rattle.flush_log.specs.Ends.{AreEnds, ends_of, ends_in}
-use Rattle.flush_log.specs.Layout.{tail_after, found_in_text, spans}
+use Rattle.flush_log.specs.Layout.{found_in_text, spans}
 use Rattle.flush_log.specs.Overlay.{AgreeAt}
 use Rattle.flush_log.specs.Reading.{Found, all_in, log_between}
 use Rattle.flush_log.specs.Segments.{HasSegments, disk_size, last_segment}
@@ -72,10 +72,10 @@ module _ (v : View) (g : Format) (e : LogEnds) (now : List ℕ) (limit : ℕ) (f
 
   pub new-reading : (r : Result PagesRead Fault) → IsReadOf v now → log_between g now e.head e.tail ≡ Ok found → limit ≤ last_segment g.settings e.tail → IsKeptOf r → IfOk r (IsReadingOf v g e)
   new-reading (Ok r) is read below (sound, same, texts) = (
-      now,
-      is,
-      record { found = found; read = record { read = read; sound = sound }; within = omega (arith, same, below); texts = λ n from in_front. texts n (omega arith) in_front },
-    )
+    now,
+    is,
+    record { found = found; read = record { read = read; sound = sound }; within = omega (arith, same, below); texts = λ n from in_front. texts n (omega arith) in_front },
+  )
   new-reading (Err fault) is read below h = tt
 
   pub new-limit : (Such : ℕ → Type 0) (r : Result PagesRead Fault) → Such limit → IsKeptOf r → IfOk r (λ r. Such r.limit)

@@ -1,17 +1,14 @@
 -- What is known of a clean that is planned, or refused.
-use Rattle.std.specs.Prelude.{◌≡◌, ◌≢◌, ◌⊎◌, ℕ, suc, ◌+◌, ◌*◌, ◌<◌, ◌≤◌, Bool, true, false, nat_eq, if◌then◌else◌, List, [], ◌∷◌, ◌++◌, length, take, drop, None, Option, Some, Result, Ok, Err, MatchResult, IfOk}
-use Rattle.std.proofs.Common.{refl, sym, ap, ◌∙◌, arith, subst, inl, inr}
-use Rattle.std.specs.List.{AllByRecursion}
+use Rattle.std.specs.Prelude.{◌≡◌, ◌≢◌, ◌⊎◌, ℕ, suc, ◌*◌, ◌<◌, ◌≤◌, Bool, true, if◌then◌else◌, List, [], length, take, drop, None, Option, Some, Result, Ok, Err, MatchResult}
+use Rattle.std.proofs.Common.{sym, ap, ◌∙◌, arith, subst, inl, inr}
 use Rattle.std.proofs.Math.Nat.{mul-le-mul_right}
 use Rattle.std.proofs.lemmas.Bool.{cases_lt, ne_eqb, eq-eqb}
-use Rattle.std.proofs.lemmas.List.{drop-take, take-take}
 use Rattle.keys.specs.Limits.{first_bad_field}
 use Rattle.keys.specs.declared.fault.Fault.{Fault}
 use Rattle.keys.specs.declared.fault.Fault.TheVariants.{NoMemory, BadStructure, NothingToClean}
 use Rattle.keys.specs.declared.settings.Settings.{Settings}
 use Rattle.keys.specs.declared.version.Version.{Version}
 use Rattle.keys.specs.Results.{and_then}
-use Rattle.index_page.proofs.ListLemmas.{all_weaker}
 use Rattle.mapping.specs.Finding.{Finding}
 use Rattle.mapping.specs.Tree.{Store}
 use Rattle.frame_codec.specs.Frame.{Frame, is_frame}
@@ -24,14 +21,13 @@ use Rattle.flush_log.specs.Ends.{ends_of, AreEnds}
 use Rattle.flush_log.specs.Images.{AreOfText, admitted}
 use Rattle.flush_log.specs.Layout.{spans, is_full_for_clean}
 use Rattle.flush_log.specs.Overlay.{overlay, IsBeside, AgreeAt}
-use Rattle.flush_log.specs.Reading.{Found, all_in, log_between, log}
-use Rattle.flush_log.specs.Segments.{segments_begin, last_segment}
+use Rattle.flush_log.specs.Reading.{Found, log_between, log}
+use Rattle.flush_log.specs.Segments.{last_segment}
 use Rattle.flush_log.specs.Slot.{Slot, format_of, greatest, slot_place, slot_in}
 use Rattle.flush_log.specs.declared.slot.LogEnds.{LogEnds}
 use Rattle.flush_log.proofs.AdmitLemmas.{commit-refused, commit-admitted}
 use Rattle.flush_log.proofs.CommitLemmas.{slot_low}
 use Rattle.flush_log.proofs.FitLemmas.{are_sized}
-use Rattle.flush_log.proofs.HeadLemmas.{HeadOff, head-off}
 use Rattle.flush_log.proofs.LayoutLemmas.{split-tail}
 use Rattle.flush_log.proofs.OverlayLemmas.{overlay-part, overlay-beside, agree_less}
 use Rattle.flush_log.proofs.PlannedLemmas.{head-low}

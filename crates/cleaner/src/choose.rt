@@ -26,11 +26,7 @@ fn image_of(alloc: Global, format: &Format, frames: &[u8]) -> Result<Image, Allo
 }
 
 // The images of these pages, in their order; a page without frames has none.
-fn images_in(
-    alloc: Global,
-    format: &Format,
-    pages: Vec<Vec<u8>>,
-) -> Result<Vec<Image>, AllocError>
+fn images_in(alloc: Global, format: &Format, pages: Vec<Vec<u8>>) -> Result<Vec<Image>, AllocError>
     ensures frames { IfOk result (λ images. frames_in images.items
         ≡ flat_map (λ page. image_in format.now page.items) pages.items) }
     ensures some { IfOk result (λ images. AllByRecursion (λ image. image ≢ []) images.items) }

@@ -94,14 +94,14 @@ fn plan<D: Disk>(
     Commit::plan(alloc, &format.settings, &base, images)
 }
 
-/// Reads a log for the cleans of its first `count` segments, or of all in front of the last one if they are fewer: `clean_by` does these
-/// cleans by the reading. `format` and `ends` are those of the store's log. The crew shares the work of skimming the log, and the result
-/// is the same for every crew. It takes the memory of a few segments and of the pages that live in those segments.
+/// Reads a log for the cleans of its first `count` segments, which `clean_by` then does one after the other. If fewer segments are in front
+/// of the last one, the reading is for these. `format` and `ends` are those of the store's log. The crew shares the work of skimming the
+/// log, and the result is the same for every crew. The reading holds the frames of the pages that live in these segments, and while the
+/// log is read, a few segments and some bytes for each page are in memory besides.
 ///
-/// Fails as `clean` fails until its reading is done: with `Fault::NothingToClean` if the log is in one segment, and then neither is memory
-/// taken nor the disk called; with `Fault::BadSegment` or `Fault::BadFrame`, that at the least position of the log; with
-/// `Fault::BadStructure` if the frames of a page fit no page; with `Fault::NoMemory`; and with `Fault::Device` if a read failed. The disk
-/// is not written.
+/// Fails with `Fault::NothingToClean` if the log is in one segment, before any memory is allocated or the disk is called; with
+/// `Fault::BadSegment` or `Fault::BadFrame`, whichever is at the least position of the log; with `Fault::BadStructure` if the frames of a
+/// page fit no page; with `Fault::NoMemory`; and with `Fault::Device` if a read failed. The disk is never written.
 pub fn read_for_cleans<D: Disk>(
     rt: &(impl Threads + Sync),
     crew: Crew,
@@ -136,13 +136,12 @@ pub fn read_for_cleans<D: Disk>(
     Reading::new(pages, limit)
 }
 
-/// Cleans the log's first segment by a reading of the log: does what `clean` does, but of the disk it reads the slot alone. After
-/// `Ok` the reading is one of the log that the clean leaves, whose ends are those of the slot returned, so it serves for the next clean if
-/// it has the next segment (`Reading::has`). After an `Err` drop the reading.
+/// Cleans the log's first segment by a reading of the log. It does what `clean` does, but reads only the slot of the disk. After `Ok` the
+/// reading is one of the log that the clean leaves, whose ends are in the slot that is returned. So the reading serves for the next clean,
+/// if it has the next segment (`Reading::has`). Nothing else may be written to the log before that clean: a flush ends the use of a reading.
 ///
-/// Between the reading and its cleans, and between these, nothing else may be written to the log: a flush ends the use of a reading.
-///
-/// Fails with `Fault::NoMemory`, `Fault::Spent`, `Fault::Full` and `Fault::Device` as `clean` does.
+/// Fails with `Fault::NoMemory`, `Fault::Spent`, `Fault::Full` and `Fault::Device`, as `clean` does. After an `Err` the reading is
+/// incomplete: drop it.
 pub fn clean_by<D: Disk>(
     alloc: Global,
     disk: &mut D,

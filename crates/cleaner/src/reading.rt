@@ -50,7 +50,9 @@ fn add_page(
         (held (get nat_cmp pages.new n) ≡ held (get nat_cmp pages.old n) ++ page_in n kept) }
 {
     let Kept {
-        segment, frames, ..
+        segment,
+        frames,
+        ..
     } = kept;
     if frames.is_empty() {
         return Ok(());

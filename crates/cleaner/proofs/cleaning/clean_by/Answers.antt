@@ -1,4 +1,4 @@
-use Rattle.std.proofs.Common.{◌∙◌, ⊎_elim, IsTrue, arith, refl, inl, inr, sym, subst}
+use Rattle.std.proofs.Common.{⊎_elim, IsTrue, arith, refl, inl, inr, sym, subst}
 use Rattle.keys.specs.declared.fault.Fault.TheVariants.{Device}
 use Rattle.flush_log.specs.Ends.{ends_of}
 use Rattle.flush_log.proofs.SameLemmas.{settled_still, leaves_the_same}

@@ -1,4 +1,4 @@
-use Rattle.std.proofs.Common.{◌≡◌, ◌≢◌, ◌+◌, ◌-◌, ◌<◌, ◌∙◌, ⊎_elim, ℕ, min, arith, refl, inl, inr, sym, ap}
+use Rattle.std.proofs.Common.{◌≡◌, ◌≢◌, ◌+◌, ◌-◌, ◌<◌, ◌∙◌, ⊎_elim, ℕ, min, arith, inl, inr, sym, ap}
 use Rattle.flush_log.specs.Segments.{last_segment}
 use Rattle.flush_log.specs.declared.slot.LogEnds.{LogEnds}
 use Rattle.recovery.proofs.ReadBytes.{first_read, read_before, err_on}

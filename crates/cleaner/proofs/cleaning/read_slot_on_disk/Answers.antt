@@ -1,7 +1,6 @@
-use Rattle.std.proofs.Common.{◌∙◌, arith, subst, inr}
-use Rattle.flush_log.specs.Overlay.{overlay, IsBeside}
+use Rattle.std.proofs.Common.{◌∙◌, arith, subst}
+use Rattle.flush_log.specs.Overlay.{overlay}
 use Rattle.flush_log.specs.Slot.{slot_place}
-use Rattle.flush_log.proofs.CommitLemmas.{slot_low}
 use Rattle.recovery.specs.Recovered.{IsReadOf}
 use Rattle.cleaner.proofs.PlanLemmas.{slot-read, slot-beside}
 use Rattle.cleaner.proofs.cleaning.read_slot_on_disk.Goals as goal
