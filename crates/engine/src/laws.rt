@@ -1,6 +1,6 @@
 //! What batches, flushes, cleans and upgrades do one after the other, in the words of one of them. Each law is the contract of a
 //! function with an empty body.
-ghost use Rattle.std.specs.Prelude.{◌≡◌, ◌^◌, ◌<◌, ◌↔◌, List, [], ◌∷◌, None, Some, Ok};
+ghost use Rattle.std.specs.Prelude.{◌≡◌, ◌≢◌, ◌^◌, ◌<◌, ◌↔◌, List, [], ◌∷◌, length, take, None, Some, Ok, Err};
 ghost use Rattle.std.specs.List.{AllByRecursion};
 ghost use Rattle.keys.specs.Bytes.{Bytes, Pairs};
 ghost use Rattle.keys.specs.Limits.{first_bad_field};
@@ -9,12 +9,14 @@ ghost use Rattle.keys.specs.OrderedMap.{value_at};
 ghost use Rattle.keys.specs.Range.{rows};
 ghost use Rattle.keys.specs.Step.{replies_to, map_after_all};
 ghost use Rattle.keys.specs.declared.command.Command.{Command};
+ghost use Rattle.keys.specs.declared.fault.Fault.TheVariants.{NotAStore};
 ghost use Rattle.keys.specs.declared.settings.Settings.{Settings};
 ghost use Rattle.mapping.specs.Levels.{contents};
 ghost use Rattle.mapping.specs.Proper.{AreLogsTrue, IsProper};
 ghost use Rattle.mapping.specs.Tree.{Tree, Store};
 ghost use Rattle.climb_plan.specs.Limits.{AreShort};
 ghost use Rattle.climb_plan.specs.Plan.{plan, planned_tree};
+ghost use Rattle.flush_log.specs.SettingsBlock.{store_magic};
 ghost use Rattle.recovery.specs.InStep.{IsStore, IsStoreOf};
 ghost use Rattle.recovery.specs.StoreOfDisk.{store_of_disk};
 ghost use Rattle.engine.specs.Batch.{refusal_by};
@@ -33,6 +35,13 @@ use std::alloc::Allocator;
 pub fn a_value_is_the_first_row_from_its_key()
     ensures { (s : Settings) (t : Tree) (k v : Bytes) → IsProper s t →
         ((value_at k (contents t) ≡ Some v) ↔ (rows k None 1 (contents t) ≡ (k, v) ∷ [])) }
+{}
+
+/// A disk whose bytes don't begin with the word of a settings block holds no store, whatever its other bytes are. So a store is made
+/// by its first byte, which is written last.
+pub fn a_disk_without_the_first_word_holds_no_store()
+    ensures { (file : Bytes) → take (length store_magic) file ≢ store_magic →
+        store_of_disk file ≡ Err NotAStore }
 {}
 
 /// Batches that are executed one after the other give the replies, and leave the map, of one batch of all their
