@@ -28,8 +28,12 @@ fn after_some(fault: Fault, done: u64) -> Result<u64, Fault>
 }
 
 impl<D: Disk> Store<D> {
-    // Reads the log for at most `count` cleans.
-    fn read_ahead(
+    /// Reads the log once for its next `count` cleans, or for all that it has segments for in front of the last one. `clean_by_reading` does
+    /// these cleans by the result, one at a time. Nothing is written, and the store stays as it is.
+    ///
+    /// The faults are those of `clean` until it writes: `Fault::NothingToClean` if the log is in one segment, the faults of a damaged log,
+    /// `Fault::NoMemory`, and `Fault::Device`, after which the store has failed. The store must not have failed before.
+    pub fn read_ahead(
         &mut self,
         rt: &(impl Threads + Sync),
         crew: Crew,
@@ -62,8 +66,9 @@ impl<D: Disk> Store<D> {
         }
     }
 
-    // Cleans the first segment by a reading that has it, as `clean` does.
-    fn clean_by_reading(&mut self, reading: &mut Reading) -> Result<u64, Fault>
+    /// Cleans the first segment by a reading that has it (`Reading::has`), as `clean` does, but without reading the log. The reading must be
+    /// one of this store's log, which only such cleans have changed since; it then serves for the next clean. Drop it after an `Err`.
+    pub fn clean_by_reading(&mut self, reading: &mut Reading) -> Result<u64, Fault>
         requires fine { self.old.has_failed ≡ false }
         requires read { IsReadFor D.view self.old reading.old }
         requires next { self.old.store.head < reading.old.limit }
