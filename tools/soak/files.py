@@ -2,6 +2,7 @@
 
 import random
 import struct
+from collections import Counter
 from collections.abc import Callable, Sequence
 from dataclasses import dataclass, replace
 from pathlib import Path
@@ -57,12 +58,12 @@ class CrashingFile:
         self.pending = [(place, now[place : place + len(written)]) for place, written in self.pending]
         return now
 
-    def follow(self, record: bytes, has_syncs: bool) -> set[str]:
-        """Applies the record of `c/soak.c`, and returns its letters."""
-        at, letters = 0, set()
+    def follow(self, record: bytes, has_syncs: bool) -> Counter[str]:
+        """Applies the record of `c/soak.c`, and counts its letters."""
+        at, letters = 0, Counter[str]()
         while at < len(record):
             letter, at = chr(record[at]), at + 1
-            letters.add(letter)
+            letters[letter] += 1
             if letter == "W":
                 place, length = struct.unpack_from("<2q", record, at)
                 self.pending.append((place, record[at + 16 : at + 16 + length]))

@@ -15,7 +15,7 @@ from tools.soak.sessions import Difference
 COUNTED = ["stores", "batches", "commands", "flushes", "cleans", "restarts", "kills", "full logs", "copies", "copies cut off"]
 READ_ALL = b"scan % * 4294967295\nverify\n"
 FULL = b"fault 10 Full\n"
-NO_STORE = (b"fault 12 NotAStore\n", b"fault 13 DiskTooSmall\n")  # of a copy that was cut off
+NO_STORE = b"fault 12 NotAStore\n"
 LARGEST = 4_096  # segments; a fuller store is given up
 PLANTED = 5  # sessions before a planted fault
 Pairs = dict[bytes, bytes]
@@ -207,10 +207,11 @@ class ServiceSoak:
             copy.unlink()
 
     def compare_cut_copy(self, copy: Path) -> None:
+        """The copy must be whole, or no store."""
         if copy.stat().st_size == 0:
             return
         error, rows = self.read(copy)
-        if error not in NO_STORE and (error or rows not in (rows_of({}), rows_of(self.flushed))):
+        if error != NO_STORE and (error or rows != rows_of(self.flushed)):
             raise Difference(f"a copy that was cut off has {error or rows[:1]!r}")
 
     def run_store(self, number: int) -> Iterator[None]:

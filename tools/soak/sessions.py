@@ -6,7 +6,7 @@ import signal
 import subprocess
 from collections import Counter
 from collections.abc import Iterator, Sequence
-from dataclasses import dataclass, replace
+from dataclasses import dataclass, field, replace
 from pathlib import Path
 
 from tools.answers import READ_ALL, ending_of_read_all
@@ -27,6 +27,7 @@ IMAGES = 8  # crash images that are read besides the next session's
 PLANTS, PLANTED = ("line", "byte", "sync"), 20  # planted faults, and the number of sessions before each
 REPORT = re.compile(rb"^ok [0-9]+ [0-9]+ ([0-9]+)$")
 MOST_FULL = 3  # successive full logs before a new store
+SYNCS_OF_CREATE = 2  # the first byte is written after the first sync
 BAD_CREW = b"fault 5 BadCrew\n"
 
 
@@ -76,7 +77,7 @@ class SoakSession:
     at: int = 0
     status: int = 0
     err: bytes = b""
-    letters: frozenset[str] = frozenset()
+    letters: Counter[str] = field(default_factory=Counter)  # how often each
 
     def has_failed(self, failures: str) -> bool:
         return "D" in self.letters and self.failure in failures
@@ -181,7 +182,7 @@ class Soak:
         out = self.run(session, self.file.path)
         if self.plant == "line" and self.counts["sessions"] >= PLANTED:
             out = out[out.find(b"\n") + 1 :]
-        session.letters = frozenset(self.file.follow((self.folder / "record").read_bytes(), self.plant != "sync"))
+        session.letters = self.file.follow((self.folder / "record").read_bytes(), self.plant != "sync")
         answered = count_answered(session.orders, out)
         is_cut = session.ended_by_failure(answered)
         self.count(session, answered)
@@ -213,15 +214,16 @@ class Soak:
 
     def states_after(self, session: SoakSession, answered: int, is_cut: bool, drawn: DrawnStore) -> list[StoreState | None]:
         """Also sets `possible`."""
-        after, has_written = self.file.read(), bool(session.letters & {"W", "T"})
+        after, has_written = self.file.read(), "W" in session.letters or "T" in session.letters
         if not has_written and after != self.before:
             raise Difference("the file has other bytes, which no call wrote")
         if has_written and not session.is_new and not any(order.is_writing() for order in session.orders[: answered + 1]):
             raise Difference("the session wrote to a file that it only reads")
-        if session.is_new and "T" in session.letters and "S" not in session.letters:
+        if session.is_new and "T" in session.letters and session.letters["S"] < SYNCS_OF_CREATE:
             if not is_left_by_create(self.before, after, drawn.settings.disk_length()):
                 raise Difference("--create failed, and left bytes that it may not leave")
-            self.possible = [None, StoreState(), read_content(after).state, *self.possible]
+            earlier = [] if "S" in session.letters else [read_content(after).state, *self.possible]
+            self.possible = [None, StoreState(), *earlier]
             return self.possible
         if "S" not in session.letters:
             return [self.content.state]
