@@ -8,7 +8,7 @@ use Rattle.std.specs.Io.KnownBytes.{Appends}
 use Rattle.std.proofs.KnownBytes.{Appends-nil}
 use Rattle.keys.specs.Step.{map_after_all}
 use Rattle.keys.specs.declared.fault.Fault.{Fault}
-use Rattle.keys.specs.declared.fault.Fault.TheVariants.{NoMemory, Device, Spent, Full}
+use Rattle.keys.specs.declared.fault.Fault.TheVariants.{NoMemory, Device, Spent, Full, NothingToClean}
 use Rattle.keys.specs.declared.command.Command.{Command}
 use Rattle.keys.specs.declared.settings.Settings.{Settings}
 use Rattle.keys.specs.declared.version.Version.{Version}
@@ -427,26 +427,36 @@ module _ (mode : Mode) (honest : Bool) (settings : Settings) (st : Store) (seen 
   RunsOrder-answered hold keep said now after (a, rest, said_is, mid, bytes, done, ended) after_is old new end p =
       one_answered a mid bytes done hold keep now ended.1 after after_is old new end said (said_is ∙ ap (λ (r : List code_answer.Answer). a ∷ r) ended.0) p
 
--- a step that is refused leaves all as it was, but where a call of the disk failed; here the log was full for it
+-- it ends since the log is full for a step, or since there is nothing to clean
+abbrev pub IsNoRoom : Result (Unit {0}) SessionError → Type 0
+IsNoRoom end = (end ≡ Err (errors.Fault Full)) ⊎ (end ≡ Err (errors.Fault NothingToClean))
+
+no_device : (early : SessionError) → early ≡ errors.Device → IsNoRoom (Err early) → ⊥
+no_device early device (inl full) = cc
+no_device early device (inr nothing) = cc
+
+-- a step that is refused leaves all as it was, but where a call of the disk failed; here there was no room for it
 pub refused_leaves : (honest : Bool) (settings : Settings) (st : Store) (seen : List ℕ) (x : code_step.Step) (said : List code_answer.Answer) (now : Store) (bytes : List ℕ) (place : ℕ)
     (fault : Fault) (early : SessionError) (had_failed has_failed : Bool) → place < 1 → IsEndingOf fault early → IsPlayed honest settings st seen (map step_of (take place (x ∷ []))) said now
     → (IsTrue honest → fault ≢ Device → bytes ≡ (let p : Played Global = plays (batching settings) settings st seen (map step_of (take place (x ∷ []))) in p.bytes))
-    → (fault ≢ Device → has_failed ≡ had_failed) → (let end : Result (Unit {0}) SessionError = Err early in end ≡ Err (errors.Fault Full))
+    → (fault ≢ Device → has_failed ≡ had_failed) → IsNoRoom (Err early)
     → (now ≡ st) × (has_failed ≡ had_failed) × (IsTrue honest → bytes ≡ seen)
 refused_leaves honest settings st seen x said now bytes place fault early had_failed has_failed below (inl device) played shown counted full =
-    let bad : (let end : Result (Unit {0}) SessionError = Err errors.Device in end ≡ Err (errors.Fault Full)) = ap (λ (e : SessionError). Err e) (sym device.1) ∙ full in
-    absurd (cc)
+    absurd (no_device early device.1 full)
 refused_leaves honest settings st seen x said now bytes place fault early had_failed has_failed below (inr other) played shown counted full =
     let first : place ≡ 0 = omega (arith, below) in
     let none_played = subst (λ (n : ℕ). IsPlayed honest settings st seen (map step_of (take n (x ∷ []))) said now) first played in
     let left = λ (h : IsTrue honest). subst (λ (n : ℕ). bytes ≡ (let p : Played Global = plays (batching settings) settings st seen (map step_of (take n (x ∷ []))) in p.bytes)) first (shown h other.0) in
     (none_played.1, counted other.0, left)
 
--- what is printed for a step that was done ends so for no full log
-pub Prints-never_full : (old new : Option (List ℕ)) (lines : List (List ℕ)) (end : Result (Unit {0}) SessionError) → Prints old new lines (Ok tt) end → end ≡ Err (errors.Fault Full) → ⊥
-Prints-never_full old new lines end (inl (e, a)) full = cc
-Prints-never_full old new lines end (inr (inl (e, a))) full = cc
-Prints-never_full old new lines end (inr (inr (e, a))) full = cc
+-- what is printed for a step that was done ends so for no want of room
+pub Prints-never_full : (old new : Option (List ℕ)) (lines : List (List ℕ)) (end : Result (Unit {0}) SessionError) → Prints old new lines (Ok tt) end → IsNoRoom end → ⊥
+Prints-never_full old new lines end (inl (e, a)) (inl full) = cc
+Prints-never_full old new lines end (inl (e, a)) (inr nothing) = cc
+Prints-never_full old new lines end (inr (inl (e, a))) (inl full) = cc
+Prints-never_full old new lines end (inr (inl (e, a))) (inr nothing) = cc
+Prints-never_full old new lines end (inr (inr (e, a))) (inl full) = cc
+Prints-never_full old new lines end (inr (inr (e, a))) (inr nothing) = cc
 
 -- what orders can end by before anything of them is done
 abbrev pub IsCut : SessionError → Type 0

@@ -1,6 +1,6 @@
 //! Running the orders of a session (batches, flushes and the like) on a store. Each is answered
 //! before the next one runs.
-ghost use Rattle.std.specs.Prelude.{false, true, IsTrue, ◌≡◌, ◌≢◌, ◌⊎◌, [], ◌∷◌, Some, Err, IfOk, IfSome, None, OnOk};
+ghost use Rattle.std.specs.Prelude.{false, true, IsTrue, ◌≡◌, ◌≢◌, ◌⊎◌, ◌<◌, [], ◌∷◌, Some, Ok, Err, IfOk, IfSome, None, OnOk};
 ghost use Rattle.std.specs.Option.{option_map};
 ghost use Rattle.crew.specs.Crew.{is_crew};
 ghost use Rattle.keys.specs.Limits.{first_bad_field};
@@ -9,7 +9,7 @@ ghost use Rattle.mapping.specs.Tree as mapped;
 ghost use Rattle.engine.specs.Plays.{step_of};
 ghost use Rattle.engine.specs.Tidied.{IsTidied};
 ghost use Rattle.verify.specs.Report.{report};
-ghost use Rattle.bwsh.specs.Session.{RunsOn, RunsFirst, RunsOrder, RunsFrom, Shows, Start, Opens, IsHonestStore, TidiesTo, map_after, map_left, step_in, numbers_of};
+ghost use Rattle.bwsh.specs.Session.{RunsOn, RunsFirst, RunsOrder, RunsCleans, RunsFrom, Shows, Start, Opens, IsHonestStore, TidiesTo, map_after, map_left, step_in, numbers_of, row_of_cleans};
 
 use crate::batch::Batch;
 use crate::batch_file::Order;
@@ -65,7 +65,8 @@ pub(crate) fn run_step<R: Threads + Sync, D: Disk, O: Write>(
     ensures settings { store.new.settings ≡ store.old.settings }
     ensures honest { (D.view store.new.disk).is_honest ≡ (D.view store.old.disk).is_honest }
     ensures failed { OnOk result (store.new.has_failed ≡ store.old.has_failed) }
-    ensures full { result ≡ Err (SessionError.Fault Fault.Full) →
+    ensures kept { (result ≡ Err (SessionError.Fault Fault.Full))
+        ⊎ (result ≡ Err (SessionError.Fault Fault.NothingToClean)) →
         (store.new.store ≡ store.old.store) × (store.new.has_failed ≡ store.old.has_failed)
         × (IsTrue (D.view store.old.disk).is_honest →
         (D.view store.new.disk).seen ≡ (D.view store.old.disk).seen) }
@@ -153,20 +154,107 @@ fn is_full(done: &Result<(), SessionError>) -> bool
     }
 }
 
-// Replaces `NothingToClean` by `Full`, since the clean was run only to make room for a flush.
-fn full_if_nothing_to_clean(refused: SessionError) -> SessionError
-    ensures { ((refused ≡ SessionError.Fault Fault.NothingToClean)
-        × (result ≡ SessionError.Fault Fault.Full))
-        ⊎ ((refused ≢ SessionError.Fault Fault.NothingToClean) × (result ≡ refused)) }
+// Returns how many cleans may follow one that was refused. None may follow a clean that could make no
+// room; then the flush decides. Any other fault ends the session.
+fn cleans_after_refusal(refused: SessionError) -> Result<u32, SessionError>
+    ensures { (((refused ≡ SessionError.Fault Fault.Full)
+        ⊎ (refused ≡ SessionError.Fault Fault.NothingToClean)) × (result ≡ Ok 0))
+        ⊎ ((refused ≢ SessionError.Fault Fault.Full)
+        × (refused ≢ SessionError.Fault Fault.NothingToClean) × (result ≡ Err refused)) }
 {
     match refused {
-        SessionError::Fault(Fault::NothingToClean) => SessionError::Fault(Fault::Full),
-        other => other,
+        SessionError::Fault(Fault::Full | Fault::NothingToClean) => Ok(0),
+        other => Err(other),
     }
 }
 
-// Flushes a store that was tidied for this flush. While the log is full, cleans a segment and
-// flushes again, at most `segments` times.
+// Runs `row` cleans, but at most `most`. Returns how many more may be run in front of this flush.
+fn run_row<R: Threads + Sync, D: Disk, O: Write>(
+    rt: &R,
+    crew: Crew,
+    store: &mut Store<D>,
+    row: u32,
+    most: u32,
+    lines: &mut Vec<u8>,
+    out: &mut O,
+) -> Result<u32, SessionError>
+    requires crew { IsTrue (is_crew crew) }
+    requires fine { store.old.has_failed ≡ false }
+    ensures runs { (mode : Mode) → (under : mapped.Store) →
+        (by : TidiesTo mode.tidy store.old.settings under store.old.store) →
+        RunsCleans most row by.batches mode (D.view store.old.disk).is_honest store.old.settings
+        under (D.view store.old.disk).seen (O.contents out.old) (O.contents out.new) result
+        store.new.store (D.view store.new.disk).seen }
+    ensures settings { store.new.settings ≡ store.old.settings }
+    ensures honest { (D.view store.new.disk).is_honest ≡ (D.view store.old.disk).is_honest }
+    ensures failed { OnOk result (store.new.has_failed ≡ store.old.has_failed) }
+    ensures holds { OnOk result
+        (contents store.new.store.tree ≡ contents store.old.store.tree) }
+    ensures fewer { 0 < row → 0 < most → IfOk result (λ more. more < most) }
+{
+    let mut due = row;
+    let mut more = most;
+    'cleans: loop {
+        if due == 0 || more == 0 {
+            return Ok(more);
+        }
+        if let Err(refused) = run_step(rt, crew, store, Step::Clean, lines, out) {
+            return cleans_after_refusal(refused);
+        }
+        due -= 1;
+        more -= 1;
+    }
+}
+
+// Returns how many cleans are run in a row before a flush is tried again.
+fn row_of_cleans(segments: u32) -> u32
+    ensures { result ≡ row_of_cleans segments }
+{
+    (segments / 8).max(1)
+}
+
+// Reads the log once for the next `count` cleans. If this fails, each clean reads the log itself, and
+// reports the fault if it is still there.
+fn prepare_cleans<R: Threads + Sync, D: Disk>(rt: &R, crew: Crew, count: u32, store: &mut Store<D>)
+    ensures kept { (store.new.settings ≡ store.old.settings) × (store.new.store ≡ store.old.store)
+        × (store.new.has_failed ≡ store.old.has_failed) }
+    ensures honest { (D.view store.new.disk).is_honest ≡ (D.view store.old.disk).is_honest }
+    ensures bytes { IsTrue (D.view store.old.disk).is_honest →
+        (D.view store.new.disk).seen ≡ (D.view store.old.disk).seen }
+{}
+
+// Cleans an eighth of the segments, but at most `most`, by one reading of the log. Returns how many
+// more cleans may be run in front of this flush.
+fn clean_ahead<R: Threads + Sync, D: Disk, O: Write>(
+    rt: &R,
+    crew: Crew,
+    store: &mut Store<D>,
+    most: u32,
+    lines: &mut Vec<u8>,
+    out: &mut O,
+) -> Result<u32, SessionError>
+    requires crew { IsTrue (is_crew crew) }
+    requires fine { store.old.has_failed ≡ false }
+    ensures runs { (mode : Mode) → (under : mapped.Store) →
+        (by : TidiesTo mode.tidy store.old.settings under store.old.store) →
+        RunsCleans most (row_of_cleans store.old.settings.segments) by.batches mode
+        (D.view store.old.disk).is_honest store.old.settings under (D.view store.old.disk).seen
+        (O.contents out.old) (O.contents out.new) result store.new.store
+        (D.view store.new.disk).seen }
+    ensures settings { store.new.settings ≡ store.old.settings }
+    ensures honest { (D.view store.new.disk).is_honest ≡ (D.view store.old.disk).is_honest }
+    ensures failed { OnOk result (store.new.has_failed ≡ store.old.has_failed) }
+    ensures holds { OnOk result
+        (contents store.new.store.tree ≡ contents store.old.store.tree) }
+    ensures fewer { 0 < most → IfOk result (λ more. more < most) }
+{
+    let row = row_of_cleans(store.settings().segments);
+    prepare_cleans(rt, crew, row.min(most), store);
+    run_row(rt, crew, store, row, most, lines, out)
+}
+
+// Flushes a store that was tidied for this flush. While the log is full, cleans ahead and flushes
+// again. Runs at most `segments` cleans.
 fn flush_or_clean<R: Threads + Sync, D: Disk, O: Write>(
     rt: &R,
     crew: Crew,
@@ -194,10 +282,7 @@ fn flush_or_clean<R: Threads + Sync, D: Disk, O: Write>(
         if left == 0 || !is_full(&done) {
             return done;
         }
-        if let Err(refused) = run_step(rt, crew, store, Step::Clean, lines, out) {
-            return Err(full_if_nothing_to_clean(refused));
-        }
-        left -= 1;
+        left = clean_ahead(rt, crew, store, left, lines, out)?;
     }
 }
 
