@@ -4,7 +4,7 @@ use Rattle.std.specs.Prelude.{IfOk, IsTrue, OnOk}
 use Rattle.std.specs.Option.{option_map, option_or}
 use Rattle.std.specs.Io.KnownBytes.{Appends}
 use Rattle.keys.specs.declared.fault.Fault.{Fault}
-use Rattle.keys.specs.declared.fault.Fault.TheVariants.{Full, NothingToClean}
+use Rattle.keys.specs.declared.fault.Fault.TheVariants.{Device, Full, NothingToClean}
 use Rattle.keys.specs.declared.settings.Settings.{Settings}
 use Rattle.mapping.specs.Levels.{contents}
 use Rattle.mapping.specs.Tree.{Store}
@@ -18,6 +18,7 @@ use Rattle.bwsh.proofs.BytesLemmas.{after_order-same, own-same, seen_is}
 use Rattle.bwsh.proofs.FirstLemmas.{RunsBy, RunsBy-asked, RunsBy-cut, RunsBy-show_call, RunsBy-stops, RunsOrder-same, clean_with, tidies_first}
 use Rattle.bwsh.proofs.RoomLemmas.{Early, by_right, cut, refused_cut, RunsBy-shows, early_by, leavable_room, orders_after_flush, room_wanted}
 use Rattle.bwsh.proofs.RunLemmas.{IsCut, IsNoRoom, first_shown, seen_with}
+use Rattle.bwsh.proofs.StoreLemmas.{IsEndingOf}
 use Rattle.bwsh.proofs.TidiedLemmas.{IsTidiedBy, clean_under}
 
 -- ---- what is seen at a flush
@@ -143,6 +144,16 @@ pub as_no_room : (early : SessionError) → MakesNoRoom early → IsNoRoom (Err 
 as_no_room early (inl full) = inl (ap (λ (x : SessionError). Err x) full)
 as_no_room early (inr nothing) = inr (ap (λ (x : SessionError). Err x) nothing)
 
+-- it is no failed device
+pub no_failed_device : {A : Type 0} (early : SessionError) → MakesNoRoom early → (let end : Result A SessionError = Err early in end ≡ Err errors.Device) → ⊥
+no_failed_device early (inl full) device = cc
+no_failed_device early (inr nothing) device = cc
+
+-- what is so of a fault where no device failed
+pub unless_device : {A P : Type 0} (fault : Fault) (early : SessionError) → IsEndingOf fault early → (let end : Result A SessionError = Err early in end ≢ Err errors.Device) → (fault ≢ Device → P) → P
+unless_device fault early (inl device) other so = absurd (other (ap (λ (x : SessionError). Err x) device.1))
+unless_device fault early (inr ended) other so = so ended.0
+
 -- what stays where a clean made no room
 pub unless_refused : {P : Type 0} (early : SessionError) (result : Result ℕ SessionError) → IsAfterRefusal early result → (MakesNoRoom early → P) → OnOk result P
 unless_refused early (Ok more) (inl (none, is)) stays = stays none
@@ -164,6 +175,11 @@ pub fewer_on : (more most due row : ℕ) → (more < most) ⊎ ((more ≡ most) 
 fewer_on zero most due row fewer some = absurd (some refl)
 fewer_on (suc more) most due row (inl fewer) some = inl (omega (arith, fewer))
 fewer_on (suc more) most due row (inr (all, first)) some = inl (omega (arith, all))
+
+-- a number above 0 is not 0
+pub not_none : (n : ℕ) → 0 < n → n ≢ 0
+not_none zero some none = omega (arith, some)
+not_none (suc n) some none = omega (arith, none)
 
 -- a number that is not 0 is one more than another
 pub one_more : (n : ℕ) → n ≢ 0 → n ≡ suc (n - 1)

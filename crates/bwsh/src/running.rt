@@ -1,11 +1,13 @@
 //! Running the orders of a session (batches, flushes and the like) on a store. Each is answered
 //! before the next one runs.
-ghost use Rattle.std.specs.Prelude.{false, true, IsTrue, ◌≡◌, ◌≢◌, ◌⊎◌, ◌<◌, [], ◌∷◌, Some, Ok, Err, IfOk, IfSome, None, OnOk};
+ghost use Rattle.std.specs.Prelude.{false, true, IsTrue, ◌≡◌, ◌≢◌, ◌⊎◌, ◌<◌, [], ◌∷◌, Option, Some, Ok, Err, IfOk, IfErr, IfSome, None, OnOk};
 ghost use Rattle.std.specs.Option.{option_map};
 ghost use Rattle.crew.specs.Crew.{is_crew};
+ghost use Rattle.keys.specs.Bytes.{Bytes};
 ghost use Rattle.keys.specs.Limits.{first_bad_field};
 ghost use Rattle.mapping.specs.Levels.{contents};
 ghost use Rattle.mapping.specs.Tree as mapped;
+ghost use Rattle.engine.specs.Cleans.{IsReadFor};
 ghost use Rattle.engine.specs.Plays.{step_of};
 ghost use Rattle.engine.specs.Tidied.{IsTidied};
 ghost use Rattle.verify.specs.Report.{report};
@@ -17,10 +19,11 @@ use crate::copying::{Copying, write_copy};
 use crate::notes::{LastError, Source};
 use crate::opening::store_fault;
 use crate::options::Mode;
-use crate::output::{flush, write_answers, write_numbers, write_report};
+use crate::output::{flush, write_answers, write_cleaned, write_numbers, write_report};
 use crate::progress::Reports;
 use crate::session::SessionError;
 use crate::show::StoreNumbers;
+use cleaner::Reading;
 use cleaner::laws::a_clean_keeps_the_store;
 use climb_plan::laws::the_plan_holds_the_map_after_the_commands;
 use engine::{Crew, Disk, LockFile, NoGate, Report, Step, Store};
@@ -168,11 +171,80 @@ fn cleans_after_refusal(refused: SessionError) -> Result<u32, SessionError>
     }
 }
 
+// Cleans the first segment by a reading that has it, and writes the answer to `out`.
+fn clean_as_read<D: Disk, O: Write>(
+    store: &mut Store<D>,
+    reading: &mut Reading,
+    lines: &mut Vec<u8>,
+    out: &mut O,
+) -> Result<(), SessionError>
+    requires fine { store.old.has_failed ≡ false }
+    requires read { IsReadFor D.view store.old reading.old }
+    requires next { store.old.store.head < reading.old.limit }
+    ensures runs { (mode : Mode) → RunsOrder mode (D.view store.old.disk).is_honest
+        store.old.settings store.old.store (D.view store.old.disk).seen Order.Clean
+        (O.contents out.old) (O.contents out.new) result store.new.store
+        (D.view store.new.disk).seen }
+    ensures settings { store.new.settings ≡ store.old.settings }
+    ensures honest { (D.view store.new.disk).is_honest ≡ (D.view store.old.disk).is_honest }
+    ensures failed { OnOk result (store.new.has_failed ≡ store.old.has_failed) }
+    ensures kept { (result ≡ Err (SessionError.Fault Fault.Full))
+        ⊎ (result ≡ Err (SessionError.Fault Fault.NothingToClean)) →
+        (store.new.store ≡ store.old.store) × (store.new.has_failed ≡ store.old.has_failed)
+        × (IsTrue (D.view store.old.disk).is_honest →
+        (D.view store.new.disk).seen ≡ (D.view store.old.disk).seen) }
+    ensures read { OnOk result (IsReadFor D.view store.new reading.new) }
+{
+    // This call does nothing at run time. Its contract serves the proof.
+    a_clean_keeps_the_store();
+    match store.clean_by_reading(reading) {
+        Ok(head) => write_cleaned(head, lines, out),
+        Err(fault) => Err(store_fault(fault)),
+    }
+}
+
+// Cleans the first segment. If the reading does not have this segment, drops the reading, and the
+// clean reads the log itself.
+fn run_clean<R: Threads + Sync, D: Disk, O: Write>(
+    rt: &R,
+    crew: Crew,
+    store: &mut Store<D>,
+    reading: &mut Option<Reading>,
+    lines: &mut Vec<u8>,
+    out: &mut O,
+) -> Result<(), SessionError>
+    requires crew { IsTrue (is_crew crew) }
+    requires fine { store.old.has_failed ≡ false }
+    requires read { IfSome reading.old (IsReadFor D.view store.old) }
+    ensures runs { (mode : Mode) → RunsOrder mode (D.view store.old.disk).is_honest
+        store.old.settings store.old.store (D.view store.old.disk).seen Order.Clean
+        (O.contents out.old) (O.contents out.new) result store.new.store
+        (D.view store.new.disk).seen }
+    ensures settings { store.new.settings ≡ store.old.settings }
+    ensures honest { (D.view store.new.disk).is_honest ≡ (D.view store.old.disk).is_honest }
+    ensures failed { OnOk result (store.new.has_failed ≡ store.old.has_failed) }
+    ensures kept { (result ≡ Err (SessionError.Fault Fault.Full))
+        ⊎ (result ≡ Err (SessionError.Fault Fault.NothingToClean)) →
+        (store.new.store ≡ store.old.store) × (store.new.has_failed ≡ store.old.has_failed)
+        × (IsTrue (D.view store.old.disk).is_honest →
+        (D.view store.new.disk).seen ≡ (D.view store.old.disk).seen) }
+    ensures read { OnOk result (IfSome reading.new (IsReadFor D.view store.new)) }
+{
+    if let Some(read) = reading {
+        if read.has(store.head()) {
+            return clean_as_read(store, read, lines, out);
+        }
+    }
+    *reading = None;
+    run_step(rt, crew, store, Step::Clean, lines, out)
+}
+
 // Runs `row` cleans, but at most `most`. Returns how many more may be run in front of this flush.
 fn run_row<R: Threads + Sync, D: Disk, O: Write>(
     rt: &R,
     crew: Crew,
     store: &mut Store<D>,
+    reading: &mut Option<Reading>,
     row: u32,
     most: u32,
     lines: &mut Vec<u8>,
@@ -180,6 +252,7 @@ fn run_row<R: Threads + Sync, D: Disk, O: Write>(
 ) -> Result<u32, SessionError>
     requires crew { IsTrue (is_crew crew) }
     requires fine { store.old.has_failed ≡ false }
+    requires read { IfSome reading.old (IsReadFor D.view store.old) }
     ensures runs { (mode : Mode) → (under : mapped.Store) →
         (by : TidiesTo mode.tidy store.old.settings under store.old.store) →
         RunsCleans most row by.batches mode (D.view store.old.disk).is_honest store.old.settings
@@ -198,7 +271,7 @@ fn run_row<R: Threads + Sync, D: Disk, O: Write>(
         if due == 0 || more == 0 {
             return Ok(more);
         }
-        if let Err(refused) = run_step(rt, crew, store, Step::Clean, lines, out) {
+        if let Err(refused) = run_clean(rt, crew, store, reading, lines, out) {
             return cleans_after_refusal(refused);
         }
         due -= 1;
@@ -213,15 +286,35 @@ fn row_of_cleans(segments: u32) -> u32
     (segments / 8).max(1)
 }
 
-// Reads the log once for the next `count` cleans. If this fails, each clean reads the log itself, and
-// reports the fault if it is still there.
-fn prepare_cleans<R: Threads + Sync, D: Disk>(rt: &R, crew: Crew, count: u32, store: &mut Store<D>)
-    ensures kept { (store.new.settings ≡ store.old.settings) × (store.new.store ≡ store.old.store)
-        × (store.new.has_failed ≡ store.old.has_failed) }
+// Reads the log once for the next `count` cleans. If there is no memory for that, returns no reading,
+// and each clean reads the log itself. Any other fault refuses the first clean.
+fn read_for_row<R: Threads + Sync, D: Disk>(
+    rt: &R,
+    crew: Crew,
+    store: &mut Store<D>,
+    count: u32,
+) -> Result<Option<Reading>, SessionError>
+    requires fine { store.old.has_failed ≡ false }
+    requires some { 0 < count }
+    ensures read { IfOk result (λ reading. IfSome reading (IsReadFor D.view store.new)) }
+    ensures refused { IfErr result (λ refused. (mode : Mode) → (text : Option Bytes) →
+        RunsOrder mode (D.view store.old.disk).is_honest store.old.settings store.old.store
+        (D.view store.old.disk).seen Order.Clean text text (Err refused) store.new.store
+        (D.view store.new.disk).seen) }
+    ensures settings { store.new.settings ≡ store.old.settings }
     ensures honest { (D.view store.new.disk).is_honest ≡ (D.view store.old.disk).is_honest }
-    ensures bytes { IsTrue (D.view store.old.disk).is_honest →
-        (D.view store.new.disk).seen ≡ (D.view store.old.disk).seen }
-{}
+    ensures same { store.new.store ≡ store.old.store }
+    ensures kept { result ≢ Err SessionError.Device →
+        (store.new.has_failed ≡ store.old.has_failed)
+        × (IsTrue (D.view store.old.disk).is_honest →
+        (D.view store.new.disk).seen ≡ (D.view store.old.disk).seen) }
+{
+    match store.read_ahead(rt, crew, u64::from(count)) {
+        Ok(reading) => Ok(Some(reading)),
+        Err(Fault::NoMemory) => Ok(None),
+        Err(fault) => Err(store_fault(fault)),
+    }
+}
 
 // Cleans an eighth of the segments, but at most `most`, by one reading of the log. Returns how many
 // more cleans may be run in front of this flush.
@@ -235,6 +328,7 @@ fn clean_ahead<R: Threads + Sync, D: Disk, O: Write>(
 ) -> Result<u32, SessionError>
     requires crew { IsTrue (is_crew crew) }
     requires fine { store.old.has_failed ≡ false }
+    requires some { 0 < most }
     ensures runs { (mode : Mode) → (under : mapped.Store) →
         (by : TidiesTo mode.tidy store.old.settings under store.old.store) →
         RunsCleans most (row_of_cleans store.old.settings.segments) by.batches mode
@@ -246,11 +340,13 @@ fn clean_ahead<R: Threads + Sync, D: Disk, O: Write>(
     ensures failed { OnOk result (store.new.has_failed ≡ store.old.has_failed) }
     ensures holds { OnOk result
         (contents store.new.store.tree ≡ contents store.old.store.tree) }
-    ensures fewer { 0 < most → IfOk result (λ more. more < most) }
+    ensures fewer { IfOk result (λ more. more < most) }
 {
     let row = row_of_cleans(store.settings().segments);
-    prepare_cleans(rt, crew, row.min(most), store);
-    run_row(rt, crew, store, row, most, lines, out)
+    match read_for_row(rt, crew, store, row.min(most)) {
+        Ok(mut reading) => run_row(rt, crew, store, &mut reading, row, most, lines, out),
+        Err(refused) => cleans_after_refusal(refused),
+    }
 }
 
 // Flushes a store that was tidied for this flush. While the log is full, cleans ahead and flushes

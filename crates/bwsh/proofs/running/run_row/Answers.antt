@@ -1,7 +1,6 @@
 use Rattle.std.proofs.Common.{◌≡◌, ◌⊎◌, ◌∙◌, ap, inl, inr, refl, sym}
 use Rattle.mapping.specs.Levels.{contents}
 use Rattle.mapping.specs.Tree.{Store}
-use Rattle.bwsh.specs.declared.batch_file.Order.TheVariants.{Clean}
 use Rattle.bwsh.proofs.RoomLemmas.{some_mode}
 use Rattle.bwsh.proofs.RowLemmas.{LeadsRow-first, Row-ends, Row-cleaned, Row-refused, as_no_room, fewer_after, fewer_left, fewer_on, unless_refused}
 use Rattle.bwsh.proofs.running.run_row.Goals as goal
@@ -34,10 +33,10 @@ returns-in-Err-clause-runs g c mode under by =
     let disk = g.D.Disk.view store.disk in
     let at = c.cleans in
     let now = g.D.Disk.view at.store.disk in
-    let after = c.run_step.new.store in
+    let after = c.run_clean.new.store in
     Row-refused c.args.most c.args.row by.batches mode by.unasked disk.is_honest store.settings under disk.seen (g.O.Write.contents c.args.out.now) at.more at.due at.store.store now.seen (g.O.Write.contents at.out)
-    (at.invariant.leads mode under by) c.if-due-eq0.false c.if-more-eq0.false now.is_honest at.invariant.honest at.store.settings at.invariant.settings (g.O.Write.contents c.run_step.new.out) _
-    after.store (g.D.Disk.view after.disk).seen (c.in-Err.ensures.runs mode Clean refl) c.in-Err.refused refl c.cleans_after_refusal.result c.cleans_after_refusal.ensures
+    (at.invariant.leads mode under by) c.if-due-eq0.false c.if-more-eq0.false now.is_honest at.invariant.honest at.store.settings at.invariant.settings (g.O.Write.contents c.run_clean.new.out) _
+    after.store (g.D.Disk.view after.disk).seen (c.in-Err.ensures.runs mode) c.in-Err.refused refl c.cleans_after_refusal.result c.cleans_after_refusal.ensures
     at.store.has_failed after.has_failed (λ none. c.in-Err.ensures.kept (as_no_room c.in-Err.refused none))
 
 pub returns-in-Err-clause-failed : goal.returns-in-Err-clause-failed
@@ -62,18 +61,19 @@ cleans-preserved g c =
     let disk = g.D.Disk.view store.disk in
     let at = c.cleans in
     let now = g.D.Disk.view at.store.disk in
-    let after = c.run_step.new.store in
+    let after = c.run_clean.new.store in
     let cleaned = c.in_default.ensures in
     record {
       settings = cleaned.settings ∙ at.invariant.settings;
       honest = cleaned.honest ∙ at.invariant.honest;
       fine = cleaned.failed ∙ at.invariant.fine;
+      read = cleaned.read;
       same = at.invariant.same;
-      holds = (cleaned.runs some_mode Clean refl).3.holds ∙ at.invariant.holds;
+      holds = (cleaned.runs some_mode).3.holds ∙ at.invariant.holds;
       leads = λ mode under by.
           Row-cleaned c.args.most c.args.row by.batches mode by.unasked disk.is_honest store.settings under disk.seen (g.O.Write.contents c.args.out.now) at.more at.due at.store.store now.seen (g.O.Write.contents at.out)
-          (at.invariant.leads mode under by) c.if-due-eq0.false c.if-more-eq0.false now.is_honest at.invariant.honest at.store.settings at.invariant.settings (g.O.Write.contents c.run_step.new.out) _
-          after.store (g.D.Disk.view after.disk).seen (cleaned.runs mode Clean refl) c.in_default.field-0 refl;
+          (at.invariant.leads mode under by) c.if-due-eq0.false c.if-more-eq0.false now.is_honest at.invariant.honest at.store.settings at.invariant.settings (g.O.Write.contents c.run_clean.new.out) _
+          after.store (g.D.Disk.view after.disk).seen (cleaned.runs mode) c.in_default.field-0 refl;
       fewer = fewer_on at.more c.args.most at.due c.args.row at.invariant.fewer c.if-more-eq0.false;
     }
 
@@ -85,6 +85,7 @@ cleans-init g c =
       settings = refl;
       honest = refl;
       fine = c.requires.fine;
+      read = c.requires.read;
       same = c.requires.fine;
       holds = refl;
       leads = λ mode under by.

@@ -1,4 +1,6 @@
 use Rattle.std.proofs.Common.{◌≡◌, ◌<◌, ◌⊎◌, false}
+use Rattle.std.specs.Prelude.{IfSome}
+use Rattle.engine.specs.Cleans.{IsReadFor}
 use Rattle.mapping.specs.Levels.{contents}
 use Rattle.bwsh.specs.declared.options.asked.Mode.{Mode}
 use Rattle.mapping.specs.Tree.{Store}
@@ -12,6 +14,7 @@ invariant-cleans g l = record {
   settings : l.store.settings ≡ l.fn.store.settings;
   honest : (g.D.Disk.view l.store.disk).is_honest ≡ (g.D.Disk.view l.fn.store.disk).is_honest;
   fine : l.store.has_failed ≡ false;
+  read : IfSome l.reading (IsReadFor g.D.Disk.view l.store);
   same : l.fn.store.has_failed ≡ false;
   holds : contents l.store.store.tree ≡ contents l.fn.store.store.tree;
   leads : (mode : Mode) (under : Store) (by : TidiesTo mode.tidy l.fn.store.settings under l.fn.store.store)
