@@ -1,6 +1,7 @@
 """The options that are off by default: their output, and what stays the same as without them."""
 
 import fcntl
+import itertools
 from pathlib import Path
 
 from tools.cases import SMALL_STORE, Case, Outcome, Programs, differs
@@ -250,6 +251,19 @@ def clean_often(programs: Programs) -> Outcome:
     return Outcome(None if is_right and ran.out.endswith(b"\nflushed %d\n" % (cleans + 2_001)) else ran.describe(), measured=f"{cleans} cleans")
 
 
+def clean_ahead(programs: Programs) -> Outcome:
+    """If the log is full, an eighth of its segments is cleaned, and at least one, before the flush is tried again."""
+    rows = {}
+    for segments in (4, 15, 16, 24, 64):
+        words = [*SMALL_STORE[:-1], f"--segments={segments}", "--clean-when-full"]
+        ran = run([programs.store, *words], 1_000 * LONG_PUT)
+        if ran.status or ran.err:
+            return Outcome(f"{segments} segments: {ran.describe()}")
+        lines = ran.out.splitlines()
+        rows[segments] = {len(list(row)) for is_clean, row in itertools.groupby(lines, lambda line: line.startswith(b"cleaned ")) if is_clean}
+    return Outcome(None if rows == {4: {1}, 15: {1}, 16: {2}, 24: {3}, 64: {8}} else f"cleans in a row: {rows}")
+
+
 def clean_in_vain(programs: Programs) -> Outcome:
     """The live pages need five segments, and the log has four."""
     puts = b"".join(b"put sixteen_bytes_%d sixteen_bytes_v1\n" % pair for pair in range(10, 30))
@@ -269,5 +283,6 @@ def cases(programs: Programs) -> list[Case]:
         Case("prints numbers of a file that is shared", print_numbers_of_file, (programs,)),
         Case("cleans a full log", clean_when_full, (programs,)),
         Case("cleans a log for long", clean_often, (programs,)),
+        Case("cleans ahead", clean_ahead, (programs,)),
         Case("can't clean what lives", clean_in_vain, (programs,)),
     ]

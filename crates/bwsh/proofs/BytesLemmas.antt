@@ -118,7 +118,7 @@ module _ (settings : Settings) (st : Store) (f g : Seen) where
       )
 
   -- where it leaves the same store, it answers the same
-  own-same : (m : List (List ℕ × List ℕ)) (order : Order) → (after_order settings st f order).0 ≡ (after_order settings st g order).0 → own_lines settings st f m order ≡ own_lines settings st g m order
+  pub own-same : (m : List (List ℕ × List ℕ)) (order : Order) → (after_order settings st f order).0 ≡ (after_order settings st g order).0 → own_lines settings st f m order ≡ own_lines settings st g m order
   own-same m (Batch cs) same = refl
   own-same m Flush same = ap (λ (s : Store). shown_flushed s.sequence ∷ []) same
   own-same m Clean same = ap (λ (s : Store). shown_cleaned s.head ∷ []) same
@@ -174,7 +174,7 @@ module _ (settings : Settings) where
       (same, refused, alike-without_cleans (after_order settings st (shown 0) order).0 (later shown) (later other) (λ i. alike (suc i)) rest only.1)
 
   -- and where the disk shows what was left
-  seen_is : (a b : Seen) → a.bytes ≡ b.bytes → a.tidying ≡ b.tidying → a ≡ b
+  pub seen_is : (a b : Seen) → a.bytes ≡ b.bytes → a.tidying ≡ b.tidying → a ≡ b
   seen_is a b bytes alike =
       ap (λ (x : List ℕ). (let s : Seen = record { bytes = x; tidying = a.tidying } in s)) bytes
       ∙ ap (λ (t : Batches). (let s : Seen = record { bytes = b.bytes; tidying = t } in s)) alike

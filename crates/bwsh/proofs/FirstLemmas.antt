@@ -14,7 +14,7 @@ use Rattle.bwsh.specs.declared.session.SessionError.TheVariants.{Device}
 use Rattle.bwsh.specs.declared.session.SessionError.TheVariants as errors
 use Rattle.bwsh.specs.BatchFile.{IsNoClean, is_flush}
 use Rattle.bwsh.specs.declared.options.asked.Mode.{Mode}
-use Rattle.bwsh.specs.Session.{Stored, Seen, Reads, Batches, AreLeft, AreSeen, AreUntidied, TidiesBy, after_order, flush_with_room, left_by_step, refusal_of, refusal_of_step, run_of, step_in, untidied, wants_clean, with_cleans, Runs, RunsFirst, RunsOn, RunsOrder}
+use Rattle.bwsh.specs.Session.{Stored, Seen, Reads, Batches, AreLeft, AreSeen, AreUntidied, TidiesBy, after_order, flush_with_room, left_by_step, refusal_of, refusal_of_step, row_after, run_of, step_in, untidied, wants_clean, with_cleans, Runs, RunsFirst, RunsOn, RunsOrder}
 use Rattle.bwsh.specs.Shown.{shown_cleaned}
 use Rattle.bwsh.proofs.Prints.{Prints-asked, Prints-device, Prints-kept}
 use Rattle.bwsh.proofs.RunLemmas.{AreLeft-left_shown, AreTidiedBy, AreTidiedBy-first, AreTidiedBy-left_shown, AreTidiedOnce-alike, IsCut, LeavesStored-alike, Runs-alike, Runs-cut, Runs-show_call, Runs-none, Runs-stops, TidiesBy-none, first_shown, left_shown, seen_with}
@@ -33,16 +33,17 @@ leave_one settings next leavable batches st file order =
     let (shown, all, are) = leavable batches at.0 at.1 in
     (shown, all, (refl, are))
 
-pub leave_flush : (settings : Settings) (next : Store → Reads → List Order) → Leavable settings next → (most : ℕ)
-    → Leavable settings (λ now shown. flush_with_room most settings now shown next)
-leave_flush settings next leavable zero batches now file =
+pub leave_flush : (settings : Settings) (next : Store → Reads → List Order) → Leavable settings next → (most row : ℕ)
+    → Leavable settings (λ now shown. flush_with_room most row settings now shown next)
+leave_flush settings next leavable zero row batches now file =
     let (shown, all, are) = leave_one settings next leavable batches now file Flush in (first_shown (seen_with batches file) shown, AreTidiedBy-first batches file shown all, are)
-leave_flush settings next leavable (suc most) batches now file = go (wants_clean settings now (seen_with batches file)) refl (leave_flush settings next leavable most)
+leave_flush settings next leavable (suc most) row batches now file =
+    go (wants_clean row settings now (seen_with batches file)) refl (leave_flush settings next leavable most (row_after row settings))
   where
-    go : (b : Bool) → wants_clean settings now (seen_with batches file) ≡ b → Leavable settings (λ st shown. flush_with_room most settings st shown next)
-        → (shown : Reads) × AreTidiedBy batches shown × AreLeft settings now file shown (flush_with_room (suc most) settings now shown next)
+    go : (b : Bool) → wants_clean row settings now (seen_with batches file) ≡ b → Leavable settings (λ st shown. flush_with_room most (row_after row settings) settings st shown next)
+        → (shown : Reads) × AreTidiedBy batches shown × AreLeft settings now file shown (flush_with_room (suc most) row settings now shown next)
     go true is later_on =
-        let (shown, all, are) = leave_one settings (λ st after. flush_with_room most settings st after next) later_on batches now file Clean in
+        let (shown, all, are) = leave_one settings (λ st after. flush_with_room most (row_after row settings) settings st after next) later_on batches now file Clean in
         (first_shown (seen_with batches file) shown, AreTidiedBy-first batches file shown all, rw is are)
     go false is later_on =
         let (shown, all, are) = leave_one settings next leavable batches now file Flush in (first_shown (seen_with batches file) shown, AreTidiedBy-first batches file shown all, rw is are)
@@ -50,7 +51,7 @@ leave_flush settings next leavable (suc most) batches now file = go (wants_clean
 leave_cleaned : (settings : Settings) (orders : List Order) → Leavable settings (λ now shown. with_cleans settings now shown orders)
 leave_cleaned settings [] batches now file = (λ i. seen_with batches file, λ i. refl, tt)
 leave_cleaned settings (Flush ∷ rest) batches now file =
-    leave_flush settings (λ st after. with_cleans settings st after rest) (leave_cleaned settings rest) settings.segments batches now file
+    leave_flush settings (λ st after. with_cleans settings st after rest) (leave_cleaned settings rest) settings.segments 0 batches now file
 leave_cleaned settings (Batch cs ∷ rest) batches now file =
     let (shown, all, are) = leave_one settings (λ st after. with_cleans settings st after rest) (leave_cleaned settings rest) batches now file (Batch cs) in
     (first_shown (seen_with batches file) shown, AreTidiedBy-first batches file shown all, are)
@@ -80,12 +81,12 @@ RunsBy batches mode honest settings st left orders old new end =
     (shown : Reads) × ((shown 0).tidying ≡ batches) × AreSeen mode honest settings st left shown (orders shown) × Runs settings st shown (orders shown) old new end
 
 -- a store is tidied only where that is asked for, at the first order and later
-asked_first : (mode : Mode) (seen : Seen) (shown : Reads) → (mode.tidy ≡ 0 → seen.tidying ≡ []) → (mode.tidy ≡ 0 → AreUntidied shown) → mode.tidy ≡ 0 → AreUntidied (first_shown seen shown)
+pub asked_first : (mode : Mode) (seen : Seen) (shown : Reads) → (mode.tidy ≡ 0 → seen.tidying ≡ []) → (mode.tidy ≡ 0 → AreUntidied shown) → mode.tidy ≡ 0 → AreUntidied (first_shown seen shown)
 asked_first mode seen shown first further off zero = first off
 asked_first mode seen shown first further off (suc i) = further off i
 
 -- and once for each flush
-tidies_first : (mode : Mode) (seen : Seen) (shown : Reads) (order : Order) (rest : List Order) → (mode.tidy ≡ 0 → seen.tidying ≡ []) → IsNoClean order ⊎ (seen.tidying ≡ (shown 0).tidying)
+pub tidies_first : (mode : Mode) (seen : Seen) (shown : Reads) (order : Order) (rest : List Order) → (mode.tidy ≡ 0 → seen.tidying ≡ []) → IsNoClean order ⊎ (seen.tidying ≡ (shown 0).tidying)
     → TidiesBy mode shown rest → TidiesBy mode (first_shown seen shown) (order ∷ rest)
 tidies_first mode seen shown order rest first once further = (asked_first mode seen shown first further.0, (once, further.1))
 
@@ -110,6 +111,17 @@ pub RunsBy-asked : (batches : Batches) (mode : Mode) (honest : Bool) (settings :
     → (end : Result (Unit {0}) SessionError) → RunsBy batches mode honest settings st left orders mid new end → RunsBy batches mode honest settings st left orders old new end
 unfolding Runs
 RunsBy-asked batches mode honest settings st left orders old mid new none end (shown, first, are, p) = (shown, first, are, Prints-asked old mid new none _ _ end p)
+
+-- they are the same orders as those, where these batches are seen at the first
+pub RunsBy-alike : (batches : Batches) (mode : Mode) (honest : Bool) (settings : Settings) (st : Store) (left : List ℕ) (orders others : Reads → List Order)
+    → ((shown : Reads) → (shown 0).tidying ≡ batches → orders shown ≡ others shown) → (old new : Option (List ℕ)) (end : Result (Unit {0}) SessionError)
+    → RunsBy batches mode honest settings st left others old new end → RunsBy batches mode honest settings st left orders old new end
+RunsBy-alike batches mode honest settings st left orders others same old new end (shown, first, are, runs) = (
+  shown,
+  first,
+  subst (AreSeen mode honest settings st left shown) (sym (same shown first)) are,
+  subst (λ (os : List Order). Runs settings st shown os old new end) (sym (same shown first)) runs,
+)
 
 module _ (mode : Mode) (honest : Bool) (settings : Settings) (st : Store) (left : List ℕ) (order : Order) (old new : Option (List ℕ)) (now : Store) (bytes : List ℕ) where
   -- the orders begin with this one and go on with what is next, where this is seen first

@@ -14,6 +14,7 @@ mod Prints
 mod ProgressLemmas
 mod ReadLemmas
 mod RoomLemmas
+mod RowLemmas
 mod RunLemmas
 mod ShowLemmas
 mod StoreLemmas

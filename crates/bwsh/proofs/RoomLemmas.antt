@@ -1,6 +1,7 @@
 -- Lemmas on the cleans that make room for flushes.
-use Rattle.std.proofs.Common.{◌≡◌, ◌≢◌, ◌⊎◌, ◌&&◌, ◌-◌, not, inl, inr, ℕ, zero, suc, Bool, true, false, List, [], ◌∷◌, ◌++◌, Option, Some, None, Result, Ok, Err, refl, sym, ap, ◌∙◌, subst, arith}
-use Rattle.std.specs.Prelude.{filter, IsTrue, OnOk}
+use Rattle.std.proofs.Common.{◌≡◌, ◌≢◌, ◌<◌, ◌⊎◌, ◌&&◌, ◌-◌, ◌/◌, not, inl, inr, ℕ, zero, suc, Bool, true, false, List, [], ◌∷◌, ◌++◌, Option, Some, None, Result, Ok, Err, refl, sym, ap, ◌∙◌, subst, arith}
+use Rattle.std.proofs.Math.Nat.{le-max_left}
+use Rattle.std.specs.Prelude.{filter, IsTrue}
 use Rattle.std.specs.Io.KnownBytes.{Appends}
 use Rattle.std.specs.List.{AllByRecursion, flat_map}
 use Rattle.std.specs.declared.alloc.Global.{Global}
@@ -12,28 +13,29 @@ use Rattle.bwsh.specs.declared.batch_file.Order.TheVariants.{Batch, Flush, Clean
 use Rattle.bwsh.specs.BatchFile.{IsNoClean, cleans_nothing, commands_of, is_flush}
 use Rattle.keys.specs.Lists.{flat}
 use Rattle.keys.specs.declared.fault.Fault.{Fault}
-use Rattle.keys.specs.declared.fault.Fault.TheVariants.{Full, NoMemory, NothingToClean}
+use Rattle.keys.specs.declared.fault.Fault.TheVariants.{Full, NoMemory}
 use Rattle.mapping.specs.Levels.{contents}
 use Rattle.bwsh.specs.declared.session.SessionError.{SessionError}
 use Rattle.bwsh.specs.declared.session.SessionError.TheVariants.{Device}
 use Rattle.bwsh.specs.declared.session.SessionError.TheVariants as errors
 use Rattle.bwsh.specs.declared.options.asked.Mode.{Mode}
-use Rattle.bwsh.specs.Session.{Batches, BeginsWith, Prints, Reads, Runs, RunsFirst, RunsOn, RunsOrder, Seen, TidiesTo, after_order, flush_with_room, is_full, is_nothing_to_clean, later, map_after, own_lines, refusal_of, wants_clean, with_cleans}
+use Rattle.bwsh.specs.Session.{AreLeft, Batches, BeginsWith, Prints, Reads, Runs, RunsCleans, RunsFirst, RunsOn, RunsOrder, RunsRoom, Seen, TidiesTo, after_order, flush_with_room, is_full, later, makes_no_room, map_after, own_lines, refusal_of, row_after, row_of_cleans, wants_clean, with_cleans}
 use Rattle.bwsh.proofs.BytesLemmas.{after_order-same}
-use Rattle.bwsh.proofs.FirstLemmas.{Leavable, RunsBy, RunsBy-asked, RunsBy-cut, RunsBy-show_call, RunsBy-stops, RunsFirst-same, RunsOn-with, RunsOrder-same, clean_with, leave, leave_flush}
+use Rattle.bwsh.proofs.FirstLemmas.{Leavable, RunsBy, RunsBy-alike, RunsBy-asked, RunsBy-cut, RunsBy-show_call, RunsBy-stops, RunsFirst-same, RunsOn-with, RunsOrder-same, leave, leave_flush}
 use Rattle.bwsh.proofs.RunLemmas.{IsCut, first_shown}
-use Rattle.bwsh.proofs.TidiedLemmas.{IsTidiedBy, RunsOrder-tidied, clean_under, untidy}
+use Rattle.bwsh.proofs.TidiedLemmas.{IsTidiedBy, RunsOrder-tidied, untidy}
 
 -- what is so of what is next is so after the cleans of a flush
 module _ {X : Type 0} (of : List Order → X) (skips : (orders : List Order) → of (Clean ∷ orders) ≡ of orders) (settings : Settings) where
   room_by : (next : Store → Reads → List Order) (all : X) → ((st : Store) (shown : Reads) → of (Flush ∷ next st shown) ≡ all)
-      → (most : ℕ) (st : Store) (shown : Reads) → of (flush_with_room most settings st shown next) ≡ all
-  room_by next all same zero st shown = same (after_order settings st (shown 0) Flush).0 (later shown)
-  room_by next all same (suc most) st shown =
-      go (wants_clean settings st (shown 0)) refl (room_by next all same most (after_order settings st (shown 0) Clean).0 (later shown))
+      → (most row : ℕ) (st : Store) (shown : Reads) → of (flush_with_room most row settings st shown next) ≡ all
+  room_by next all same zero row st shown = same (after_order settings st (shown 0) Flush).0 (later shown)
+  room_by next all same (suc most) row st shown =
+      go (wants_clean row settings st (shown 0)) refl (room_by next all same most (row_after row settings) (after_order settings st (shown 0) Clean).0 (later shown))
     where
-      go : (b : Bool) → wants_clean settings st (shown 0) ≡ b → of (flush_with_room most settings (after_order settings st (shown 0) Clean).0 (later shown) next) ≡ all
-          → of (flush_with_room (suc most) settings st shown next) ≡ all
+      go : (b : Bool) → wants_clean row settings st (shown 0) ≡ b
+          → of (flush_with_room most (row_after row settings) settings (after_order settings st (shown 0) Clean).0 (later shown) next) ≡ all
+          → of (flush_with_room (suc most) row settings st shown next) ≡ all
       go true is further_on = rw is (skips _ ∙ further_on)
       go false is further_on = rw is (same (after_order settings st (shown 0) Flush).0 (later shown))
 
@@ -43,7 +45,7 @@ pub commands-with_cleans : (settings : Settings) (st : Store) (shown : Reads) (o
 commands-with_cleans settings st shown [] = refl
 commands-with_cleans settings st shown (Flush ∷ rest) =
     room_by (flat_map commands_of) (λ orders. refl) settings (λ now after. with_cleans settings now after rest) (flat_map commands_of rest)
-    (λ now after. commands-with_cleans settings now after rest) settings.segments st shown
+    (λ now after. commands-with_cleans settings now after rest) settings.segments 0 st shown
 commands-with_cleans settings st shown (Batch cs ∷ rest) =
     ap (λ (l : List (Command Global)). cs ++ l) (commands-with_cleans settings (after_order settings st (shown 0) (Batch cs)).0 (later shown) rest)
 commands-with_cleans settings st shown (Clean ∷ rest) = commands-with_cleans settings (after_order settings st (shown 0) Clean).0 (later shown) rest
@@ -57,7 +59,7 @@ pub others-with_cleans : (settings : Settings) (st : Store) (shown : Reads) (ord
 others-with_cleans settings st shown [] none = refl
 others-with_cleans settings st shown (Flush ∷ rest) none =
     room_by (filter cleans_nothing) (λ orders. refl) settings (λ now after. with_cleans settings now after rest) (Flush ∷ rest)
-    (λ now after. ap (λ (os : List Order). Flush ∷ os) (others-with_cleans settings now after rest none.1)) settings.segments st shown
+    (λ now after. ap (λ (os : List Order). Flush ∷ os) (others-with_cleans settings now after rest none.1)) settings.segments 0 st shown
 others-with_cleans settings st shown (Clean ∷ rest) none = absurd none.0
 others-with_cleans settings st shown (Batch cs ∷ rest) none =
     ap (λ (os : List Order). Batch cs ∷ os) (others-with_cleans settings (after_order settings st (shown 0) (Batch cs)).0 (later shown) rest none.1)
@@ -88,12 +90,11 @@ pub as_roomy : (mode : Mode) → mode.clean_when_full ≡ true → (honest : Boo
 as_roomy mode full honest settings st left old new end now bytes p =
     subst (λ (w : Mode). RunsFirst w honest settings st left (Flush ∷ []) old new end now bytes) (roomy_is mode full) p
 
--- A flush with this number of cleans before it at most, with nothing of it done yet, prints after what stands there is, after what stood there
--- first, what a flush does that makes itself room. These batches tidy the store for it.
+-- A flush that is tried next, with this number of cleans before it at most, with nothing of it done yet, prints after what stands there is, after
+-- what stood there first, what a flush does that makes itself room. These batches tidy the store for it.
 abbrev pub LeadsRoom : Mode → Bool → Settings → Store → List ℕ → Option (List ℕ) → Batches → ℕ → Store → List ℕ → Option (List ℕ) → Type 0
 LeadsRoom mode honest settings first file old batches most st seen now =
-    (rest : List Order) (new : Option (List ℕ)) (end : Result (Unit {0}) SessionError)
-    → RunsBy batches mode honest settings st seen (λ shown. flush_with_room most settings st shown (orders_after_flush settings rest)) now new end
+    (rest : List Order) (new : Option (List ℕ)) (end : Result (Unit {0}) SessionError) → RunsRoom most 0 batches mode honest settings st seen rest now new end
     → RunsOn (roomy mode) honest settings first file (Flush ∷ rest) old new end
 
 -- the same of the store that was tidied
@@ -114,11 +115,11 @@ pub LeadsEach-first : (honest : Bool) (settings : Settings) (st : Store) (seen :
 LeadsEach-first honest settings st seen old most is mode first by =
     (first, by.leaves, subst (λ (n : ℕ). LeadsRoom mode honest settings first seen old by.batches n first seen old) (sym is) (LeadsRoom-first mode honest settings first seen old by.batches))
 
-leavable_room : (settings : Settings) (rest : List Order) (most : ℕ) → Leavable settings (λ s shown. flush_with_room most settings s shown (orders_after_flush settings rest))
-leavable_room settings rest most = leave_flush settings (orders_after_flush settings rest) (leave true settings rest) most
+pub leavable_room : (settings : Settings) (rest : List Order) (most row : ℕ) → Leavable settings (λ s shown. flush_with_room most row settings s shown (orders_after_flush settings rest))
+leavable_room settings rest most row = leave_flush settings (orders_after_flush settings rest) (leave true settings rest) most row
 
 -- an order alone that ends early: by its right, with nothing printed, or for want of memory or since a device failed
-data Early (now new : Option (List ℕ)) (r : Option Fault) (early : SessionError) : Type 0 where
+pub data Early (now new : Option (List ℕ)) (r : Option Fault) (early : SessionError) : Type 0 where
   by_right : (fault : Fault) → r ≡ Some fault → early ≡ errors.Fault fault → Appends now new [] → Early now new r early
   refused_cut : (fault : Fault) → r ≡ Some fault → IsCut early → Appends now new [] → Early now new r early
   cut : r ≡ None → IsCut early → Early now new r early
@@ -151,7 +152,7 @@ early_of_some now new fault early (inr (inl (e, (front, begins, a)))) =
 early_of_some now new fault early (inr (inr (e, (front, begins, a)))) =
     refused_cut fault refl (inr (same_ending early Device e)) (subst (Appends now new) (nothing_front front begins) a)
 
-early_by : (settings : Settings) (st : Store) (file : Seen) (order : Order) (now new : Option (List ℕ)) (early : SessionError) (r : Option Fault) → refusal_of settings st file order ≡ r
+pub early_by : (settings : Settings) (st : Store) (file : Seen) (order : Order) (now new : Option (List ℕ)) (early : SessionError) (r : Option Fault) → refusal_of settings st file order ≡ r
     → Runs settings st (λ i. file) (order ∷ []) now new (Err early) → Early now new r early
 unfolding Runs
 early_by settings st file order now new early None none p =
@@ -161,29 +162,23 @@ early_by settings st file order now new early (Some fault) some p =
     let own : Prints now new [] (Err (errors.Fault fault)) (Err early) = rw some at p in
     early_of_some now new fault early own
 
--- whether the flush wants a clean is known by why it and a clean are refused
+-- whether a clean stands in front of the flush is known by why it and a clean are refused
 module _ (settings : Settings) (st : Store) (file : Seen) where
-  wants_by : (r q : Option Fault) → refusal_of settings st file Flush ≡ r → refusal_of settings st file Clean ≡ q → wants_clean settings st file ≡ is_full r && not (is_nothing_to_clean q)
+  wants_by : (r q : Option Fault) → refusal_of settings st file Flush ≡ r → refusal_of settings st file Clean ≡ q → wants_clean 0 settings st file ≡ is_full r && not (makes_no_room q)
   wants_by r q is_r is_q = rw (is_r, is_q) refl
 
-  room_wanted : (most : ℕ) (next : Store → Reads → List Order) → wants_clean settings st file ≡ true → (shown : Reads)
-      → flush_with_room (suc most) settings st (first_shown file shown) next ≡ Clean ∷ flush_with_room most settings (after_order settings st file Clean).0 shown next
-  room_wanted most next wants shown = rw wants refl
+  pub room_wanted : (most row : ℕ) (next : Store → Reads → List Order) → wants_clean row settings st file ≡ true → (shown : Reads)
+      → flush_with_room (suc most) row settings st (first_shown file shown) next ≡ Clean ∷ flush_with_room most (row_after row settings) settings (after_order settings st file Clean).0 shown next
+  room_wanted most row next wants shown = rw wants refl
 
-  room_made : (most : ℕ) (next : Store → Reads → List Order) → wants_clean settings st file ≡ false → (shown : Reads)
-      → flush_with_room most settings st (first_shown file shown) next ≡ Flush ∷ next (after_order settings st file Flush).0 shown
-  room_made zero next wants shown = refl
-  room_made (suc most) next wants shown = rw wants refl
+  pub room_made : (most row : ℕ) (next : Store → Reads → List Order) → wants_clean row settings st file ≡ false → (shown : Reads)
+      → flush_with_room most row settings st (first_shown file shown) next ≡ Flush ∷ next (after_order settings st file Flush).0 shown
+  room_made zero row next wants shown = refl
+  room_made (suc most) row next wants shown = rw wants refl
 
 -- the log was full for a flush, whatever the disk shows
-full_alike : (settings : Settings) (st : Store) (f g : Seen) → f.tidying ≡ g.tidying → refusal_of settings st f Flush ≡ Some Full → refusal_of settings st g Flush ≡ Some Full
+pub full_alike : (settings : Settings) (st : Store) (f g : Seen) → f.tidying ≡ g.tidying → refusal_of settings st f Flush ≡ Some Full → refusal_of settings st g Flush ≡ Some Full
 full_alike settings st f g alike full = sym (after_order-same settings st f g alike Flush tt).1 ∙ full
-
--- a flush that is refused so alone
-full_alone : (settings : Settings) (st : Store) (file : Seen) (now new : Option (List ℕ)) → refusal_of settings st file Flush ≡ Some Full → Appends now new []
-    → Runs settings st (λ i. file) (Flush ∷ []) now new (Err (errors.Fault Full))
-unfolding Runs
-full_alone settings st file now new full a = rw full (inl (refl, a))
 
 -- a flush that ends since the log is full is refused for that, and prints nothing
 pub is_refused_full : (mode : Mode) (honest : Bool) (settings : Settings) (st : Store) (seen : List ℕ) (now new : Option (List ℕ)) (after : Store) (bytes : List ℕ)
@@ -207,18 +202,18 @@ module _ (mode : Mode) (honest : Bool) (settings : Settings) (first : Store) (fi
   LeadsRoom-ends new (Ok done) after bytes why (of, is, runs, leaves) same = λ rest last ended q.
       let (further, next) = RunsOn-with (roomy mode) honest settings after bytes rest new last ended q in
       leads rest last ended
-      (subst (λ (b : Batches). RunsBy b mode honest settings st seen (λ shown. flush_with_room most settings st shown (orders_after_flush settings rest)) now last ended) same
-      (RunsBy-show_call mode honest settings st seen Flush now new after bytes (λ shown. flush_with_room most settings st shown (orders_after_flush settings rest)) (orders_after_flush settings rest)
-      done (of, is, runs, leaves) (room_made settings st of most (orders_after_flush settings rest) (wants_by settings st of None (refusal_of settings st of Clean) leaves.unrefused refl))
+      (subst (λ (b : Batches). RunsBy b mode honest settings st seen (λ shown. flush_with_room most 0 settings st shown (orders_after_flush settings rest)) now last ended) same
+      (RunsBy-show_call mode honest settings st seen Flush now new after bytes (λ shown. flush_with_room most 0 settings st shown (orders_after_flush settings rest)) (orders_after_flush settings rest)
+      done (of, is, runs, leaves) (room_made settings st of most 0 (orders_after_flush settings rest) (wants_by settings st of None (refusal_of settings st of Clean) leaves.unrefused refl))
       further (inl tt) last ended next))
   LeadsRoom-ends new (Err early) after bytes (inl none_left) one same = λ rest.
       leads rest new (Err early)
-      (subst (λ (b : Batches). RunsBy b mode honest settings st seen (λ shown. flush_with_room most settings st shown (orders_after_flush settings rest)) now new (Err early)) same
-      (RunsBy-stops mode honest settings st seen Flush now new after bytes (λ shown. flush_with_room most settings st shown (orders_after_flush settings rest)) (orders_after_flush settings rest)
+      (subst (λ (b : Batches). RunsBy b mode honest settings st seen (λ shown. flush_with_room most 0 settings st shown (orders_after_flush settings rest)) now new (Err early)) same
+      (RunsBy-stops mode honest settings st seen Flush now new after bytes (λ shown. flush_with_room most 0 settings st shown (orders_after_flush settings rest)) (orders_after_flush settings rest)
       (leave true settings rest) early one
-      (subst (λ (n : ℕ). (shown : Reads) → flush_with_room n settings st (first_shown one.0 shown) (orders_after_flush settings rest) ≡ Flush ∷ orders_after_flush settings rest (after_order settings st one.0 Flush).0 shown)
+      (subst (λ (n : ℕ). (shown : Reads) → flush_with_room n 0 settings st (first_shown one.0 shown) (orders_after_flush settings rest) ≡ Flush ∷ orders_after_flush settings rest (after_order settings st one.0 Flush).0 shown)
       (sym none_left) (λ shown. refl))))
-  LeadsRoom-ends new (Err early) after bytes (inr other) (of, is, runs, none) same = λ rest. leads rest new (Err early) (by rest (wants_clean settings st of) refl) where
+  LeadsRoom-ends new (Err early) after bytes (inr other) (of, is, runs, none) same = λ rest. leads rest new (Err early) (by rest (wants_clean 0 settings st of) refl) where
     full_of : (r : Option Fault) → is_full r ≡ true → r ≡ Some Full
     full_of None e = cc
     full_of (Some fault) e = full_fault fault e
@@ -236,104 +231,73 @@ module _ (mode : Mode) (honest : Bool) (settings : Settings) (first : Store) (fi
     cut_off (refused_cut fault some how a) = (how, a)
     cut_off (cut unrefused how) = absurd (cc)
 
-    by : (rest : List Order) (b : Bool) → wants_clean settings st of ≡ b
-        → RunsBy batches mode honest settings st seen (λ shown. flush_with_room most settings st shown (orders_after_flush settings rest)) now new (Err early)
+    by : (rest : List Order) (b : Bool) → wants_clean 0 settings st of ≡ b
+        → RunsBy batches mode honest settings st seen (λ shown. flush_with_room most 0 settings st shown (orders_after_flush settings rest)) now new (Err early)
     by rest false wants =
-        subst (λ (b : Batches). RunsBy b mode honest settings st seen (λ shown. flush_with_room most settings st shown (orders_after_flush settings rest)) now new (Err early)) same
-        (RunsBy-stops mode honest settings st seen Flush now new after bytes (λ shown. flush_with_room most settings st shown (orders_after_flush settings rest)) (orders_after_flush settings rest)
-        (leave true settings rest) early (of, is, runs, none) (room_made settings st of most (orders_after_flush settings rest) wants))
+        subst (λ (b : Batches). RunsBy b mode honest settings st seen (λ shown. flush_with_room most 0 settings st shown (orders_after_flush settings rest)) now new (Err early)) same
+        (RunsBy-stops mode honest settings st seen Flush now new after bytes (λ shown. flush_with_room most 0 settings st shown (orders_after_flush settings rest)) (orders_after_flush settings rest)
+        (leave true settings rest) early (of, is, runs, none) (room_made settings st of most 0 (orders_after_flush settings rest) wants))
     by rest true wants =
         let full = full_of (refusal_of settings st of Flush) (both_true _ _ wants) in
         let (how, a) = cut_off (early_by settings st of Flush now new early (Some Full) full runs) in
-        RunsBy-cut batches mode (λ off. sym same ∙ is.0 off) honest settings st seen (λ s shown. flush_with_room most settings s shown (orders_after_flush settings rest)) (leavable_room settings rest most)
+        RunsBy-cut batches mode (λ off. sym same ∙ is.0 off) honest settings st seen (λ s shown. flush_with_room most 0 settings s shown (orders_after_flush settings rest)) (leavable_room settings rest most 0)
         now new a early how
 
-module _ (mode : Mode) (honest : Bool) (settings : Settings) (first : Store) (file : List ℕ) (old : Option (List ℕ)) (batches : Batches) (most : ℕ) (st : Store) (seen : List ℕ)
-    (now mid : Option (List ℕ)) (leads : LeadsRoom mode honest settings first file old batches (suc most) st seen now) (nothing : Appends now mid []) (of : Seen)
-    (full : refusal_of settings st of Flush ≡ Some Full) (of_is : of.tidying ≡ batches) (new : Option (List ℕ)) (after : Store) (bytes : List ℕ) where
-  -- a clean is done
-  LeadsRoom-cleaned : (done : Unit {0}) → (one : RunsOrder mode honest settings st seen Clean mid new (Ok done) after bytes) → one.0.tidying ≡ batches
-      → LeadsRoom mode honest settings first file old batches most after bytes new
-  LeadsRoom-cleaned done (at, is, runs, leaves) same rest last end q =
-      leads rest last end (RunsBy-asked batches mode honest settings st seen (λ shown. flush_with_room (suc most) settings st shown (orders_after_flush settings rest)) now mid last nothing end
-      (subst (λ (b : Batches). RunsBy b mode honest settings st seen (λ shown. flush_with_room (suc most) settings st shown (orders_after_flush settings rest)) mid last end) same
-      (RunsBy-show_call mode honest settings st seen Clean mid new after bytes (λ shown. flush_with_room (suc most) settings st shown (orders_after_flush settings rest))
-      (λ s shown. flush_with_room most settings s shown (orders_after_flush settings rest)) done (at, is, runs, leaves)
-      (room_wanted settings st at most (orders_after_flush settings rest)
-      (wants_by settings st at (Some Full) None (full_alike settings st of at (of_is ∙ sym same) full) leaves.unrefused)) batches (inr same) last end q)))
+-- where the log is full for the flush, it may be tried again only after a row of cleans
+one_at_least : (n : ℕ) → row_of_cleans n ≡ suc (row_of_cleans n - 1)
+one_at_least n = omega (arith, le-max_left 1 (n / 8))
 
-  -- it is refused
-  LeadsRoom-refused : (early result : SessionError) → ((early ≡ errors.Fault NothingToClean) × (result ≡ errors.Fault Full)) ⊎ ((early ≢ errors.Fault NothingToClean) × (result ≡ early))
-      → (one : RunsOrder mode honest settings st seen Clean mid new (Err early) after bytes) → one.0.tidying ≡ batches
-      → RunsFirst (roomy mode) honest settings first file (Flush ∷ []) old new (Err result) after bytes
-  LeadsRoom-refused early result want (at, is, runs, none) same = λ rest.
-      leads rest new (Err result) (RunsBy-asked batches mode honest settings st seen (λ shown. flush_with_room (suc most) settings st shown (orders_after_flush settings rest)) now mid new nothing (Err result)
-      (by rest (refusal_of settings st at Clean) refl (early_by settings st at Clean mid new early (refusal_of settings st at Clean) refl runs) want))
-    where
-      full_here : refusal_of settings st at Flush ≡ Some Full
-      full_here = full_alike settings st of at (of_is ∙ sym same) full
+pub row_is_some : (n : ℕ) → 0 < row_of_cleans n
+row_is_some n = omega (arith, one_at_least n)
 
-      -- the clean stands in front, and is refused so
-      stops : (rest : List Order) → wants_clean settings st at ≡ true
-          → RunsBy batches mode honest settings st seen (λ shown. flush_with_room (suc most) settings st shown (orders_after_flush settings rest)) mid new (Err early)
-      stops rest wants =
-          subst (λ (b : Batches). RunsBy b mode honest settings st seen (λ shown. flush_with_room (suc most) settings st shown (orders_after_flush settings rest)) mid new (Err early)) same
-          (RunsBy-stops mode honest settings st seen Clean mid new after bytes (λ shown. flush_with_room (suc most) settings st shown (orders_after_flush settings rest))
-          (λ s shown. flush_with_room most settings s shown (orders_after_flush settings rest)) (leavable_room settings rest most) early (at, is, runs, none)
-          (room_wanted settings st at most (orders_after_flush settings rest) wants))
+module _ (settings : Settings) (st : Store) (batches : Batches) (full : (file : Seen) → file.tidying ≡ batches → refusal_of settings st file Flush ≡ Some Full) where
+  same_wants : (row : ℕ) (file : Seen) → file.tidying ≡ batches → wants_clean 0 settings st file ≡ wants_clean (suc row) settings st file
+  same_wants row file with_these = rw (full file with_these) refl
 
-      as_is : (rest : List Order) → result ≡ early → RunsBy batches mode honest settings st seen (λ shown. flush_with_room (suc most) settings st shown (orders_after_flush settings rest)) mid new (Err early)
-          → RunsBy batches mode honest settings st seen (λ shown. flush_with_room (suc most) settings st shown (orders_after_flush settings rest)) mid new (Err result)
-      as_is rest is_early p =
-          subst (λ (x : SessionError). RunsBy batches mode honest settings st seen (λ shown. flush_with_room (suc most) settings st shown (orders_after_flush settings rest)) mid new (Err x)) (sym is_early) p
+  row_first : (most row : ℕ) (next : Store → Reads → List Order) → row_after 0 settings ≡ row → (shown : Reads) → (shown 0).tidying ≡ batches
+      → flush_with_room most (suc row) settings st shown next ≡ flush_with_room most 0 settings st shown next
+  row_first zero row next after shown with_these = refl
+  row_first (suc most) row next after shown with_these = rw (same_wants row (shown 0) with_these, after) refl
 
-      -- the flush stands in front, and the log is full for it
-      flush_stops : (rest : List Order) → wants_clean settings st at ≡ false → Appends mid new []
-          → RunsBy batches mode honest settings st seen (λ shown. flush_with_room (suc most) settings st shown (orders_after_flush settings rest)) mid new (Err (errors.Fault Full))
-      flush_stops rest wants a =
-          subst (λ (b : Batches). RunsBy b mode honest settings st seen (λ shown. flush_with_room (suc most) settings st shown (orders_after_flush settings rest)) mid new (Err (errors.Fault Full))) same
-          (RunsBy-stops mode honest settings st seen Flush mid new after bytes (λ shown. flush_with_room (suc most) settings st shown (orders_after_flush settings rest)) (orders_after_flush settings rest)
-          (leave true settings rest) (errors.Fault Full) (at, is, full_alone settings st at mid new full_here a, tt) (room_made settings st at (suc most) (orders_after_flush settings rest) wants))
+  row_of_cleans_first : (most : ℕ) (next : Store → Reads → List Order) (shown : Reads) → (shown 0).tidying ≡ batches
+      → flush_with_room most 0 settings st shown next ≡ flush_with_room most (row_of_cleans settings.segments) settings st shown next
+  row_of_cleans_first most next shown with_these =
+      sym (ap (λ (n : ℕ). flush_with_room most n settings st shown next) (one_at_least settings.segments) ∙ row_first most (row_of_cleans settings.segments - 1) next refl shown with_these)
 
-      wanted : (fault : Fault) → fault ≢ NothingToClean → (is_full (Some Full) && not (is_nothing_to_clean (Some fault))) ≡ true
-      wanted NothingToClean other = absurd (other refl)
-      wanted _ other = refl
+-- what cleans in front of a flush print is that of a disk that shows the same if it is honest, and of the same store
+pub RunsBy-shows : (batches : Batches) (mode : Mode) (honest : Bool) (settings : Settings) (st : Store) (seen left : List ℕ) → (IsTrue honest → left ≡ seen) → (orders : Reads → List Order)
+    (old new : Option (List ℕ)) (end : Result (Unit {0}) SessionError) → RunsBy batches mode honest settings st left orders old new end → RunsBy batches mode honest settings st seen orders old new end
+RunsBy-shows batches mode honest settings st seen left shows orders old new end (shown, first, are, runs) =
+    (shown, first, (are.0, λ h. subst (λ (f : List ℕ). AreLeft settings st f shown (orders shown)) (shows h) (are.1 h)), runs)
 
-      not_clean : IsCut early → (early ≡ errors.Fault NothingToClean) → ⊥
-      not_clean (inl memory) e = cc
-      not_clean (inr device) e = cc
+-- what cleans of a tidied store print, from whichever store it was tidied in these ways, for a log of this many segments
+abbrev pub CleansAhead : ℕ → Mode → Bool → Settings → Store → List ℕ → Option (List ℕ) → Option (List ℕ) → Result ℕ SessionError → Store → List ℕ → Type 0
+CleansAhead most mode honest settings st left old new end now bytes =
+    (under : Store) (by : TidiesTo mode.tidy settings under st) → RunsCleans most (row_of_cleans settings.segments) by.batches mode honest settings under left old new end now bytes
 
-      kept : IsCut early → ((early ≡ errors.Fault NothingToClean) × (result ≡ errors.Fault Full)) ⊎ ((early ≢ errors.Fault NothingToClean) × (result ≡ early)) → result ≡ early
-      kept how (inl (e, full_is)) = absurd (not_clean how e)
-      kept how (inr (other, is_early)) = is_early
+module _ (most row : ℕ) (batches : Batches) (mode : Mode) (honest : Bool) (settings : Settings) (st : Store) (seen left : List ℕ) (shows : IsTrue honest → left ≡ seen) where
+  RunsCleans-shows : (old new : Option (List ℕ)) (end : Result ℕ SessionError) (now : Store) (bytes : List ℕ) → RunsCleans most row batches mode honest settings st left old new end now bytes
+      → RunsCleans most row batches mode honest settings st seen old new end now bytes
+  RunsCleans-shows old new (Ok more) now bytes (cleaned, are, p) = (
+    cleaned,
+    are,
+    λ rest last end q.
+        RunsBy-shows batches mode honest settings st seen left shows (λ shown. flush_with_room most row settings st shown (orders_after_flush settings rest)) old last end (p rest last end q),
+  )
+  RunsCleans-shows old new (Err early) now bytes p = λ rest.
+      RunsBy-shows batches mode honest settings st seen left shows (λ shown. flush_with_room most row settings st shown (orders_after_flush settings rest)) old new (Err early) (p rest)
 
-      by : (rest : List Order) (r : Option Fault) → refusal_of settings st at Clean ≡ r → Early mid new r early
-          → ((early ≡ errors.Fault NothingToClean) × (result ≡ errors.Fault Full)) ⊎ ((early ≢ errors.Fault NothingToClean) × (result ≡ early))
-          → RunsBy batches mode honest settings st seen (λ shown. flush_with_room (suc most) settings st shown (orders_after_flush settings rest)) mid new (Err result)
-      by rest r is_r (cut unrefused how) w = as_is rest (kept how w) (stops rest (wants_by settings st at (Some Full) None full_here (is_r ∙ unrefused)))
-      by rest r is_r (refused_cut fault some how a) w =
-          as_is rest (kept how w)
-          (RunsBy-cut batches mode (λ off. sym same ∙ is.0 off) honest settings st seen (λ s shown. flush_with_room (suc most) settings s shown (orders_after_flush settings rest))
-          (leavable_room settings rest (suc most)) mid new a early how)
-      by rest r is_r (by_right fault some e a) (inl (nothing_left, full_is)) =
-          let nothing_is : fault ≡ NothingToClean = cc in
-          subst (λ (x : SessionError). RunsBy batches mode honest settings st seen (λ shown. flush_with_room (suc most) settings st shown (orders_after_flush settings rest)) mid new (Err x)) (sym full_is)
-          (flush_stops rest (wants_by settings st at (Some Full) (Some NothingToClean) full_here (is_r ∙ some ∙ ap (λ (f : Fault). Some f) nothing_is)) a)
-      by rest r is_r (by_right fault some e a) (inr (other, is_early)) =
-          as_is rest is_early (stops rest (wants_by settings st at (Some Full) (Some fault) full_here (is_r ∙ some) ∙ wanted fault (λ (is_none : fault ≡ NothingToClean). other (e ∙ ap (λ (f : Fault). errors.Fault f) is_none))))
+pub CleansAhead-same : (most : ℕ) (mode : Mode) (b honest : Bool) (s settings : Settings) (was st : Store) (left seen : List ℕ) → b ≡ honest → s ≡ settings → was ≡ st → (IsTrue honest → left ≡ seen)
+    → (old new : Option (List ℕ)) (end : Result ℕ SessionError) (now : Store) (bytes : List ℕ) → CleansAhead most mode b s was left old new end now bytes
+    → CleansAhead most mode honest settings st seen old new end now bytes
+CleansAhead-same most mode b honest s settings was st left seen b_is s_is was_is shows old new end now bytes p under by =
+    let own : CleansAhead most mode honest settings st left old new end now bytes =
+    subst (λ (c : Bool). CleansAhead most mode c settings st left old new end now bytes) b_is
+    (subst (λ (t : Settings). CleansAhead most mode b t st left old new end now bytes) s_is
+    (subst (λ (o : Store). CleansAhead most mode b s o left old new end now bytes) was_is p)) in
+    RunsCleans-shows most (row_of_cleans settings.segments) by.batches mode honest settings under seen left shows old new end now bytes (own under by)
 
--- an order's run is one of a disk that shows the same if it is honest, and of the same store
-RunsOrder-from : (mode : Mode) (honest : Bool) (settings : Settings) (st was : Store) (seen left : List ℕ) → was ≡ st → (IsTrue honest → left ≡ seen) → (order : Order) (old new : Option (List ℕ))
-    (end : Result (Unit {0}) SessionError) (now : Store) (bytes : List ℕ) → RunsOrder mode honest settings was left order old new end now bytes → RunsOrder mode honest settings st seen order old new end now bytes
-RunsOrder-from mode honest settings st was seen left same shows order old new end now bytes (file, is, runs, leaves) =
-    subst (λ (s : Store). RunsOrder mode honest settings s seen order old new end now bytes) same (file, (is.0, λ h. is.1 h ∙ shows h), runs, leaves)
-
--- a number that is not 0 is one more than another
-one_more : (n : ℕ) → n ≢ 0 → n ≡ suc (n - 1)
-one_more zero some = absurd (some refl)
-one_more (suc n) some = omega arith
-
--- a turn of the cleans: the flush of the store that was tidied, and a clean where the log is full for it
+-- a turn of the cleans: the flush of the store that was tidied, and a row of cleans where the log is full for it
 module _ (mode : Mode) (honest : Bool) (settings : Settings) (first : Store) (file : List ℕ) (old : Option (List ℕ)) (batches : Batches) (unasked : mode.tidy ≡ 0 → batches ≡ []) (left : ℕ)
     (st : Store) (seen : List ℕ) (now : Option (List ℕ)) (leads : LeadsTidied mode honest settings first file old batches left st seen now) (b : Bool) (b_is : b ≡ honest) (s : Settings)
     (s_is : s ≡ settings) (mid : Option (List ℕ)) (end : Result (Unit {0}) SessionError) (tried : Store) (shows : List ℕ)
@@ -341,6 +305,9 @@ module _ (mode : Mode) (honest : Bool) (settings : Settings) (first : Store) (fi
   -- the store from which it was tidied
   abbrev under : Store
   under = leads.0
+
+  abbrev by : TidiesTo mode.tidy settings under st
+  by = record { batches = batches; unasked = unasked; leaves = leads.1 }
 
   one_flush : (one : RunsOrder mode honest settings under seen Flush now mid end tried shows) × (one.0.tidying ≡ batches)
   one_flush = RunsOrder-tidied mode honest settings batches unasked under st leads.1 seen now mid end tried shows
@@ -351,36 +318,39 @@ module _ (mode : Mode) (honest : Bool) (settings : Settings) (first : Store) (fi
       let (one, same) = one_flush in
       LeadsRoom-ends mode honest settings first file old batches left under seen now leads.2 mid end tried shows why one same
 
-  module _ (some : left ≢ 0) (full : end ≡ Err (errors.Fault Full)) (same : tried ≡ st) (unwritten : IsTrue b → shows ≡ seen) (c : Bool) (c_is : c ≡ b) (t : Settings) (t_is : t ≡ s)
-      (new : Option (List ℕ)) (ended : Result (Unit {0}) SessionError) (after : Store) (bytes : List ℕ) (cleaned : RunsOrder mode c t tried shows Clean mid new ended after bytes) where
-    lower : LeadsRoom mode honest settings first file old batches (suc (left - 1)) under seen now
-    lower = subst (λ (n : ℕ). LeadsRoom mode honest settings first file old batches n under seen now) (one_more left some) leads.2
-
+  module _ (full : end ≡ Err (errors.Fault Full)) (same : tried ≡ st) (unwritten : IsTrue b → shows ≡ seen) (c : Bool) (c_is : c ≡ b) (t : Settings) (t_is : t ≡ s)
+      (new : Option (List ℕ)) (ended : Result ℕ SessionError) (after : Store) (bytes : List ℕ) (cleaned : CleansAhead left mode c t tried shows mid new ended after bytes) where
     own_flush : (one : RunsOrder mode honest settings under seen Flush now mid (Err (errors.Fault Full)) tried shows) × (one.0.tidying ≡ batches)
     own_flush = subst (λ (e : Result (Unit {0}) SessionError). (one : RunsOrder mode honest settings under seen Flush now mid e tried shows) × (one.0.tidying ≡ batches)) full one_flush
 
-    own_clean : (w : Store) × RunsOrder mode honest settings under seen Clean mid new ended w bytes × OnOk ended (IsTidiedBy settings batches w after)
-    own_clean = clean_under mode honest settings batches under st leads.1 seen mid new ended after bytes
-        (RunsOrder-same mode b honest s settings b_is s_is st seen Clean mid new ended after bytes
-        (RunsOrder-from mode b s st tried seen shows same unwritten Clean mid new ended after bytes (RunsOrder-same mode c b t s c_is t_is tried shows Clean mid new ended after bytes cleaned)))
+    abbrev Cleaned : Result ℕ SessionError → Type 0
+    Cleaned r = RunsCleans left (row_of_cleans settings.segments) batches mode honest settings under seen mid new r after bytes
 
-    pub Room-cleaned : (done : Unit {0}) → ended ≡ Ok done → LeadsTidied mode honest settings first file old batches (left - 1) after bytes new
-    Room-cleaned done e =
+    own_cleans : Cleaned ended
+    own_cleans =
+        CleansAhead-same left mode c honest t settings tried st shows seen (c_is ∙ b_is) (t_is ∙ s_is) same (λ h. unwritten (subst IsTrue (sym b_is) h)) mid new ended after bytes cleaned under by
+
+    -- what is run of the flush with its cleans is what is run of it where the log was full
+    goes : (rest : List Order) (last : Option (List ℕ)) (e : Result (Unit {0}) SessionError)
+        → RunsRoom left (row_of_cleans settings.segments) batches mode honest settings under seen rest mid last e → RunsOn (roomy mode) honest settings first file (Flush ∷ rest) old last e
+    goes rest last e p =
         let (flush, of_is) = own_flush in
         let (refused, nothing) = is_refused_full mode honest settings under seen now mid tried shows flush in
-        let (w, clean, becomes) = subst (λ (r : Result (Unit {0}) SessionError). (w : Store) × RunsOrder mode honest settings under seen Clean mid new r w bytes × OnOk r (IsTidiedBy settings batches w after)) e own_clean in
-        let (one, with_these) = clean_with mode honest settings under seen mid new (Ok done) w bytes batches unasked clean in
-        (w, becomes, LeadsRoom-cleaned mode honest settings first file old batches (left - 1) under seen now mid lower nothing flush.0 refused of_is new w bytes done one with_these)
+        let next = orders_after_flush settings rest in
+        leads.2 rest last e (RunsBy-asked batches mode honest settings under seen (λ shown. flush_with_room left 0 settings under shown next) now mid last nothing e
+        (RunsBy-alike batches mode honest settings under seen (λ shown. flush_with_room left 0 settings under shown next)
+        (λ shown. flush_with_room left (row_of_cleans settings.segments) settings under shown next)
+        (row_of_cleans_first settings under batches (λ at with_these. full_alike settings under flush.0 at (of_is ∙ sym with_these) refused) left next) mid last e p))
 
-    pub Room-refused : (early result : SessionError) → ended ≡ Err early
-        → ((early ≡ errors.Fault NothingToClean) × (result ≡ errors.Fault Full)) ⊎ ((early ≢ errors.Fault NothingToClean) × (result ≡ early))
-        → RunsFirst (roomy mode) honest settings first file (Flush ∷ []) old new (Err result) after bytes
-    Room-refused early result e want =
-        let (flush, of_is) = own_flush in
-        let (refused, nothing) = is_refused_full mode honest settings under seen now mid tried shows flush in
-        let (w, clean, becomes) = subst (λ (r : Result (Unit {0}) SessionError). (w : Store) × RunsOrder mode honest settings under seen Clean mid new r w bytes × OnOk r (IsTidiedBy settings batches w after)) e own_clean in
-        let (one, with_these) = clean_with mode honest settings under seen mid new (Err early) w bytes batches unasked clean in
-        LeadsRoom-refused mode honest settings first file old batches (left - 1) under seen now mid lower nothing flush.0 refused of_is new w bytes early result want one with_these
+    pub Room-cleaned : (more : ℕ) → ended ≡ Ok more → LeadsTidied mode honest settings first file old batches more after bytes new
+    Room-cleaned more e =
+        let (further, are, own) = subst Cleaned e own_cleans in
+        (further, are, λ rest last to q. goes rest last to (own rest last to q))
+
+    pub Room-stops : (early : SessionError) → ended ≡ Err early → RunsFirst (roomy mode) honest settings first file (Flush ∷ []) old new (Err early) after bytes
+    Room-stops early e = λ rest.
+        let own : Cleaned (Err early) = subst Cleaned e own_cleans in
+        goes rest new (Err early) (own rest)
 
 -- what is so of the tidied store is so of the store that has the settings of the first, on a disk that is as honest and shows the same
 pub room_tidied : (mode : Mode) (full : mode.clean_when_full ≡ true) (b honest : Bool) → b ≡ honest → (s settings : Settings) → s ≡ settings → (shows seen : List ℕ) → shows ≡ seen → (first st : Store)

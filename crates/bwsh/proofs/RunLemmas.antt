@@ -8,7 +8,7 @@ use Rattle.std.specs.Io.KnownBytes.{Appends}
 use Rattle.std.proofs.KnownBytes.{Appends-nil}
 use Rattle.keys.specs.Step.{map_after_all}
 use Rattle.keys.specs.declared.fault.Fault.{Fault}
-use Rattle.keys.specs.declared.fault.Fault.TheVariants.{NoMemory, Device, Spent, Full}
+use Rattle.keys.specs.declared.fault.Fault.TheVariants.{NoMemory, Device, Spent, Full, NothingToClean}
 use Rattle.keys.specs.declared.command.Command.{Command}
 use Rattle.keys.specs.declared.settings.Settings.{Settings}
 use Rattle.keys.specs.declared.version.Version.{Version}
@@ -18,15 +18,19 @@ use Rattle.keys.specs.Lists.{flat}
 use Rattle.mapping.specs.Tree.{Store}
 use Rattle.climb_plan.specs.Plan.{plan}
 use Rattle.flush_log.specs.AfterFlush.{after_flush, after_upgrade, after_text, of_version_two, unless_upgraded, flush_commit, file_after, store_after, is_spent}
+use Rattle.flush_log.specs.Disk.{View}
 use Rattle.flush_log.specs.FlushText.{flush_text, upgrade_text, flushed}
 use Rattle.flush_log.specs.Layout.{is_full_for_flush}
 use Rattle.recovery.specs.StoreOfDisk.{and_then}
 use Rattle.cleaner.specs.AfterClean.{after_clean}
+use Rattle.engine.specs.Cleans.{IsDoneClean, IsRefusedClean}
 use Rattle.engine.specs.Plays.{IsPlayed, IsStepDone, IsStepFault, IsPlayFault, step_of, answer_of}
+use Rattle.engine.specs.State.{State}
 use Rattle.engine.specs.Steps.{Step, Answer, Played, Stepped, unless_refused, played_on, after_step, batching, plays}
 use Rattle.engine.specs.declared.step.Step as code_step
 use Rattle.engine.specs.declared.step.Step.TheVariants as called
 use Rattle.engine.specs.declared.step.Answer as code_answer
+use Rattle.engine.specs.declared.step.Answer.TheVariants as given
 use Rattle.verify.specs.Report.{report}
 use Rattle.verify.specs.declared.report.Report.{Report}
 use Rattle.bwsh.specs.declared.batch_file.Order.{Order}
@@ -326,6 +330,10 @@ module _ (settings : Settings) (st : Store) where
   abbrev CleansKeep : Type 0
   CleansKeep = (now : Store) (file bytes : List ℕ) → after_clean settings st file ≡ Ok (now, bytes) → now.tree ≡ st.tree
 
+  -- so it keeps the map
+  map_of_clean : CleansKeep → (file : List ℕ) (p : Answer Global × Stored) → steps_to file Step.Clean p → contents p.1.0.tree ≡ contents st.tree
+  map_of_clean keep file p done = ap contents (keep p.1.0 file p.1.1 (answered_by of_clean (after_clean settings st file) p done).1)
+
   -- the map that a step leaves is that of its order
   map_of : PlansHold → CleansKeep → (file : List ℕ) (order : Order) (y : Step Global) (p : Answer Global × Stored) → step_in order ≡ Some y → steps_to file y p
       → contents p.1.0.tree ≡ map_after (contents st.tree) order
@@ -338,7 +346,7 @@ module _ (settings : Settings) (st : Store) where
       (answered_by of_flush (after_flush settings st file) p (subst (λ (z : Step Global). steps_to file z p) (sym same) done)).1
   map_of hold keep file Clean y p is done =
       let same : (let z : Step Global = Step.Clean in z ≡ y) = cc in
-      ap contents (keep p.1.0 file p.1.1 (answered_by of_clean (after_clean settings st file) p (subst (λ (z : Step Global). steps_to file z p) (sym same) done)).1)
+      map_of_clean keep file p (subst (λ (z : Step Global). steps_to file z p) (sym same) done)
   map_of hold keep file Upgrade y p is done =
       let same : (let z : Step Global = Step.Upgrade in z ≡ y) = cc in
       upgrade-leaves settings st file p.1 (answered_by of_upgrade (after_upgrade settings st file) p (subst (λ (z : Step Global). steps_to file z p) (sym same) done)).1
@@ -398,14 +406,14 @@ module _ (mode : Mode) (honest : Bool) (settings : Settings) (st : Store) (seen 
         let here = subst (λ (f : List ℕ). after_step (batching settings) settings st f (step_of x) ≡ Ok outcome) (done.shown h) done.done in
         ap (λ (q : Played Global). q.bytes) (alone_is settings st seen (step_of x) outcome here)
 
-    module _ (hold : PlansHold settings st) (keep : CleansKeep settings st) (now : Store) (now_is : now ≡ mid) (after : List ℕ)
+    module _ (holds : contents mid.tree ≡ map_after (contents st.tree) order) (now : Store) (now_is : now ≡ mid) (after : List ℕ)
         (after_is : IsTrue honest → after ≡ (alone settings st seen (step_of x)).bytes) where
       leaves : LeavesStored honest settings st (untidied done.file) order now after
       leaves = record {
         unrefused = none;
         store = now_is ∙ ap (λ (q : Stored). q.0) (sym left_is);
         bytes = λ h. after_is h ∙ bytes_are h ∙ ap (λ (q : Stored). q.1) (sym left_is);
-        holds = ap (λ (s : Store). contents s.tree) now_is ∙ map_of settings st hold keep done.file order (step_of x) outcome is done.done;
+        holds = ap (λ (s : Store). contents s.tree) now_is ∙ holds;
       }
 
       answers_of : (said : List code_answer.Answer) → said ≡ a ∷ [] → flat_map shown_answer (map answer_of said) ≡ own_lines settings st (untidied done.file) (contents st.tree) order
@@ -425,28 +433,70 @@ module _ (mode : Mode) (honest : Bool) (settings : Settings) (st : Store) (seen 
       → (old new : Option (List ℕ)) (end : Result (Unit {0}) SessionError) → Prints old new (flat_map shown_answer (map answer_of said)) (Ok tt) end
       → RunsOrder mode honest settings st seen order old new end now after
   RunsOrder-answered hold keep said now after (a, rest, said_is, mid, bytes, done, ended) after_is old new end p =
-      one_answered a mid bytes done hold keep now ended.1 after after_is old new end said (said_is ∙ ap (λ (r : List code_answer.Answer). a ∷ r) ended.0) p
+      let holds = map_of settings st hold keep done.file order (step_of x) (answer_of a, (mid, bytes)) is done.done in
+      one_answered a mid bytes done holds now ended.1 after after_is old new end said (said_is ∙ ap (λ (r : List code_answer.Answer). a ∷ r) ended.0) p
 
--- a step that is refused leaves all as it was, but where a call of the disk failed; here the log was full for it
+-- it ends since the log is full for a step, or since there is nothing to clean
+abbrev pub IsNoRoom : Result (Unit {0}) SessionError → Type 0
+IsNoRoom end = (end ≡ Err (errors.Fault Full)) ⊎ (end ≡ Err (errors.Fault NothingToClean))
+
+no_device : (early : SessionError) → early ≡ errors.Device → IsNoRoom (Err early) → ⊥
+no_device early device (inl full) = cc
+no_device early device (inr nothing) = cc
+
+-- a step that is refused leaves all as it was, but where a call of the disk failed; here there was no room for it
 pub refused_leaves : (honest : Bool) (settings : Settings) (st : Store) (seen : List ℕ) (x : code_step.Step) (said : List code_answer.Answer) (now : Store) (bytes : List ℕ) (place : ℕ)
     (fault : Fault) (early : SessionError) (had_failed has_failed : Bool) → place < 1 → IsEndingOf fault early → IsPlayed honest settings st seen (map step_of (take place (x ∷ []))) said now
     → (IsTrue honest → fault ≢ Device → bytes ≡ (let p : Played Global = plays (batching settings) settings st seen (map step_of (take place (x ∷ []))) in p.bytes))
-    → (fault ≢ Device → has_failed ≡ had_failed) → (let end : Result (Unit {0}) SessionError = Err early in end ≡ Err (errors.Fault Full))
+    → (fault ≢ Device → has_failed ≡ had_failed) → IsNoRoom (Err early)
     → (now ≡ st) × (has_failed ≡ had_failed) × (IsTrue honest → bytes ≡ seen)
 refused_leaves honest settings st seen x said now bytes place fault early had_failed has_failed below (inl device) played shown counted full =
-    let bad : (let end : Result (Unit {0}) SessionError = Err errors.Device in end ≡ Err (errors.Fault Full)) = ap (λ (e : SessionError). Err e) (sym device.1) ∙ full in
-    absurd (cc)
+    absurd (no_device early device.1 full)
 refused_leaves honest settings st seen x said now bytes place fault early had_failed has_failed below (inr other) played shown counted full =
     let first : place ≡ 0 = omega (arith, below) in
     let none_played = subst (λ (n : ℕ). IsPlayed honest settings st seen (map step_of (take n (x ∷ []))) said now) first played in
     let left = λ (h : IsTrue honest). subst (λ (n : ℕ). bytes ≡ (let p : Played Global = plays (batching settings) settings st seen (map step_of (take n (x ∷ []))) in p.bytes)) first (shown h other.0) in
     (none_played.1, counted other.0, left)
 
--- what is printed for a step that was done ends so for no full log
-pub Prints-never_full : (old new : Option (List ℕ)) (lines : List (List ℕ)) (end : Result (Unit {0}) SessionError) → Prints old new lines (Ok tt) end → end ≡ Err (errors.Fault Full) → ⊥
-Prints-never_full old new lines end (inl (e, a)) full = cc
-Prints-never_full old new lines end (inr (inl (e, a))) full = cc
-Prints-never_full old new lines end (inr (inr (e, a))) full = cc
+-- ---- a clean by what was read of the log
+
+module _ {D : Type 0} (view : D → View) (failures : D → ℕ) (before after : State D) where
+  abbrev seen_before : List ℕ
+  seen_before = (view before.disk).seen
+
+  -- it is done, and its line is written
+  pub RunsOrder-cleaned : CleansKeep before.settings before.store → (head : ℕ) → IsDoneClean view failures before after head → (mode : Mode) (old new : Option (List ℕ))
+      (end : Result (Unit {0}) SessionError) → Prints old new (shown_cleaned head ∷ []) (Ok tt) end
+      → RunsOrder mode (view before.disk).is_honest before.settings before.store seen_before Clean old new end after.store (view after.disk).seen
+  RunsOrder-cleaned keep head clean mode old new end p =
+      let (bytes, done) = clean.step in
+      let outcome : Answer Global × Stored = (Answer.Cleaned head, (after.store, bytes)) in
+      one_answered mode (view before.disk).is_honest before.settings before.store seen_before Clean called.Clean refl (given.Cleaned head) after.store bytes done
+      (map_of_clean before.settings before.store keep done.file outcome done.done) after.store refl (view after.disk).seen
+      (λ h. sym (ap (λ (q : Played Global). q.bytes) (alone_is before.settings before.store seen_before Step.Clean _ (clean.bytes h)))) old new end (given.Cleaned head ∷ []) refl p
+
+  -- it is refused, and nothing is written
+  pub RunsOrder-uncleaned : (fault : Fault) → IsRefusedClean view failures before after fault → (early : SessionError) → IsEndingOf fault early → (mode : Mode) (text : Option (List ℕ))
+      → RunsOrder mode (view before.disk).is_honest before.settings before.store seen_before Clean text text (Err early) after.store (view after.disk).seen
+  RunsOrder-uncleaned fault refused early ending mode text =
+      let (file, shown, why) = refused.why in
+      RunsOrder-refused mode (view before.disk).is_honest before.settings before.store seen_before Clean called.Clean refl text [] before.store file (view after.disk).seen
+      (failures before.disk) (failures after.disk) 0 fault early (omega arith) ending (refl, refl) shown (inr (called.Clean, [], refl, why))
+
+  -- it leaves all as it was, but where a call of the disk failed; here there was no room for it
+  pub uncleaned_leaves : (fault : Fault) → IsRefusedClean view failures before after fault → (early : SessionError) → IsEndingOf fault early → IsNoRoom (Err early)
+      → (after.store ≡ before.store) × (after.has_failed ≡ before.has_failed) × (IsTrue (view before.disk).is_honest → (view after.disk).seen ≡ seen_before)
+  uncleaned_leaves fault refused early (inl device) full = absurd (no_device early device.1 full)
+  uncleaned_leaves fault refused early (inr other) full = (refused.store, (refused.counted other.0).0, λ h. (refused.same h other.0).seen)
+
+-- what is printed for a step that was done ends so for no want of room
+pub Prints-never_full : (old new : Option (List ℕ)) (lines : List (List ℕ)) (end : Result (Unit {0}) SessionError) → Prints old new lines (Ok tt) end → IsNoRoom end → ⊥
+Prints-never_full old new lines end (inl (e, a)) (inl full) = cc
+Prints-never_full old new lines end (inl (e, a)) (inr nothing) = cc
+Prints-never_full old new lines end (inr (inl (e, a))) (inl full) = cc
+Prints-never_full old new lines end (inr (inl (e, a))) (inr nothing) = cc
+Prints-never_full old new lines end (inr (inr (e, a))) (inl full) = cc
+Prints-never_full old new lines end (inr (inr (e, a))) (inr nothing) = cc
 
 -- what orders can end by before anything of them is done
 abbrev pub IsCut : SessionError → Type 0

@@ -1,5 +1,5 @@
 -- What a session starts on, what it runs and prints, and how it ends.
-use Rattle.std.specs.Prelude.{◌≡◌, ◌⊎◌, ◌+◌, ◌-◌, ◌&&◌, ℕ, zero, suc, Bool, not, true, false, IsTrue, ⊤, List, [], ◌∷◌, ◌++◌, map, is_some, codes, replicate, if◌then◌else◌, Option, Some, None, IfSome, Result, Ok, Err, IfOk, IfErr, OnOk}
+use Rattle.std.specs.Prelude.{◌≡◌, ◌⊎◌, ◌+◌, ◌-◌, ◌&&◌, ℕ, zero, suc, max, ◌/◌, Bool, not, true, false, IsTrue, ⊤, List, [], ◌∷◌, ◌++◌, map, is_some, codes, replicate, if◌then◌else◌, Option, Some, None, IfSome, Result, Ok, Err, IfOk, IfErr, OnOk}
 use Rattle.std.specs.Bool.{MatchBool}
 use Rattle.std.specs.Option.{option_map, option_or}
 use Rattle.std.specs.Str.{bytes_eq}
@@ -287,27 +287,44 @@ abbrev pub is_full : Option Fault → Bool
 is_full (Some Full) = true
 is_full _ = false
 
--- it is refused since there is nothing to clean
-abbrev pub is_nothing_to_clean : Option Fault → Bool
-is_nothing_to_clean (Some NothingToClean) = true
-is_nothing_to_clean _ = false
+-- a clean that is refused so makes no room for a flush: the log is full for it, too, or there is nothing to clean
+abbrev pub makes_no_room : Option Fault → Bool
+makes_no_room (Some Full) = true
+makes_no_room (Some NothingToClean) = true
+makes_no_room _ = false
 
--- a flush of a store, at which this is seen, takes a clean in front of it: the log is full for the flush of the tidied store, and there is
--- something to clean
-abbrev pub wants_clean : Settings → Store → Seen → Bool
-wants_clean settings st seen = is_full (refusal_of settings st seen Flush) && not (is_nothing_to_clean (refusal_of settings st seen Clean))
+-- a store, at which this is seen, can be cleaned to make room
+abbrev pub can_clean : Settings → Store → Seen → Bool
+can_clean settings st seen = not (makes_no_room (refusal_of settings st seen Clean))
 
--- a flush with as many cleans in front of it as it takes, at most this number, and then what is run on what they leave
-abbrev pub flush_with_room : ℕ → Settings → Store → Reads → (Store → Reads → List Order) → List Order
-flush_with_room zero settings st shown next = Flush ∷ next (after_order settings st (shown 0) Flush).0 (later shown)
-flush_with_room (suc most) settings st shown next =
-    if wants_clean settings st (shown 0) then Clean ∷ flush_with_room most settings (after_order settings st (shown 0) Clean).0 (later shown) next
+-- how many cleans are run in a row before a flush is tried again, in a log of this many segments: an eighth of them, and at least one
+abbrev pub row_of_cleans : ℕ → ℕ
+row_of_cleans segments = max 1 (segments / 8)
+
+-- A flush of a store, at which this is seen, takes a clean in front of it, where this many cleans are still to be run before it is tried: there
+-- is room to be made, and where the flush is tried now, the log is full for that of the tidied store.
+abbrev pub wants_clean : ℕ → Settings → Store → Seen → Bool
+wants_clean zero settings st seen = is_full (refusal_of settings st seen Flush) && can_clean settings st seen
+wants_clean (suc row) settings st seen = can_clean settings st seen
+
+-- how many are to be run after that one
+abbrev pub row_after : ℕ → Settings → ℕ
+row_after zero settings = row_of_cleans settings.segments - 1
+row_after (suc row) settings = row
+
+-- A flush with as many cleans in front of it as it takes, and then what is run on what they leave. It takes at most the first number, and the second
+-- says how many of them are to be run before the flush is tried.
+abbrev pub flush_with_room : ℕ → ℕ → Settings → Store → Reads → (Store → Reads → List Order) → List Order
+flush_with_room zero row settings st shown next = Flush ∷ next (after_order settings st (shown 0) Flush).0 (later shown)
+flush_with_room (suc most) row settings st shown next =
+    if wants_clean row settings st (shown 0)
+    then Clean ∷ flush_with_room most (row_after row settings) settings (after_order settings st (shown 0) Clean).0 (later shown) next
     else Flush ∷ next (after_order settings st (shown 0) Flush).0 (later shown)
 
 -- orders with the cleans among them that make room for their flushes: in front of each as many as it takes, at most one a segment
 abbrev pub with_cleans : Settings → Store → Reads → List Order → List Order
 with_cleans settings st shown [] = []
-with_cleans settings st shown (Flush ∷ rest) = flush_with_room settings.segments settings st shown (λ now reads. with_cleans settings now reads rest)
+with_cleans settings st shown (Flush ∷ rest) = flush_with_room settings.segments 0 settings st shown (λ now reads. with_cleans settings now reads rest)
 with_cleans settings st shown (order ∷ rest) = order ∷ with_cleans settings (after_order settings st (shown 0) order).0 (later shown) rest
 
 -- what is run of orders: themselves; or, where a flush makes itself room, with these cleans among them
@@ -563,6 +580,28 @@ RunsFirst mode honest settings st left orders old new (Ok done) now bytes =
     → RunsOn mode honest settings st left (orders ++ rest) old last end
 RunsFirst mode honest settings st left orders old new (Err early) now bytes =
     (rest : List Order) → RunsOn mode honest settings st left (orders ++ rest) old new (Err early)
+
+-- what is run of a flush, with at most this many cleans in front of it, of which this many are to be run before it is tried, and of these orders
+abbrev pub with_room : ℕ → ℕ → Settings → Store → Reads → List Order → List Order
+with_room most row settings st shown rest = flush_with_room most row settings st shown (λ now reads. with_cleans settings now reads rest)
+
+-- what is printed of that, and how it ends, is right but for memory and devices, where some such reads are seen at each order that is run, and
+-- the store is tidied by these batches before the flush
+abbrev pub RunsRoom : ℕ → ℕ → Batches → Mode → Bool → Settings → Store → Bytes → List Order → Option Bytes → Option Bytes → Result (Unit {0}) SessionError → Type 0
+RunsRoom most row batches mode honest settings st left rest old new end =
+    (shown : Reads) × ((shown 0).tidying ≡ batches) × AreSeen mode honest settings st left shown (with_room most row settings st shown rest)
+    × Runs settings st shown (with_room most row settings st shown rest) old new end
+
+-- What cleans in front of a flush print, and how they end, is right, of which there are at most this many, with this many of them to be run before
+-- the flush is tried: it goes on with a store that is tidied to this one and, on an honest disk, these bytes, and it is tried next, with at most so
+-- many cleans as are returned; or the cleans stop early, and so does the flush.
+abbrev pub RunsCleans : ℕ → ℕ → Batches → Mode → Bool → Settings → Store → Bytes → Option Bytes → Option Bytes → Result ℕ SessionError → Store → Bytes → Type 0
+RunsCleans most row batches mode honest settings st left old new (Ok more) now bytes =
+    (cleaned : Store) × ((file : Bytes) → tidied settings batches (cleaned, file) ≡ (now, file))
+    × ((rest : List Order) (last : Option Bytes) (end : Result (Unit {0}) SessionError) → RunsRoom more 0 batches mode honest settings cleaned bytes rest new last end
+    → RunsRoom most row batches mode honest settings st left rest old last end)
+RunsCleans most row batches mode honest settings st left old new (Err early) now bytes =
+    (rest : List Order) → RunsRoom most row batches mode honest settings st left rest old new (Err early)
 
 -- What a stream of lines prints of this store, and how it ends, is right but for memory and devices, for what some lines say, which are
 -- those of the known text: the orders up to the first bad one, which is returned where all of these are done. Then this store is left, with

@@ -91,7 +91,11 @@ fn write_flushed<O: Write>(
     write_bytes(lines, out)
 }
 
-fn write_cleaned<O: Write>(head: u64, lines: &mut Vec<u8>, out: &mut O) -> Result<(), SessionError>
+pub(crate) fn write_cleaned<O: Write>(
+    head: u64,
+    lines: &mut Vec<u8>,
+    out: &mut O,
+) -> Result<(), SessionError>
     ensures { Prints (O.contents out.old) (O.contents out.new)
         (shown_cleaned head ∷ []) (Ok tt) result }
 {

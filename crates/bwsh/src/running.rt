@@ -1,15 +1,17 @@
 //! Running the orders of a session (batches, flushes and the like) on a store. Each is answered
 //! before the next one runs.
-ghost use Rattle.std.specs.Prelude.{false, true, IsTrue, ◌≡◌, ◌≢◌, ◌⊎◌, [], ◌∷◌, Some, Err, IfOk, IfSome, None, OnOk};
+ghost use Rattle.std.specs.Prelude.{false, true, IsTrue, ◌≡◌, ◌≢◌, ◌⊎◌, ◌<◌, [], ◌∷◌, Option, Some, Ok, Err, IfOk, IfErr, IfSome, None, OnOk};
 ghost use Rattle.std.specs.Option.{option_map};
 ghost use Rattle.crew.specs.Crew.{is_crew};
+ghost use Rattle.keys.specs.Bytes.{Bytes};
 ghost use Rattle.keys.specs.Limits.{first_bad_field};
 ghost use Rattle.mapping.specs.Levels.{contents};
 ghost use Rattle.mapping.specs.Tree as mapped;
+ghost use Rattle.engine.specs.Cleans.{IsReadFor};
 ghost use Rattle.engine.specs.Plays.{step_of};
 ghost use Rattle.engine.specs.Tidied.{IsTidied};
 ghost use Rattle.verify.specs.Report.{report};
-ghost use Rattle.bwsh.specs.Session.{RunsOn, RunsFirst, RunsOrder, RunsFrom, Shows, Start, Opens, IsHonestStore, TidiesTo, map_after, map_left, step_in, numbers_of};
+ghost use Rattle.bwsh.specs.Session.{RunsOn, RunsFirst, RunsOrder, RunsCleans, RunsFrom, Shows, Start, Opens, IsHonestStore, TidiesTo, map_after, map_left, step_in, numbers_of, row_of_cleans};
 
 use crate::batch::Batch;
 use crate::batch_file::Order;
@@ -17,10 +19,11 @@ use crate::copying::{Copying, write_copy};
 use crate::notes::{LastError, Source};
 use crate::opening::store_fault;
 use crate::options::Mode;
-use crate::output::{flush, write_answers, write_numbers, write_report};
+use crate::output::{flush, write_answers, write_cleaned, write_numbers, write_report};
 use crate::progress::Reports;
 use crate::session::SessionError;
 use crate::show::StoreNumbers;
+use cleaner::Reading;
 use cleaner::laws::a_clean_keeps_the_store;
 use climb_plan::laws::the_plan_holds_the_map_after_the_commands;
 use engine::{Crew, Disk, LockFile, NoGate, Report, Step, Store};
@@ -65,7 +68,8 @@ pub(crate) fn run_step<R: Threads + Sync, D: Disk, O: Write>(
     ensures settings { store.new.settings ≡ store.old.settings }
     ensures honest { (D.view store.new.disk).is_honest ≡ (D.view store.old.disk).is_honest }
     ensures failed { OnOk result (store.new.has_failed ≡ store.old.has_failed) }
-    ensures full { result ≡ Err (SessionError.Fault Fault.Full) →
+    ensures kept { (result ≡ Err (SessionError.Fault Fault.Full))
+        ⊎ (result ≡ Err (SessionError.Fault Fault.NothingToClean)) →
         (store.new.store ≡ store.old.store) × (store.new.has_failed ≡ store.old.has_failed)
         × (IsTrue (D.view store.old.disk).is_honest →
         (D.view store.new.disk).seen ≡ (D.view store.old.disk).seen) }
@@ -153,20 +157,200 @@ fn is_full(done: &Result<(), SessionError>) -> bool
     }
 }
 
-// Replaces `NothingToClean` by `Full`, since the clean was run only to make room for a flush.
-fn full_if_nothing_to_clean(refused: SessionError) -> SessionError
-    ensures { ((refused ≡ SessionError.Fault Fault.NothingToClean)
-        × (result ≡ SessionError.Fault Fault.Full))
-        ⊎ ((refused ≢ SessionError.Fault Fault.NothingToClean) × (result ≡ refused)) }
+// Returns how many cleans may follow one that was refused. None may follow a clean that could make no
+// room; then the flush decides. Any other fault ends the session.
+fn cleans_after_refusal(refused: SessionError) -> Result<u32, SessionError>
+    ensures { (((refused ≡ SessionError.Fault Fault.Full)
+        ⊎ (refused ≡ SessionError.Fault Fault.NothingToClean)) × (result ≡ Ok 0))
+        ⊎ ((refused ≢ SessionError.Fault Fault.Full)
+        × (refused ≢ SessionError.Fault Fault.NothingToClean) × (result ≡ Err refused)) }
 {
     match refused {
-        SessionError::Fault(Fault::NothingToClean) => SessionError::Fault(Fault::Full),
-        other => other,
+        SessionError::Fault(Fault::Full | Fault::NothingToClean) => Ok(0),
+        other => Err(other),
     }
 }
 
-// Flushes a store that was tidied for this flush. While the log is full, cleans a segment and
-// flushes again, at most `segments` times.
+// Cleans the first segment by a reading that has it, and writes the answer to `out`.
+fn clean_as_read<D: Disk, O: Write>(
+    store: &mut Store<D>,
+    reading: &mut Reading,
+    lines: &mut Vec<u8>,
+    out: &mut O,
+) -> Result<(), SessionError>
+    requires fine { store.old.has_failed ≡ false }
+    requires read { IsReadFor D.view store.old reading.old }
+    requires next { store.old.store.head < reading.old.limit }
+    ensures runs { (mode : Mode) → RunsOrder mode (D.view store.old.disk).is_honest
+        store.old.settings store.old.store (D.view store.old.disk).seen Order.Clean
+        (O.contents out.old) (O.contents out.new) result store.new.store
+        (D.view store.new.disk).seen }
+    ensures settings { store.new.settings ≡ store.old.settings }
+    ensures honest { (D.view store.new.disk).is_honest ≡ (D.view store.old.disk).is_honest }
+    ensures failed { OnOk result (store.new.has_failed ≡ store.old.has_failed) }
+    ensures kept { (result ≡ Err (SessionError.Fault Fault.Full))
+        ⊎ (result ≡ Err (SessionError.Fault Fault.NothingToClean)) →
+        (store.new.store ≡ store.old.store) × (store.new.has_failed ≡ store.old.has_failed)
+        × (IsTrue (D.view store.old.disk).is_honest →
+        (D.view store.new.disk).seen ≡ (D.view store.old.disk).seen) }
+    ensures read { OnOk result (IsReadFor D.view store.new reading.new) }
+{
+    // This call does nothing at run time. Its contract serves the proof.
+    a_clean_keeps_the_store();
+    match store.clean_by_reading(reading) {
+        Ok(head) => write_cleaned(head, lines, out),
+        Err(fault) => Err(store_fault(fault)),
+    }
+}
+
+// Cleans the first segment. If the reading does not have this segment, drops the reading, and the
+// clean reads the log itself.
+fn run_clean<R: Threads + Sync, D: Disk, O: Write>(
+    rt: &R,
+    crew: Crew,
+    store: &mut Store<D>,
+    reading: &mut Option<Reading>,
+    lines: &mut Vec<u8>,
+    out: &mut O,
+) -> Result<(), SessionError>
+    requires crew { IsTrue (is_crew crew) }
+    requires fine { store.old.has_failed ≡ false }
+    requires read { IfSome reading.old (IsReadFor D.view store.old) }
+    ensures runs { (mode : Mode) → RunsOrder mode (D.view store.old.disk).is_honest
+        store.old.settings store.old.store (D.view store.old.disk).seen Order.Clean
+        (O.contents out.old) (O.contents out.new) result store.new.store
+        (D.view store.new.disk).seen }
+    ensures settings { store.new.settings ≡ store.old.settings }
+    ensures honest { (D.view store.new.disk).is_honest ≡ (D.view store.old.disk).is_honest }
+    ensures failed { OnOk result (store.new.has_failed ≡ store.old.has_failed) }
+    ensures kept { (result ≡ Err (SessionError.Fault Fault.Full))
+        ⊎ (result ≡ Err (SessionError.Fault Fault.NothingToClean)) →
+        (store.new.store ≡ store.old.store) × (store.new.has_failed ≡ store.old.has_failed)
+        × (IsTrue (D.view store.old.disk).is_honest →
+        (D.view store.new.disk).seen ≡ (D.view store.old.disk).seen) }
+    ensures read { OnOk result (IfSome reading.new (IsReadFor D.view store.new)) }
+{
+    if let Some(read) = reading {
+        if read.has(store.head()) {
+            return clean_as_read(store, read, lines, out);
+        }
+    }
+    *reading = None;
+    run_step(rt, crew, store, Step::Clean, lines, out)
+}
+
+// Runs `row` cleans, but at most `most`. Returns how many more may be run in front of this flush.
+fn run_row<R: Threads + Sync, D: Disk, O: Write>(
+    rt: &R,
+    crew: Crew,
+    store: &mut Store<D>,
+    reading: &mut Option<Reading>,
+    row: u32,
+    most: u32,
+    lines: &mut Vec<u8>,
+    out: &mut O,
+) -> Result<u32, SessionError>
+    requires crew { IsTrue (is_crew crew) }
+    requires fine { store.old.has_failed ≡ false }
+    requires read { IfSome reading.old (IsReadFor D.view store.old) }
+    ensures runs { (mode : Mode) → (under : mapped.Store) →
+        (by : TidiesTo mode.tidy store.old.settings under store.old.store) →
+        RunsCleans most row by.batches mode (D.view store.old.disk).is_honest store.old.settings
+        under (D.view store.old.disk).seen (O.contents out.old) (O.contents out.new) result
+        store.new.store (D.view store.new.disk).seen }
+    ensures settings { store.new.settings ≡ store.old.settings }
+    ensures honest { (D.view store.new.disk).is_honest ≡ (D.view store.old.disk).is_honest }
+    ensures failed { OnOk result (store.new.has_failed ≡ store.old.has_failed) }
+    ensures holds { OnOk result
+        (contents store.new.store.tree ≡ contents store.old.store.tree) }
+    ensures fewer { 0 < row → 0 < most → IfOk result (λ more. more < most) }
+{
+    let mut due = row;
+    let mut more = most;
+    'cleans: loop {
+        if due == 0 || more == 0 {
+            return Ok(more);
+        }
+        if let Err(refused) = run_clean(rt, crew, store, reading, lines, out) {
+            return cleans_after_refusal(refused);
+        }
+        due -= 1;
+        more -= 1;
+    }
+}
+
+// Returns how many cleans are run in a row before a flush is tried again.
+fn row_of_cleans(segments: u32) -> u32
+    ensures { result ≡ row_of_cleans segments }
+{
+    (segments / 8).max(1)
+}
+
+// Reads the log once for the next `count` cleans. If there is no memory for that, returns no reading,
+// and each clean reads the log itself. Any other fault refuses the first clean.
+fn read_for_row<R: Threads + Sync, D: Disk>(
+    rt: &R,
+    crew: Crew,
+    store: &mut Store<D>,
+    count: u32,
+) -> Result<Option<Reading>, SessionError>
+    requires fine { store.old.has_failed ≡ false }
+    requires some { 0 < count }
+    ensures read { IfOk result (λ reading. IfSome reading (IsReadFor D.view store.new)) }
+    ensures refused { IfErr result (λ refused. (mode : Mode) → (text : Option Bytes) →
+        RunsOrder mode (D.view store.old.disk).is_honest store.old.settings store.old.store
+        (D.view store.old.disk).seen Order.Clean text text (Err refused) store.new.store
+        (D.view store.new.disk).seen) }
+    ensures settings { store.new.settings ≡ store.old.settings }
+    ensures honest { (D.view store.new.disk).is_honest ≡ (D.view store.old.disk).is_honest }
+    ensures same { store.new.store ≡ store.old.store }
+    ensures kept { result ≢ Err SessionError.Device →
+        (store.new.has_failed ≡ store.old.has_failed)
+        × (IsTrue (D.view store.old.disk).is_honest →
+        (D.view store.new.disk).seen ≡ (D.view store.old.disk).seen) }
+{
+    match store.read_ahead(rt, crew, u64::from(count)) {
+        Ok(reading) => Ok(Some(reading)),
+        Err(Fault::NoMemory) => Ok(None),
+        Err(fault) => Err(store_fault(fault)),
+    }
+}
+
+// Cleans an eighth of the segments, but at most `most`, by one reading of the log. Returns how many
+// more cleans may be run in front of this flush.
+fn clean_ahead<R: Threads + Sync, D: Disk, O: Write>(
+    rt: &R,
+    crew: Crew,
+    store: &mut Store<D>,
+    most: u32,
+    lines: &mut Vec<u8>,
+    out: &mut O,
+) -> Result<u32, SessionError>
+    requires crew { IsTrue (is_crew crew) }
+    requires fine { store.old.has_failed ≡ false }
+    requires some { 0 < most }
+    ensures runs { (mode : Mode) → (under : mapped.Store) →
+        (by : TidiesTo mode.tidy store.old.settings under store.old.store) →
+        RunsCleans most (row_of_cleans store.old.settings.segments) by.batches mode
+        (D.view store.old.disk).is_honest store.old.settings under (D.view store.old.disk).seen
+        (O.contents out.old) (O.contents out.new) result store.new.store
+        (D.view store.new.disk).seen }
+    ensures settings { store.new.settings ≡ store.old.settings }
+    ensures honest { (D.view store.new.disk).is_honest ≡ (D.view store.old.disk).is_honest }
+    ensures failed { OnOk result (store.new.has_failed ≡ store.old.has_failed) }
+    ensures holds { OnOk result
+        (contents store.new.store.tree ≡ contents store.old.store.tree) }
+    ensures fewer { IfOk result (λ more. more < most) }
+{
+    let row = row_of_cleans(store.settings().segments);
+    match read_for_row(rt, crew, store, row.min(most)) {
+        Ok(mut reading) => run_row(rt, crew, store, &mut reading, row, most, lines, out),
+        Err(refused) => cleans_after_refusal(refused),
+    }
+}
+
+// Flushes a store that was tidied for this flush. While the log is full, cleans ahead and flushes
+// again. Runs at most `segments` cleans.
 fn flush_or_clean<R: Threads + Sync, D: Disk, O: Write>(
     rt: &R,
     crew: Crew,
@@ -194,10 +378,7 @@ fn flush_or_clean<R: Threads + Sync, D: Disk, O: Write>(
         if left == 0 || !is_full(&done) {
             return done;
         }
-        if let Err(refused) = run_step(rt, crew, store, Step::Clean, lines, out) {
-            return Err(full_if_nothing_to_clean(refused));
-        }
-        left -= 1;
+        left = clean_ahead(rt, crew, store, left, lines, out)?;
     }
 }
 

@@ -34,11 +34,11 @@ returns-in-Err-clause-runs g c mode order is =
     RunsOrder-refused mode disk.is_honest store.settings store.store disk.seen order c.args.step is out _ after.store file bytes _ _ c.in-Err.refused.0 c.in-Err.refused.2 c.store_fault.result
     c.in-Err.ensures.err.0 c.store_fault.ensures c.in-Err.ensures.err.1 shown refused
 
-pub returns-in-Ok-clause-full : goal.returns-in-Ok-clause-full
-returns-in-Ok-clause-full g c full = absurd (Prints-never_full _ _ _ _ c.write_answers.ensures full)
+pub returns-in-Ok-clause-kept : goal.returns-in-Ok-clause-kept
+returns-in-Ok-clause-kept g c full = absurd (Prints-never_full _ _ _ _ c.write_answers.ensures full)
 
-pub returns-in-Err-clause-full : goal.returns-in-Err-clause-full
-returns-in-Err-clause-full g c full =
+pub returns-in-Err-clause-kept : goal.returns-in-Err-clause-kept
+returns-in-Err-clause-kept g c full =
     let store = c.args.store.now in
     let disk = g.D.Disk.view store.disk in
     let after = c.play.new.self in
