@@ -8,6 +8,8 @@ mod CleanDone
 mod CleaningLemmas
 mod CleansLemmas
 mod CommandsWithin
+mod CompactedLemmas
+mod CompactedStores
 mod ContentsFit
 mod CopyDone
 mod CopyLemmas
@@ -29,6 +31,7 @@ mod NumbersLemmas
 mod OneClean
 mod OneLeaf
 mod OpenedLemmas
+mod OutdatedTables
 mod OwnRuns
 mod PartAnswers
 mod PartedLemmas

@@ -3,6 +3,7 @@ pub mod Batches
 pub mod Calls
 pub mod Cleaning
 pub mod Cleans
+pub mod Compacted
 pub mod Copies
 pub mod FileStore
 pub mod Hidden

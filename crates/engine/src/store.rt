@@ -17,6 +17,7 @@ ghost use Rattle.verify.specs.Report.{report};
 mod clean;
 mod clean_many;
 mod cleaning;
+mod compact;
 mod copy;
 mod creation;
 mod flush;

@@ -31,8 +31,8 @@ use std::thread::Threads;
 // How many pairs are put in one batch at most.
 const MOST_PUTS: u32 = 4_096;
 
-// Adds puts of these rows to those that are there, and returns the key of the last row.
-fn puts_of<'a>(
+/// Adds puts of these rows to those that are there, and returns the key of the last row.
+pub(crate) fn puts_of<'a>(
     alloc: Global,
     rows: Rows<'a>,
     puts: &mut Vec<Command<Global>>,

@@ -139,8 +139,8 @@ fn stage_of(number: u32, chain: u32) -> Stage {
     }
 }
 
-// How many pages a tree has.
-fn count_pages(tree: &Tree<Global>) -> u64
+/// How many pages a tree has.
+pub(crate) fn count_pages(tree: &Tree<Global>) -> u64
     ensures { result ≡ counted_pages (tree_of tree.now) }
 {
     let mut count = 0u64;

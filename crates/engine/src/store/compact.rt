@@ -1,0 +1,244 @@
+//! Compaction: the tree is built again from its pairs, as a bulk load builds it.
+ghost use Rattle.std.specs.Prelude.{◌≡◌, ◌≤◌, ◌<◌, ◌-◌, ◌^◌, ◌++◌, ◌∷◌, ◌&&◌, ℕ, List, [], Some, Err, IsTrue, IfOk, OnOk, IfErr, OnErr, true, false};
+ghost use Rattle.std.specs.Map.{keys_of};
+ghost use Rattle.keys.specs.Bytes.{Bytes};
+ghost use Rattle.keys.specs.declared.settings.Settings.{Settings};
+ghost use Rattle.mapping.specs.FreshPids.{is_among};
+ghost use Rattle.mapping.specs.Levels.{contents, levels_of};
+ghost use Rattle.mapping.specs.Proper.{AreLevels, AreLogsTrue, AreRisingPids, HoldsItsLevels};
+ghost use Rattle.mapping.specs.Table.{log_of, pids_in_use_or_old};
+ghost use Rattle.mapping.specs.Tree as definitions;
+ghost use Rattle.mapping.specs.Tree.{most_levels, with_tree};
+ghost use Rattle.mapping.specs.TreeInMemory.{AreAllHome, tree_of};
+ghost use Rattle.recovery.specs.InStep.{IsStore, IsStoreOf};
+ghost use Rattle.engine.specs.Compacted.{AreFreed, HasLeavesAt, IsCompactFault, IsCompacted, all_puts, compacted, is_logged, no_pairs, outdated_tree};
+ghost use Rattle.engine.specs.Refusal.{is_crew};
+ghost use Rattle.engine.specs.SoundTree.{IsSoundInMemory};
+ghost use Rattle.engine.specs.Tidied.{counted_pages};
+
+use crate::execute::execute;
+use crate::refusal::admit_crew;
+use crate::store::Store;
+use crate::store::copy::puts_of;
+use crate::store::tidy::count_pages;
+use climb_plan::laws::{
+    the_log_states_stay_true, the_plan_holds_the_map_after_the_commands,
+    the_plan_of_a_proper_store_is_proper, what_the_log_has_of_a_page_stays_true,
+};
+use crew::{Crew, NoGate};
+use flush_log::Disk;
+use index_page::Page;
+use keys::{Command, Fault, Pid, Settings};
+use mapping::laws::{the_contents_of_a_proper_tree_rise, the_first_tree_is_proper_and_empty};
+use mapping::{Logged, Table, Tree, empty_leaf};
+use scan::Rows;
+use std::alloc::{AllocError, Global};
+use std::thread::Threads;
+
+// A compacted tree holds what the tree of the store held. With it the store is one as every store is, and stays in step with the bytes of
+// its disk.
+fn a_compacted_tree_keeps_the_store_in_step()
+    ensures holds { (s : Settings) (st : definitions.Store) → IsStore s st →
+        contents (compacted s st.tree) ≡ contents st.tree }
+    ensures kept { (s : Settings) (st : definitions.Store) → IsStore s st →
+        (compacted s st.tree).height ≤ most_levels → (compacted s st.tree).root < 2 ^ 64 →
+        IsStore s (with_tree st (compacted s st.tree)) }
+    ensures step { (s : Settings) (st : definitions.Store) (file : Bytes) → IsStoreOf s st file →
+        (compacted s st.tree).height ≤ most_levels → (compacted s st.tree).root < 2 ^ 64 →
+        IsStoreOf s (with_tree st (compacted s st.tree)) file }
+{
+    the_plan_holds_the_map_after_the_commands::<Global>();
+    the_plan_of_a_proper_store_is_proper::<Global>();
+    the_log_states_stay_true::<Global>();
+    what_the_log_has_of_a_page_stays_true::<Global>();
+    the_first_tree_is_proper_and_empty();
+    the_contents_of_a_proper_tree_rise();
+}
+
+// Whether the log has anything of a page id.
+fn is_logged(tree: &Tree<Global>, pid: u64) -> bool
+    ensures { result ≡ is_logged (log_of tree.now.table pid) }
+{
+    !matches!(tree.logged(Pid(pid)), Logged::No)
+}
+
+// The page ids of which the log has anything.
+fn logged_pids(alloc: Global, tree: &Tree<Global>) -> Result<Vec<u64>, AllocError>
+    ensures { IfOk result (λ pids. (q : ℕ) → is_among q pids.items
+        ≡ (is_among q (pids_in_use_or_old tree.now.table) && is_logged (log_of tree.now.table q))) }
+{
+    let mut pids = Vec::new(alloc);
+    for pid in tree.known_pids() {
+        if is_logged(tree, pid) {
+            pids.push(pid)?;
+        }
+    }
+    Ok(pids)
+}
+
+// Puts an empty leaf under a page id that has no place.
+fn put_leaf(
+    alloc: Global,
+    table: &mut Table<Page<Global>, Global>,
+    pid: u64,
+) -> Result<(), AllocError>
+    ensures { OnOk result ((pids : List ℕ) → HasLeavesAt pids table.old →
+        HasLeavesAt (pids ++ pid ∷ []) table.new) }
+{
+    table.room(pid)?;
+    if table.is_away(pid) {
+        table.put(pid, empty_leaf(alloc));
+    }
+    Ok(())
+}
+
+// A table with an empty leaf under each of the page ids.
+fn leaves_at(alloc: Global, pids: &[u64]) -> Result<Table<Page<Global>, Global>, AllocError>
+    ensures { IfOk result (λ table. HasLeavesAt pids.now table) }
+{
+    let mut table = Table::new(alloc);
+    for pid in pids {
+        put_leaf(alloc, &mut table, *pid)?;
+    }
+    Ok(table)
+}
+
+// Frees the page of a page id, so that the log has an outdated page of it.
+fn free_leaf(table: &mut Table<Page<Global>, Global>, pid: u64)
+    ensures { (pids gone : List ℕ) → AreFreed pids gone table.old →
+        AreFreed pids (gone ++ pid ∷ []) table.new }
+{
+    if table.get(pid).is_some() {
+        let _leaf = table.take(pid);
+        // Only for the proof: it says that the page ids rise.
+        let _rising = table.pids();
+        table.free(pid);
+    }
+}
+
+// Frees the pages of all these page ids.
+fn free_leaves(table: &mut Table<Page<Global>, Global>, pids: &[u64])
+    ensures { AreFreed pids.now [] table.old → AreFreed pids.now pids.now table.new }
+{
+    for pid in pids {
+        free_leaf(table, *pid);
+    }
+}
+
+// A table without places, where the log has an outdated page of each of these page ids.
+fn outdated_table(alloc: Global, pids: &[u64]) -> Result<Table<Page<Global>, Global>, AllocError>
+    ensures freed { IfOk result (λ table. AreFreed pids.now pids.now table) }
+    ensures rising { IfOk result (λ table. AreRisingPids (keys_of table.logged)) }
+{
+    let mut table = leaves_at(alloc, pids)?;
+    // Only for the proof, as the other: they say that the page ids rise.
+    let _rising = table.pids();
+    table.flushed();
+    free_leaves(&mut table, pids);
+    let _rising_still = table.pids();
+    Ok(table)
+}
+
+// The tree of one empty leaf, with what the log has of each page id in this table.
+fn first_tree_of(
+    alloc: Global,
+    table: Table<Page<Global>, Global>,
+) -> Result<Tree<Global>, AllocError>
+    requires { table.places ≡ [] }
+    ensures { IfOk result (λ tree. tree ≡ record {
+      table = record { places = (0, Some no_pairs) ∷ []; logged = table.logged };
+      root = 0;
+      height = 1;
+    }) }
+{
+    let mut table = table;
+    table.room(0)?;
+    table.put(0, empty_leaf(alloc));
+    Ok(Tree::new(table, Pid(0), 1))
+}
+
+// The tree of a new store, where the log has an outdated page of each page id of which it has anything now.
+fn outdated_tree(alloc: Global, tree: &Tree<Global>) -> Result<Tree<Global>, AllocError>
+    requires home { AreAllHome tree.now }
+    requires logs { AreLogsTrue (tree_of tree.now) }
+    ensures { IfOk result (λ new.
+        AreAllHome new × (tree_of new ≡ outdated_tree (tree_of tree.now))) }
+{
+    let pids = logged_pids(alloc, tree)?;
+    let table = outdated_table(alloc, &pids)?;
+    first_tree_of(alloc, table)
+}
+
+// Puts of all pairs of a tree.
+fn all_puts(alloc: Global, tree: &Tree<Global>) -> Result<Vec<Command<Global>>, AllocError>
+    requires home { AreAllHome tree.now }
+    requires height { tree.now.height ≤ most_levels }
+    requires held { HoldsItsLevels (tree_of tree.now) }
+    requires levels { AreLevels (levels_of (tree_of tree.now)) }
+    ensures { IfOk result (λ puts. puts.items ≡ all_puts (tree_of tree.now)) }
+{
+    let mut puts = Vec::new(alloc);
+    puts_of(alloc, Rows::with_prefix(alloc, tree, b""), &mut puts)?;
+    Ok(puts)
+}
+
+// The compacted tree. The tree itself stays as it is.
+fn compacted_tree(
+    rt: &(impl Threads + Sync),
+    crew: Crew,
+    alloc: Global,
+    settings: &Settings,
+    tree: &Tree<Global>,
+) -> Result<Tree<Global>, Fault>
+    requires { IsSoundInMemory settings.now tree.now }
+    ensures sound { IfOk result (λ new. IsSoundInMemory settings.now new) }
+    ensures tree { IfOk result (λ new. tree_of new ≡ compacted settings.now (tree_of tree.now)) }
+    ensures fault { IfErr result (IsCompactFault settings.now (tree_of tree.now)) }
+{
+    // Only for the proof.
+    the_first_tree_is_proper_and_empty();
+    let mut new = outdated_tree(alloc, tree)?;
+    let puts = all_puts(alloc, tree)?;
+    execute(rt, crew, &NoGate, alloc, settings, &mut new, &puts)?;
+    Ok(new)
+}
+
+impl<D: Disk> Store<D> {
+    /// Builds the tree again from its pairs, as a bulk load builds it, with as few leaves as `fan` allows. Returns how many pages fewer the
+    /// store has, or 0 if it has more. Call it if `tidy` leaves many more pages than the pairs need.
+    ///
+    /// It allocates the new pages beside the old ones, and a put for each pair: together about three times the memory of the pairs.
+    /// The disk gets nothing before the next flush. That flush writes every page, so the log needs free segments for the whole new tree;
+    /// if it has too few, the flush fails with `Fault::Full`.
+    ///
+    /// Fails with `Fault::Failed` if the store has failed, then with `Fault::BadCrew` if the crew is out of range. Else it fails with
+    /// `Fault::NoMemory`, or with `Fault::Spent` if the tree would have more than 64 levels. After an `Err` the store is unchanged.
+    pub fn compact(&mut self, rt: &(impl Threads + Sync), crew: Crew) -> Result<u64, Fault>
+        // What it holds stays, and its tree is that of a batch of puts of all pairs on an empty tree.
+        ensures compacted { OnOk result
+            (IsCompacted self.old.settings self.old.store self.new.store) }
+        ensures pages { IfOk result (λ count.
+            count ≡ counted_pages self.old.store.tree - counted_pages self.new.store.tree) }
+        ensures rest { (self.new.settings ≡ self.old.settings) × (self.new.disk ≡ self.old.disk)
+            × (self.new.has_failed ≡ self.old.has_failed) }
+        ensures unchanged { OnErr result (self.new ≡ self.old) }
+
+        ensures failed { self.old.has_failed ≡ true → result ≡ Err Fault.Failed }
+        ensures bad_crew { self.old.has_failed ≡ false → is_crew crew ≡ false →
+            result ≡ Err Fault.BadCrew }
+        ensures refused { self.old.has_failed ≡ false → IsTrue (is_crew crew) →
+            IfErr result (IsCompactFault self.old.settings self.old.store.tree) }
+    {
+        // Only for the proof.
+        a_compacted_tree_keeps_the_store_in_step();
+        if self.has_failed {
+            return Err(Fault::Failed);
+        }
+        admit_crew(crew)?;
+        let before = count_pages(&self.tree);
+        let new = compacted_tree(rt, crew, self.alloc, &self.settings, &self.tree)?;
+        let _of_64_bits = new.root();
+        self.tree = new;
+        Ok(before.saturating_sub(count_pages(&self.tree)))
+    }
+}
