@@ -1,4 +1,4 @@
-//! Compaction: the tree is built again from its pairs, as a bulk load builds it.
+//! Compaction: builds the tree again from its pairs, with as few leaves as these need.
 ghost use Rattle.std.specs.Prelude.{◌≡◌, ◌≤◌, ◌<◌, ◌-◌, ◌^◌, ◌++◌, ◌∷◌, ◌&&◌, ℕ, List, [], Some, Err, IsTrue, IfOk, OnOk, IfErr, OnErr, true, false};
 ghost use Rattle.std.specs.Map.{keys_of};
 ghost use Rattle.keys.specs.Bytes.{Bytes};
@@ -204,10 +204,10 @@ fn compacted_tree(
 }
 
 impl<D: Disk> Store<D> {
-    /// Builds the tree again from its pairs, as a bulk load builds it, with as few leaves as `fan` allows. Returns how many pages fewer the
-    /// store has, or 0 if it has more. Call it if `tidy` leaves many more pages than the pairs need.
+    /// Builds the tree again from its pairs, as one batch that puts all of them into an empty store builds it: with as few leaves as the
+    /// pairs need. Returns how many pages fewer the store has, or 0 if it has more. Call it if `tidy` leaves many more pages than that.
     ///
-    /// It allocates the new pages beside the old ones, and a put for each pair: together about three times the memory of the pairs.
+    /// It allocates the new pages, and a command for each pair, while the old pages are still there.
     /// The disk gets nothing before the next flush. That flush writes every page, so the log needs free segments for the whole new tree;
     /// if it has too few, the flush fails with `Fault::Full`.
     ///
