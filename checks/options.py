@@ -5,7 +5,7 @@ import itertools
 from pathlib import Path
 
 from tools.cases import SMALL_STORE, Case, Outcome, Programs, differs
-from tools.processes import Command, Limits, RunResult, new_folder, run
+from tools.processes import Command, Dialog, Limits, RunResult, new_folder, run
 
 LONG_PUT = b"put a 0123456789abcdef\nflush\n"
 
@@ -264,6 +264,24 @@ def clean_ahead(programs: Programs) -> Outcome:
     return Outcome(None if rows == {4: {1}, 15: {1}, 16: {2}, 24: {3}, 64: {8}} else f"cleans in a row: {rows}")
 
 
+def read_once(programs: Programs) -> Outcome:
+    """The log is read once for the cleans of a row, and not once for each."""
+    with new_folder() as folder:
+        path, cleans, rows = Path(folder) / "file", 0, 0
+        dialog = Dialog(programs.store, "--disk", path, "--create", "--clean-when-full", *SMALL_STORE[:-1], "--segments=64")
+        for _ in range(1_000):
+            dialog.send(LONG_PUT)
+            row = 0
+            while (answer := dialog.read_line()) and not answer.startswith(b"flushed "):
+                row += answer.startswith(b"cleaned ")
+            cleans, rows = cleans + row, rows + (row > 0)
+        counts = Path(f"/proc/{dialog.process.pid}/io").read_text().splitlines()
+        read = next(int(count.split()[1]) for count in counts if count.startswith("rchar"))
+        ended, length = dialog.finish(), path.stat().st_size
+        is_right = ended == (0, b"", b"") and cleans == 8 * rows > 80 and read < 2 * rows * length
+        return Outcome(None if is_right else f"{cleans} cleans in {rows} rows, {read} bytes read in a log of {length}; the session ended with {ended}")
+
+
 def clean_in_vain(programs: Programs) -> Outcome:
     """The live pages need five segments, and the log has four."""
     puts = b"".join(b"put sixteen_bytes_%d sixteen_bytes_v1\n" % pair for pair in range(10, 30))
@@ -284,5 +302,6 @@ def cases(programs: Programs) -> list[Case]:
         Case("cleans a full log", clean_when_full, (programs,)),
         Case("cleans a log for long", clean_often, (programs,)),
         Case("cleans ahead", clean_ahead, (programs,)),
+        Case("reads once for a row of cleans", read_once, (programs,)),
         Case("can't clean what lives", clean_in_vain, (programs,)),
     ]
