@@ -28,8 +28,9 @@ fn after_some(fault: Fault, done: u64) -> Result<u64, Fault>
 }
 
 impl<D: Disk> Store<D> {
-    /// Reads the log once for its next `count` cleans, or for all that it has segments for in front of the last one. `clean_by_reading` does
-    /// these cleans by the result, one at a time. Nothing is written, and the store stays as it is.
+    /// Reads the log once for its next `count` cleans, or for those of all segments in front of the last one if they are fewer.
+    /// `clean_by_reading` does these cleans by the result, a `cleaner::Reading`, one at a time. Nothing is written, and the store stays as it
+    /// is.
     ///
     /// The faults are those of `clean` until it writes: `Fault::NothingToClean` if the log is in one segment, the faults of a damaged log,
     /// `Fault::NoMemory`, and `Fault::Device`, after which the store has failed. The store must not have failed before.
@@ -148,7 +149,7 @@ impl<D: Disk> Store<D> {
     /// all of them, where each call of `clean` reads it. Each clean is a commit of its own, with the bytes that `clean` writes.
     ///
     /// It ends early if the log is in one segment, if fewer than two segments are free, or if a later clean is refused, as by
-    /// `Fault::Full`; the store is then as after the cleans that were done. The faults are those of the first clean, as `clean` has them. If
+    /// `Fault::Full` or `Fault::NoMemory`; the store is then as after the cleans that were done. The faults are those of the first clean, as `clean` has them. If
     /// a call of the disk fails in a later one, that is `Fault::Device`, too: the store has failed, and the disk stands for the same pages
     /// still. If `most` is 0, nothing is done.
     pub fn clean_many(

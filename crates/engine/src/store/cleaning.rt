@@ -35,7 +35,7 @@ fn want_of_room(fault: Fault) -> Fault
 
 impl<D: Disk> Store<D> {
     /// Writes what the log lacks, as `flush` does, and returns the sequence number now. If the log is full, segments are cleaned first: it
-    /// does what some calls of `clean`, at most one for each segment, and then one of `flush` do.
+    /// does some cleans, at most one for each segment, and then a flush.
     ///
     /// Cleaning goes ahead. Once a flush finds the log full, the log is read once, and then up to an eighth of the segments are cleaned in
     /// turn, as `clean_many` does, before the next flush is tried. So most flushes after that one find room without a clean.
@@ -45,8 +45,8 @@ impl<D: Disk> Store<D> {
     /// `clean`. After an `Err` the store holds what it held, and the cleans before it are done. After `Fault::Device` the store has
     /// failed, and the disk holds the store of before or the one that it has.
     ///
-    /// Each flush that is refused makes its frames, and then the log is read. A log that is full of live data is so read about 8 times, or as
-    /// often as it has segments if these are less than 16.
+    /// Each flush that is refused makes its frames, and then the log is read. A log that is full of live data may be read as often as it
+    /// has segments.
     pub fn flush_cleaning(&mut self, rt: &(impl Threads + Sync), crew: Crew) -> Result<u64, Fault>
         // Some cleans and a flush, as a play of them does, whatever the disk does.
         ensures number { IfOk result (λ n. n ≡ self.new.store.sequence) }

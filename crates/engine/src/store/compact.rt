@@ -205,11 +205,11 @@ fn compacted_tree(
 
 impl<D: Disk> Store<D> {
     /// Builds the tree again from its pairs, as one batch that puts all of them into an empty store builds it: with as few leaves as the
-    /// pairs need. Returns how many pages fewer the store has, or 0 if it has more. Call it if `tidy` leaves many more pages than that.
+    /// pairs need. Returns how many pages fewer the store has, or 0 if it has more. Call it if `tidy` leaves many more pages.
     ///
-    /// It allocates the new pages, and a command for each pair, while the old pages are still there.
-    /// The disk gets nothing before the next flush. That flush writes every page, so the log needs free segments for the whole new tree;
-    /// if it has too few, the flush fails with `Fault::Full`.
+    /// It allocates the new pages, and a command for each pair, while the old pages are still there. The disk gets nothing before the next
+    /// flush. That flush writes every page, so the log needs free segments for the whole new tree. If it has too few, the flush fails with
+    /// `Fault::Full`, also for batches from before: so flush first. `copy_to` still works.
     ///
     /// Fails with `Fault::Failed` if the store has failed, then with `Fault::BadCrew` if the crew is out of range. Else it fails with
     /// `Fault::NoMemory`, or with `Fault::Spent` if the tree would have more than 64 levels. After an `Err` the store is unchanged.
