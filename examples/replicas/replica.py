@@ -19,7 +19,8 @@ from gateway import Event, Gateway
 
 from taukremil import Add, Command, Killed, Put, Reply, Store
 
-SETTINGS = {"fan": 32, "chain": 8, "max_key": 32, "max_value": 128, "seg_size": 65_536, "segments": 96}
+# A full log of fewer than 16 segments is cleaned one segment at a time, so a kill between cleans changes no byte of the next ones.
+SETTINGS = {"fan": 32, "chain": 8, "max_key": 32, "max_value": 128, "seg_size": 524_288, "segments": 12}
 PATIENCE = 20  # seconds for the program of a killed replica to unlock the file
 
 
