@@ -96,7 +96,7 @@ def main() -> None:
         with tempfile.TemporaryDirectory() as folder:
             found = measure_all(program.resolve(), options.segments, options.pairs, Path(folder))
         print_table(HEAD, (row(options.pairs, measured) for measured in found))
-        curves[str(program)] = [(measured.segments, measured.full * 1_000) for measured in found]
+        curves[program.name] = [(measured.segments, measured.full * 1_000) for measured in found]
     if options.svg:
         options.svg.write_text(full_logs(curves))
 
