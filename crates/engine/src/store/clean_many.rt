@@ -96,12 +96,7 @@ impl<D: Disk> Store<D> {
         }
     }
 
-    // Whether fewer than two segments are free. A clean may write more than one segment, so it might then find the log full.
-    fn is_nearly_full(&self) -> bool {
-        self.segments_in_use().saturating_add(2) > self.segments()
-    }
-
-    // Cleans up to `most` segments, as long as the reading has them and two segments are free, and returns how many.
+    // Cleans up to `most` segments, as long as the reading has them, and returns how many.
     fn clean_all_read(&mut self, reading: &mut Reading, most: u64) -> Result<u64, Fault>
         requires fine { self.old.has_failed ≡ false }
         requires read { IsReadFor D.view self.old reading.old }
@@ -119,7 +114,7 @@ impl<D: Disk> Store<D> {
                 Ok(_head) => done += 1,
                 Err(fault) => return after_some(fault, done),
             }
-            if done == most || !reading.has(self.log.head) || self.is_nearly_full() {
+            if done == most || !reading.has(self.log.head) {
                 return Ok(done);
             }
         }
@@ -148,7 +143,7 @@ impl<D: Disk> Store<D> {
     /// Makes up to `most` segments at the log's beginning free, one clean after the other, and returns how many. The log is read once for
     /// all of them, where each call of `clean` reads it. Each clean is a commit of its own, with the bytes that `clean` writes.
     ///
-    /// It ends early if the log is in one segment, if fewer than two segments are free, or if a later clean is refused, as by
+    /// It ends early if the log is in one segment, or if a later clean is refused, as by
     /// `Fault::Full` or `Fault::NoMemory`; the store is then as after the cleans that were done. The faults are those of the first clean, as `clean` has them. If
     /// a call of the disk fails in a later one, that is `Fault::Device`, too: the store has failed, and the disk stands for the same pages
     /// still. If `most` is 0, nothing is done.

@@ -45,8 +45,8 @@ impl<D: Disk> Store<D> {
     /// `clean`. After an `Err` the store holds what it held, and the cleans before it are done. After `Fault::Device` the store has
     /// failed, and the disk holds the store of before or the one that it has.
     ///
-    /// Each flush that is refused makes its frames, and then the log is read. A log that is full of live data may be read as often as it
-    /// has segments.
+    /// Each flush that is refused makes its frames, and then the log is read. A log that is full of live data is so read about 8 times, or as
+    /// often as it has segments if these are less than 16.
     pub fn flush_cleaning(&mut self, rt: &(impl Threads + Sync), crew: Crew) -> Result<u64, Fault>
         // Some cleans and a flush, as a play of them does, whatever the disk does.
         ensures number { IfOk result (λ n. n ≡ self.new.store.sequence) }
