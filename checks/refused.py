@@ -104,12 +104,16 @@ MAKING_OUT = b"new\nflushed 2\nreplaced\nnew\nnew\nflushed 3\n"
 CLEANING = b"put b 1\nflush\nget a\n"
 CLEANING_OUT = b"new\ncleaned 1\nflushed 20\nvalue 0123456789abcdef\n"
 CLEANING_STATES = (FULL_PAIRS, {**FULL_PAIRS, b"b": b"1"})
+# The second batch is executed on a map of all pairs.
+BY_MAP = b"".join(b"put %02d v\n" % key for key in range(60)) + b"go\n" + 20 * b"wipe % *\nput 00 v\n"
+BY_MAP_OUT = 60 * b"new\n" + b"wiped 60\nnew\n" + 19 * b"wiped 1\nnew\n"
 
 OPTIONS: list[tuple[str, ...]] = [(), ("--explain",), ("--stream",), ("--stream", "--explain")]
 SESSIONS = [
     *(RefusedSession("in memory", words, TEXT, ANSWERS) for words in OPTIONS),
     RefusedSession("in memory", ("--stat",), TEXT, ANSWERS + STAT % (95, 64, 1, 0)),
     RefusedSession("in memory", ("--clean-when-full", *SMALL_STORE), FULL + CLEANING, FULL_OUT + CLEANING_OUT),
+    RefusedSession("in memory, with many wipes", ("--fan=4", "--chain=2"), BY_MAP, BY_MAP_OUT),
     *(RefusedSession("on a file", words, FLUSHING, FLUSHING_OUT % (3, 4), OLD, FLUSHING_STATES) for words in OPTIONS),
     RefusedSession("on a file", ("--stat",), b"get a\n", b"value 1\n" + STAT % (55, 4, 1, 1), OLD, FLUSHING_STATES),
     RefusedSession("on a file", ("--stream", "--clean-when-full", "--explain"), CLEANING, CLEANING_OUT, (FULL, FULL_OUT), CLEANING_STATES),

@@ -53,17 +53,44 @@ def answers_to_wipes_and_scans() -> bytes:
     return b"new\n" * (TURNS * STEP) + b"".join(b"wiped %d\nrows %d\n" % (STEP, len(found)) + b"".join(found) for found in rows)
 
 
-DELETES = 20_000  # each with a scan that passes over all leaves emptied so far
+PAIRS = 65_535  # as many as a batch may have commands
 
 
-def deletes_and_scans() -> bytes:
-    return puts(DELETES) + b"".join(b"del %06d\nscan %% * 1\n" % number for number in range(DELETES))
+@dataclass(frozen=True)
+class Costly:
+    """A batch that repeats lines with each key, after a batch that puts all keys."""
+
+    name: str
+    lines: tuple[bytes, ...]
+    answer: Callable[[int], bytes]  # to the lines with the key of this number
+
+    def text(self) -> bytes:
+        keys = [b"%06d" % number for number in range(PAIRS // len(self.lines))]
+        return puts(PAIRS) + b"".join(line.replace(b"KEY", key) for key in keys for line in self.lines)
+
+    def answers(self) -> bytes:
+        return b"new\n" * PAIRS + b"".join(self.answer(number) for number in range(PAIRS // len(self.lines)))
 
 
-def answers_to_deletes_and_scans() -> bytes:
-    rows = [b"rows 1\n%06d v\n" % number for number in range(1, DELETES)] + [b"rows 0\n"]
-    return b"new\n" * DELETES + b"".join(b"deleted\n" + found for found in rows)
-
+COSTLY = [
+    Costly("deletes and scans", (b"del KEY\n", b"scan % * 1\n"), lambda number: b"deleted\nrows 1\n%06d v\n" % (number + 1)),
+    Costly(
+        "deletes, adds and scans",
+        (b"del KEY\n", b"add KEY v\n", b"scan % * 2\n"),
+        lambda number: b"deleted\nadded\nrows 2\n000000 v\n000001 v\n",
+    ),
+    Costly("wipes and scans", (b"wipe % KEY\n", b"scan % * 1\n"), lambda number: b"wiped %d\nrows 1\n%06d v\n" % (number > 0, number)),
+    Costly(
+        "puts and wipes of all",
+        (b"put KEY v\n", b"wipe % *\n"),
+        lambda number: b"new\nwiped 1\n" if number else b"replaced\nwiped %d\n" % PAIRS,
+    ),
+    Costly(
+        "puts, deletes and scans on one page",
+        (b"put -KEY v\n", b"del -KEY\n", b"scan % * 1\n"),
+        lambda number: b"new\ndeleted\nrows 1\n000000 v\n",
+    ),
+]
 
 SMALL = 200_000  # batches of one command
 PER_ORDER = 100  # bytes of memory per batch, besides its text
@@ -91,14 +118,18 @@ TEXTS = [
     HostileText("a wipe of all", lambda: puts(65_535) + b"wipe % *\nscan % * 9\n", (0, b"new\n" * 65_535 + b"wiped 65535\nrows 0\n", b"")),
     HostileText("wipes and scans in turn, each where the last one ended", lambda: wipes_and_scans(b""), (0, answers_to_wipes_and_scans(), b"")),
     HostileText("wipes and scans in turn, from the first key on", lambda: wipes_and_scans(b"%"), (0, answers_to_wipes_and_scans(), b"")),
-    HostileText(
-        "deletes and scans in turn",
-        deletes_and_scans,
-        (0, answers_to_deletes_and_scans(), b""),
-        ("--fan", "64", "--chain", "16"),
-        seconds=5,
-        memory=150 * MEGABYTE,
-    ),
+    *[
+        HostileText(
+            f"{batch.name} in turn, {settings}",
+            batch.text,
+            (0, batch.answers(), b""),
+            words,
+            seconds=3,
+            memory=100 * MEGABYTE,
+        )
+        for batch in COSTLY
+        for settings, words in (("default settings", ()), ("fan 64, chain 16", ("--fan", "64", "--chain", "16")))
+    ],
     HostileText(
         "batches of one command",
         lambda: b"get a\ngo\n" * SMALL,

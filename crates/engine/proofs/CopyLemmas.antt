@@ -40,6 +40,13 @@ put_in_order m (e ∷ es) r =
     ∙ put_in_order (m ++ e ∷ []) es (subst (λ (x : Pairs Bytes). IsRising x) (sym next) r)
     ∙ next
 
+-- if the next of some rising pairs is put, the map and the pairs after it are still the same pairs
+pub next_put : (all m es : Pairs Bytes) (k v : Bytes) → IsRising all → m ++ (k, v) ∷ es ≡ all → with_pair m k v ++ es ≡ all
+next_put all m es k v r same =
+    ap (λ (x : Pairs Bytes). x ++ es) (put_after m k v (above_all m (k, v) es (subst (λ (x : Pairs Bytes). IsRising x) (sym same) r)))
+    ∙ append_assoc m ((k, v) ∷ []) es
+    ∙ same
+
 -- ---- what comes after a key
 
 from_all : (k : Bytes) (es : Pairs Bytes) → IsBelowAll k (keys_of es) → in_range k None es ≡ es

@@ -36,7 +36,7 @@ Changes = List (List ℕ × Option (List ℕ))
 -- ---- the plan
 
 -- the tree that a net run leaves
-abbrev tree_by : Settings → Tree → Changes → Tree
+abbrev pub tree_by : Settings → Tree → Changes → Tree
 tree_by s t run =
     let l = levels_of t in
     let c : Climbed (List ℕ) = climb s (keys_of t.pages) 0 (worked_leaves s run l.level) l.above in

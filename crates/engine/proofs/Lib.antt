@@ -38,6 +38,7 @@ mod PartedLemmas
 mod PendingLemmas
 mod PlayLemmas
 mod PlayTurn
+mod PointsLemmas
 mod ReadBatch
 mod Readied
 mod RefusedCalls

@@ -1,16 +1,20 @@
 //! A batch on a tree: which leaves its commands go to, what these become and answer, and the climb from them to the root.
-ghost use Rattle.std.specs.Prelude.{◌≡◌, ◌+◌, ◌<◌, ◌≤◌, ℕ, true, [], length, List, IfOk, IsOkAnd, IfErr, OnOk, OnErr};
+ghost use Rattle.std.specs.Prelude.{◌≡◌, ◌+◌, ◌<◌, ◌≤◌, ℕ, true, [], length, List, IfOk, IsOkAnd, IfErr, OnOk, OnErr, IfSome, map};
 ghost use Rattle.std.specs.List.{list_all};
+ghost use Rattle.std.specs.Map.{keys_of};
+ghost use Rattle.std.specs.Option.{option_copied};
+ghost use Rattle.keys.specs.Narrowed.{MayEndAtAll};
 ghost use Rattle.keys.specs.declared.command.Command.{Command};
 ghost use Rattle.keys.specs.declared.fault.Fault.TheVariants.{NoMemory};
 ghost use Rattle.keys.specs.Step.{replies_to, map_after_all};
-ghost use Rattle.mapping.specs.Levels.{contents, levels_of};
+ghost use Rattle.mapping.specs.Levels.{contents, levels_of, names};
 ghost use Rattle.mapping.specs.Proper.{AreLevels, HoldsItsLevels};
 ghost use Rattle.mapping.specs.Tree as definitions;
 ghost use Rattle.mapping.specs.Tree.{most_levels};
 ghost use Rattle.mapping.specs.TreeInMemory.{AreAllHome, tree_of};
 ghost use Rattle.page_runs.specs.Reads.{is_look};
 ghost use Rattle.replies.specs.ByPlace.{most_counted};
+ghost use Rattle.replies.specs.InTurn.{points_of};
 ghost use Rattle.climb_plan.specs.Changing.{leaves_seen};
 ghost use Rattle.climb_plan.specs.Limits.{AreShort};
 ghost use Rattle.climb_plan.specs.Plan.{planned_tree};
@@ -31,8 +35,9 @@ use crew::{Crew, Gate};
 use keys::{Command, Fault, Reply, Settings};
 use mapping::Tree;
 use page_runs::{LeafDone, LeafWork, ReadWork};
+use replies::{LentMap, execute_in_turn};
 use routing::{BatchWithEnds, PageRun, route};
-use scan::scan_ends;
+use scan::{Rows, scan_ends};
 use std::alloc::{AllocError, Global};
 use std::thread::Threads;
 
@@ -69,29 +74,59 @@ pub(crate) fn execute(
             return execute_one(rt, crew, gate, &work, tree, command);
         }
     }
-    let page_runs = routes_to_leaves(rt, crew, alloc, tree, commands)?;
+    let Some(page_runs) = routes_to_leaves(rt, crew, alloc, tree, commands)? else {
+        return execute_by_map(rt, crew, gate, &work, tree);
+    };
+    if is_costly(commands, &page_runs, tree.most_pages()) {
+        return execute_by_map(rt, crew, gate, &work, tree);
+    }
     if do_all_look(commands) {
         return read_routed(rt, crew, gate, &work, tree, page_runs);
     }
     execute_routed(rt, crew, gate, &work, tree, page_runs)
 }
 
-// Which leaves the commands go to. A scan follows the leaves from its lower bound only as far as it needs for its rows.
+// Returns which leaves the commands go to, or `None` if the scans and wipes would visit too many leaves in vain. A scan goes only to as many
+// leaves as it needs for its rows.
 fn routes_to_leaves(
     rt: &(impl Threads + Sync),
     crew: Crew,
     alloc: Global,
     tree: &Tree<Global>,
     commands: &[Command<Global>],
-) -> Result<Vec<PageRun>, Fault>
+) -> Result<Option<Vec<PageRun>>, Fault>
     requires home { AreAllHome tree.now }
     requires height { tree.now.height ≤ most_levels }
     requires held { HoldsItsLevels (tree_of tree.now) }
     requires levels { AreLevels (levels_of (tree_of tree.now)) }
+    ensures ok { IfOk result (λ found. IfSome found
+        (λ runs. AreRoutesFor (tree_of tree.now) commands.now runs.items)) }
+    ensures err { IfErr result (λ fault. fault ≡ NoMemory) }
+{
+    let Some(ends) = scan_ends(alloc, tree, commands)? else {
+        return Ok(None);
+    };
+    let page_runs = routes_with_ends(rt, crew, alloc, tree, commands, ends)?;
+    Ok(Some(page_runs))
+}
+
+// Returns which leaves the commands go to, if each scan ends at the key that `ends` has for it.
+fn routes_with_ends<'a>(
+    rt: &(impl Threads + Sync),
+    crew: Crew,
+    alloc: Global,
+    tree: &Tree<Global>,
+    commands: &'a [Command<Global>],
+    ends: Vec<Option<&'a [u8]>>,
+) -> Result<Vec<PageRun>, Fault>
+    requires home { AreAllHome tree.now }
+    requires held { HoldsItsLevels (tree_of tree.now) }
+    requires levels { AreLevels (levels_of (tree_of tree.now)) }
+    requires ends { MayEndAtAll (keys_of (names (levels_of (tree_of tree.now)).level))
+        (contents (tree_of tree.now)) commands.now (map option_copied ends.items) }
     ensures ok { IfOk result (λ runs. AreRoutesFor (tree_of tree.now) commands.now runs.items) }
     ensures err { IfErr result (λ fault. fault ≡ NoMemory) }
 {
-    let ends = scan_ends(alloc, tree, commands)?;
     let workers = crew.workers as usize;
     route(
         rt,
@@ -100,6 +135,131 @@ fn routes_to_leaves(
         tree,
         &BatchWithEnds::new(commands, ends),
     )
+}
+
+// Whether scans and wipes may step over many changes that the batch made to their leaves before. The result affects only the cost.
+fn is_costly(commands: &[Command<Global>], page_runs: &[PageRun], pages: usize) -> bool {
+    if !commands.iter().any(|command| command.is_ranged()) {
+        return false;
+    }
+    let room = commands.len().saturating_add(pages).saturating_mul(64);
+    let mut steps: usize = 0;
+    for page_run in page_runs {
+        steps = steps.saturating_add(most_steps(commands, page_run.places()));
+    }
+    steps > room
+}
+
+// Returns how many changes the scans and wipes of a leaf step over at most: each of them over one for each command that writes.
+fn most_steps(commands: &[Command<Global>], places: &[usize]) -> usize {
+    let mut ranged: usize = 0;
+    let mut writing: usize = 0;
+    for place in places {
+        match commands.get(*place) {
+            Some(Command::Scan(_, _, _) | Command::Wipe(_, _)) => ranged = ranged.saturating_add(1),
+            Some(Command::Get(_)) | None => {}
+            Some(_) => writing = writing.saturating_add(1),
+        }
+    }
+    ranged.saturating_mul(writing)
+}
+
+// `execute` for a batch whose scans and wipes would visit many leaves or changes in vain. A map of all pairs answers the commands one after
+// the other. Then commands on one key each, which have the same net run, change the tree. This takes time and memory for each pair of the
+// tree.
+fn execute_by_map(
+    rt: &(impl Threads + Sync),
+    crew: Crew,
+    gate: &impl Gate,
+    work: &LeafWork<'_>,
+    tree: &mut Tree<Global>,
+) -> Result<Vec<Reply<Global>>, Fault>
+    requires sound { IsSoundInMemory work.now.settings tree.old }
+    requires short { AreShort work.now.settings work.now.commands.now }
+    ensures replies { IfOk result (λ replies. replies.items
+        ≡ replies_to (contents (tree_of tree.old)) work.now.commands.now) }
+    ensures tree { OnOk result (tree_of tree.new
+        ≡ planned_tree work.now.settings (tree_of tree.old) work.now.commands.now) }
+    ensures contents { OnOk result (contents (tree_of tree.new)
+        ≡ map_after_all (contents (tree_of tree.old)) work.now.commands.now) }
+    ensures sound { IsSoundInMemory work.now.settings tree.new }
+    ensures err { OnErr result (tree.new ≡ tree.old) }
+    ensures fault { IfErr result
+        (IsLaterFault work.now.settings (tree_of tree.old) work.now.commands.now) }
+{
+    let (replies, points) = replies_and_points(work.alloc, tree, work.commands)?;
+    let change = LeafWork {
+        alloc: work.alloc,
+        settings: work.settings,
+        commands: &points,
+    };
+    change_by_points(rt, crew, gate, &change, tree)?;
+    Ok(replies)
+}
+
+// Executes commands on one key each, and drops the replies.
+fn change_by_points(
+    rt: &(impl Threads + Sync),
+    crew: Crew,
+    gate: &impl Gate,
+    work: &LeafWork<'_>,
+    tree: &mut Tree<Global>,
+) -> Result<(), Fault>
+    requires sound { IsSoundInMemory work.now.settings tree.old }
+    requires short { AreShort work.now.settings work.now.commands.now }
+    ensures tree { OnOk result (tree_of tree.new
+        ≡ planned_tree work.now.settings (tree_of tree.old) work.now.commands.now) }
+    ensures contents { OnOk result (contents (tree_of tree.new)
+        ≡ map_after_all (contents (tree_of tree.old)) work.now.commands.now) }
+    ensures sound { IsSoundInMemory work.now.settings tree.new }
+    ensures err { OnErr result (tree.new ≡ tree.old) }
+    ensures fault { IfErr result
+        (IsLaterFault work.now.settings (tree_of tree.old) work.now.commands.now) }
+{
+    let page_runs = routes_with_ends(
+        rt,
+        crew,
+        work.alloc,
+        tree,
+        work.commands,
+        Vec::new(work.alloc),
+    )?;
+    let _replies = execute_routed(rt, crew, gate, work, tree, page_runs)?;
+    Ok(())
+}
+
+// Returns the replies to the commands, and commands on one key each that make the same changes.
+fn replies_and_points(
+    alloc: Global,
+    tree: &Tree<Global>,
+    commands: &[Command<Global>],
+) -> Result<(Vec<Reply<Global>>, Vec<Command<Global>>), AllocError>
+    requires home { AreAllHome tree.now }
+    requires height { tree.now.height ≤ most_levels }
+    requires held { HoldsItsLevels (tree_of tree.now) }
+    requires levels { AreLevels (levels_of (tree_of tree.now)) }
+    ensures replies { IfOk result
+        (λ r. r.0.items ≡ replies_to (contents (tree_of tree.now)) commands.now) }
+    ensures points { IfOk result
+        (λ r. r.1.items ≡ points_of (contents (tree_of tree.now)) commands.now) }
+{
+    let map = map_of(alloc, tree)?;
+    execute_in_turn(alloc, map, commands)
+}
+
+// Returns a map of the tree's pairs, which stay in the tree.
+fn map_of<'a>(alloc: Global, tree: &'a Tree<Global>) -> Result<LentMap<'a>, AllocError>
+    requires home { AreAllHome tree.now }
+    requires height { tree.now.height ≤ most_levels }
+    requires held { HoldsItsLevels (tree_of tree.now) }
+    requires levels { AreLevels (levels_of (tree_of tree.now)) }
+    ensures { IfOk result (λ map. map ≡ contents (tree_of tree.now)) }
+{
+    let mut map = LentMap::new(alloc);
+    for (key, value) in Rows::with_prefix(alloc, tree, &[]) {
+        let _there = map.insert(key, value)?;
+    }
+    Ok(map)
 }
 
 // `execute`, once the commands are routed to their leaves.

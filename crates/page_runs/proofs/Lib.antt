@@ -14,4 +14,4 @@ mod PageRows
 pub mod ReadLemmas
 mod Replays
 mod Rows
-mod Touching
+pub mod Touching

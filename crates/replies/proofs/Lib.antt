@@ -1,1 +1,4 @@
+pub mod InTurnLemmas
+mod LentRows
 pub mod Placing
+pub mod Points

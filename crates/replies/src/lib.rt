@@ -2,6 +2,7 @@
 //! Other crates name items by this root, and laws by the public module `laws`.
 #![tactic(auto)]
 
+mod in_turn;
 pub mod laws;
 
 ghost use Rattle.std.specs.Prelude.{◌≡◌, ◌<◌, [], map, take, length, IfOk, OnOk};
@@ -11,6 +12,7 @@ ghost use Rattle.keys.specs.Woven.{without_rows};
 ghost use Rattle.keys.specs.declared.command.Reply.TheVariants.{Rows};
 ghost use Rattle.replies.specs.ByPlace.{IsPlaceOf, blank_of, limit_of, with_rows, with_count, with_answer, with_pieces};
 
+pub use crate::in_turn::{LentMap, execute_in_turn};
 use keys::{Command, Piece, Pieces, Reply, RowList, Rowless};
 use std::alloc::{AllocError, Global};
 

@@ -1,5 +1,5 @@
 -- A walk over pairs from the greatest key down. What it has left is a list in key order, of which the last comes first.
-use Rattle.std.specs.Prelude.{◌≡◌, ℕ, zero, suc, pred, ◌-◌, Bool, true, false, not, List, [], ◌∷◌, ◌++◌, length, take, reverse, Option, Some, None, count_by}
+use Rattle.std.specs.Prelude.{◌≡◌, ℕ, zero, suc, pred, ◌-◌, Bool, true, not, List, [], ◌∷◌, ◌++◌, take, reverse, Option, Some, None, count_by}
 use Rattle.std.specs.List.{AllByRecursion, filter, take_while}
 use Rattle.std.specs.Map.{values_of}
 use Rattle.keys.specs.Bytes.{Bytes, Pairs, Changes, Names}

@@ -23,56 +23,155 @@ use keys::{Command, Value, compare, is_before};
 use mapping::Tree;
 use std::alloc::{AllocError, Global};
 
-/// For each command of the batch, in their order, the key at which its scan may end, if there is one: the low key of a leaf,
-/// before which there are certainly as many pairs as the scan's limit, on the map as it is at the scan's place. So the scan
-/// has the same rows where this key is its upper bound, and needn't go to that leaf or to any after it. A batch without
-/// scans has an empty list. A scan costs one way down and a step for each leaf up to its end, where no leaf's pairs are
-/// looked at: each step searches by halves in the keys that the batch deletes, and in the bounds of the ranges that it wipes.
-/// Only what commands at lower places take away counts against a scan, and each of them is noted once, at the cost of such a
-/// search. It is an error where there is no memory for the list.
+// A batch with at most this many scans and wipes may visit any number of leaves.
+const FEW_RANGES: usize = 16;
+
+/// Returns, for each command of the batch, the key at which its scan may end, if there is one: the low key of a leaf, before
+/// which the scan certainly finds as many pairs as its limit, on the map as it is at the scan's place in the batch. So the
+/// scan has the same rows if this key is its upper bound, and need not visit that leaf or any after it. The list is empty if
+/// the batch has no scan.
+///
+/// Returns `None` if the batch has more than 16 scans and wipes, and these visit too many leaves, counting each leaf in the
+/// range of a wipe, and each leaf that a scan passes although none of its pairs certainly remain. The limit is four times the
+/// sum of the numbers of commands and pages.
+///
+/// For a scan, the time is that of one descent and a step for each leaf up to its end. A step does not read pairs: it takes
+/// binary searches in the keys that the batch deletes, and in the bounds of the ranges that it wipes. For a wipe, it is that
+/// of one descent and its leaves. Fails with `AllocError` if memory runs out.
 pub fn scan_ends<'a>(
     alloc: Global,
     tree: &'a Tree<Global>,
     commands: &[Command<Global>],
-) -> Result<Vec<Option<&'a [u8]>>, AllocError>
+) -> Result<Option<Vec<Option<&'a [u8]>>>, AllocError>
     requires home { AreAllHome tree.now }
     requires height { tree.now.height ≤ most_levels }
     requires held { HoldsItsLevels (tree_of tree.now) }
     requires levels { AreLevels (levels_of (tree_of tree.now)) }
-    ensures { IfOk result
+    ensures { IfOk result (λ found. IfSome found
         (λ ends. MayEndAtAll (keys_of (names (levels_of (tree_of tree.now)).level))
-        (contents (tree_of tree.now)) commands.now (map option_copied ends.items)) }
+        (contents (tree_of tree.now)) commands.now (map option_copied ends.items))) }
 {
+    let Some(room) = room_for_scans(alloc, tree, commands) else {
+        return Ok(None);
+    };
     if !has_scan(commands) {
-        return Ok(Vec::new(alloc));
+        return Ok(Some(Vec::new(alloc)));
     }
     let mut taken = Taken::before_all(alloc, commands)?;
-    all_ends(alloc, tree, commands, &mut taken)
+    all_ends(alloc, tree, commands, &mut taken, room)
 }
 
-// The key at which each command may end, where it is a scan. Nothing has been taken away before the first.
+// Returns how many leaves scans may visit in vain, after the wipes have visited theirs, or `None` if the wipes visit too many. Only the time
+// and memory that a batch takes depend on it.
+fn room_for_scans(alloc: Global, tree: &Tree<Global>, commands: &[Command<Global>]) -> Option<usize>
+    requires home { AreAllHome tree.now }
+    requires height { tree.now.height ≤ most_levels }
+    requires held { HoldsItsLevels (tree_of tree.now) }
+    requires levels { AreLevels (levels_of (tree_of tree.now)) }
+{
+    if has_few_ranges(commands) {
+        return Some(usize::MAX);
+    }
+    let mut room = most_visits(commands.len(), tree.most_pages());
+    for command in commands {
+        room = room_after(alloc, tree, command, room)?;
+    }
+    Some(room)
+}
+
+// Returns how many leaves the wipes of a batch may visit, and its scans visit in vain.
+fn most_visits(commands: usize, pages: usize) -> usize {
+    commands.saturating_add(pages).saturating_mul(4)
+}
+
+// Returns what remains of `room` after `command`, if it is a wipe, has visited its leaves, or `None` if it visits more.
+fn room_after(
+    alloc: Global,
+    tree: &Tree<Global>,
+    command: &Command<Global>,
+    room: usize,
+) -> Option<usize>
+    requires home { AreAllHome tree.now }
+    requires height { tree.now.height ≤ most_levels }
+    requires held { HoldsItsLevels (tree_of tree.now) }
+    requires levels { AreLevels (levels_of (tree_of tree.now)) }
+{
+    match command {
+        Command::Wipe(lo, Some(hi)) => {
+            room_after_wipe(alloc, tree, lo.as_bytes(), Some(hi.as_bytes()), room)
+        }
+        Command::Wipe(lo, None) => room_after_wipe(alloc, tree, lo.as_bytes(), None, room),
+        _ => Some(room),
+    }
+}
+
+// Returns what remains of `room` after a wipe has visited its leaves, or `None` if it visits more.
+fn room_after_wipe(
+    alloc: Global,
+    tree: &Tree<Global>,
+    lo: &[u8],
+    hi: Option<&[u8]>,
+    room: usize,
+) -> Option<usize>
+    requires home { AreAllHome tree.now }
+    requires height { tree.now.height ≤ most_levels }
+    requires held { HoldsItsLevels (tree_of tree.now) }
+    requires levels { AreLevels (levels_of (tree_of tree.now)) }
+{
+    let (_first, leaves) = Leaves::new(alloc, tree, lo);
+    let mut room = room;
+    for leaf in leaves {
+        if !is_before(hi, leaf.0) {
+            break;
+        }
+        if room == 0 {
+            return None;
+        }
+        room -= 1;
+    }
+    Some(room)
+}
+
+// Returns whether at most `FEW_RANGES` commands are scans or wipes.
+fn has_few_ranges(commands: &[Command<Global>]) -> bool {
+    let mut count: usize = 0;
+    for command in commands {
+        if command.is_ranged() {
+            count = count.saturating_add(1);
+        }
+    }
+    count <= FEW_RANGES
+}
+
+// Returns the key at which each command may end, if it is a scan, or `None` if the scans visit more than `room` leaves in vain. Nothing has
+// been taken away before the first.
 fn all_ends<'a>(
     alloc: Global,
     tree: &'a Tree<Global>,
     commands: &[Command<Global>],
     taken: &mut Taken<'_>,
-) -> Result<Vec<Option<&'a [u8]>>, AllocError>
+    room: usize,
+) -> Result<Option<Vec<Option<&'a [u8]>>>, AllocError>
     requires home { AreAllHome tree.now }
     requires height { tree.now.height ≤ most_levels }
     requires held { HoldsItsLevels (tree_of tree.now) }
     requires levels { AreLevels (levels_of (tree_of tree.now)) }
     requires none { IsTaken ([], []) taken.old }
     requires ready { AreReady commands.now taken.old }
-    ensures { IfOk result
+    ensures { IfOk result (λ found. IfSome found
         (λ ends. MayEndAtAll (keys_of (names (levels_of (tree_of tree.now)).level))
-        (contents (tree_of tree.now)) commands.now (map option_copied ends.items)) }
+        (contents (tree_of tree.now)) commands.now (map option_copied ends.items))) }
 {
+    let mut room = room;
     let mut ends = Vec::with_capacity(alloc, commands.len())?;
     for command in commands {
-        ends.push(end_of(alloc, tree, command, taken))?;
+        ends.push(end_of(alloc, tree, command, taken, &mut room))?;
+        if room == 0 {
+            return Ok(None);
+        }
         taken.note(command);
     }
-    Ok(ends)
+    Ok(Some(ends))
 }
 
 // Whether there is a scan among the commands. Only what is spent depends on it.
@@ -85,12 +184,14 @@ fn has_scan(commands: &[Command<Global>]) -> bool {
     false
 }
 
-// The key at which the command may end, where it is a scan. The commands before it have taken away no more than this.
+// Returns the key at which the command may end, if it is a scan, and takes its visits in vain off `room`. The commands before it have taken
+// away no more than `taken`.
 fn end_of<'a>(
     alloc: Global,
     tree: &'a Tree<Global>,
     command: &Command<Global>,
     taken: &Taken<'_>,
+    room: &mut usize,
 ) -> Option<&'a [u8]>
     requires home { AreAllHome tree.now }
     requires height { tree.now.height ≤ most_levels }
@@ -112,8 +213,9 @@ fn end_of<'a>(
             Some(hi.as_bytes()),
             *limit,
             taken,
+            room,
         ),
-        None => end_of_scan(alloc, tree, lo.as_bytes(), None, *limit, taken),
+        None => end_of_scan(alloc, tree, lo.as_bytes(), None, *limit, taken, room),
     }
 }
 
@@ -126,6 +228,7 @@ fn end_of_scan<'a>(
     hi: Option<&[u8]>,
     limit: u32,
     taken: &Taken<'_>,
+    room: &mut usize,
 ) -> Option<&'a [u8]>
     requires home { AreAllHome tree.now }
     requires height { tree.now.height ≤ most_levels }
@@ -145,7 +248,11 @@ fn end_of_scan<'a>(
             return None;
         }
         let here = taken.below(end);
-        certain = certain.saturating_add(certain_pairs(leaf.1.whole(), leaf.0, lo, &before, &here));
+        let more = certain_pairs(leaf.1.whole(), leaf.0, lo, &before, &here);
+        if !may_go_on(more, room) {
+            return None;
+        }
+        certain = certain.saturating_add(more);
         if certain >= limit as usize {
             return Some(end);
         }
@@ -153,6 +260,15 @@ fn end_of_scan<'a>(
         before = here;
     }
     None
+}
+
+// Returns whether a scan may go on after a leaf of which `more` pairs are certain. If none is, takes this visit off `room`.
+fn may_go_on(more: usize, room: &mut usize) -> bool {
+    if more > 0 {
+        return true;
+    }
+    *room = room.saturating_sub(1);
+    *room > 0
 }
 
 // The greater one of a leaf's low key and a scan's.

@@ -1,4 +1,4 @@
-use Rattle.std.proofs.Common.{◌∙◌, ◌≡◌, ap, List, length}
+use Rattle.std.proofs.Common.{◌∙◌, ap, length}
 use Rattle.std.specs.Option.{option_to_list}
 use Rattle.replies.proofs.Placing.{first_within, others_within, rowless_within, with_pieces-all, count-two, length-with_pieces}
 use Rattle.replies.proofs.add_answers.Goals as goal

@@ -31,8 +31,8 @@ returns-then-certain-limit c = λ gone m is.
     let many = c.if-certain-limit.true in
     let above : is_below c.args.lo.now c.in-Some.next.0.now ≡ true = sym (ap (λ (o : Ordering). is_lt o) c.compare.ensures) ∙ sym c.if-not-is_lt.ensures in
     enough_on gone (levels_of (tree_of c.args.tree.now)).level c.args.lo.now (leaf_with c.loop-next.leaf.0.now (seen c.loop-next.leaf.1.now)) (leaf_with c.in-Some.next.0.now (seen c.in-Some.next.1.now)) c.loop-next.leaves c.next.new.self
-    c.loop-next.invariant.passing c.in-Some.ensures.steps (option_copied c.args.hi) c.args.limit c.loop-next.certain c.certain_pairs.result c.saturating_add-certain.result c.requires.levels.tiled (c.loop-next.invariant.certain gone is)
-    (λ a b lack below part. c.certain_pairs.ensures gone c.in-Some.next.0.now a b (c.loop-next.invariant.before gone is) (c.below-here.ensures gone is) lack below above (late_part c.loop-next.leaf.1.now c.whole.result.now _ c.whole.ensures part))
+    c.loop-next.invariant.passing c.in-Some.ensures.steps (option_copied c.args.hi) c.args.limit c.loop-next.certain c.certain_pairs-more.result c.saturating_add-certain.result c.requires.levels.tiled (c.loop-next.invariant.certain gone is)
+    (λ a b lack below part. c.certain_pairs-more.ensures gone c.in-Some.next.0.now a b (c.loop-next.invariant.before gone is) (c.below-here.ensures gone is) lack below above (late_part c.loop-next.leaf.1.now c.whole.result.now _ c.whole.ensures part))
     (omega (arith, sum)) above (sym c.if-not-is_before.ensures) (omega (arith, many)) m
 
 pub loop-next-preserved : goal.loop-next-preserved
@@ -47,6 +47,6 @@ loop-next-preserved c =
           subst (λ (k : List ℕ). IsTakenBelow gone k c.below-here.result) (sym (later_low c.in-Some.next.0.now c.args.lo.now (not_both_below c.args.lo.now c.in-Some.next.0.now above))) (c.below-here.ensures gone is);
       certain = λ gone is.
           certain_on gone (levels_of (tree_of c.args.tree.now)).level c.args.lo.now (leaf_with c.loop-next.leaf.0.now (seen c.loop-next.leaf.1.now)) (leaf_with c.in-Some.next.0.now (seen c.in-Some.next.1.now)) c.loop-next.leaves c.next.new.self
-          c.loop-next.invariant.passing c.in-Some.ensures.steps c.loop-next.certain c.certain_pairs.result c.saturating_add-certain.result c.requires.levels.tiled (c.loop-next.invariant.certain gone is)
-          (λ a b lack below part. c.certain_pairs.ensures gone c.in-Some.next.0.now a b (c.loop-next.invariant.before gone is) (c.below-here.ensures gone is) lack below above (late_part c.loop-next.leaf.1.now c.whole.result.now _ c.whole.ensures part)) (omega (arith, sum));
+          c.loop-next.invariant.passing c.in-Some.ensures.steps c.loop-next.certain c.certain_pairs-more.result c.saturating_add-certain.result c.requires.levels.tiled (c.loop-next.invariant.certain gone is)
+          (λ a b lack below part. c.certain_pairs-more.ensures gone c.in-Some.next.0.now a b (c.loop-next.invariant.before gone is) (c.below-here.ensures gone is) lack below above (late_part c.loop-next.leaf.1.now c.whole.result.now _ c.whole.ensures part)) (omega (arith, sum));
     }
