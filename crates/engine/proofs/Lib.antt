@@ -4,6 +4,10 @@ pub mod BatchDone
 mod BatchInStep
 mod BatchLeaves
 mod BlankAnswers
+mod ClaimCleaned
+mod ClaimCreated
+mod ClaimOpened
+mod ClaimWritten
 mod CleanDone
 mod CleaningLemmas
 mod CleansLemmas

@@ -1,6 +1,7 @@
 pub mod Batch
 pub mod Batches
 pub mod Calls
+pub mod Claim
 pub mod Cleaning
 pub mod Cleans
 pub mod Compacted
@@ -18,6 +19,7 @@ pub mod Refusal
 pub mod SoundTree
 pub mod State
 pub mod Steps
+pub mod StoreClaim
 pub mod Tasks
 pub mod Tidied
 pub mod Turns

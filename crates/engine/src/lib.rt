@@ -10,6 +10,7 @@ mod hidden_disk;
 pub mod laws;
 mod leaf_tasks;
 mod leaves;
+mod ordered_store;
 mod reads;
 mod refusal;
 mod step;
@@ -17,6 +18,9 @@ pub mod step_laws;
 mod store;
 
 pub use crate::file_store::{OpenFault, open_or_create};
+pub use crate::ordered_store::{
+    OrderedStore, put_then_get, put_then_get_in_memory, put_twice_then_get,
+};
 pub use crate::step::{Answer, Step};
 pub use crate::store::Store;
 pub use crew::{BadCrew, Crew, Gate, NoGate};

@@ -1,0 +1,34 @@
+use Rattle.engine.proofs.ClaimCleaned.{clean-contents, clean-crash, clean-durable, clean-fails, clean-state, clean-unwritten}
+use Rattle.engine.proofs.ordered_store.by_pages.StoreOrderedStore.clean.Goals as goal
+
+pub returns-clause-contents : goal.returns-clause-contents
+returns-clause-contents g c =
+    let e = c.clean.ensures in
+    clean-contents g.D.Disk.view g.D.Disk.failed c.args.self.now c.clean.new.self c.args.crew c.a_clean_keeps_the_store.ensures.memory
+    c.clean.result e.failed e.bad_crew e.read e.unchanged
+
+pub returns-clause-durable : goal.returns-clause-durable
+returns-clause-durable g c fine honest =
+    let e = c.clean.ensures in
+    clean-durable g.D.Disk.view g.D.Disk.failed c.args.self.now c.clean.new.self c.args.crew c.a_clean_keeps_the_store.ensures.disk e.sound.0 fine honest
+    c.clean.result (e.bytes honest)
+
+pub returns-clause-crash : goal.returns-clause-crash
+returns-clause-crash g c fine settled =
+    let e = c.clean.ensures in
+    clean-crash g.D.Disk.view g.D.Disk.failed c.args.self.now c.clean.new.self c.args.crew c.a_clean_keeps_the_store.ensures.disk e.sound.0 fine settled
+    (e.crash fine settled)
+
+pub returns-clause-state : goal.returns-clause-state
+returns-clause-state g c honest =
+    clean-state g.D.Disk.view g.D.Disk.failed c.args.self.now c.clean.new.self c.args.crew c.clean.result (c.clean.ensures.bytes honest)
+
+pub returns-clause-fails : goal.returns-clause-fails
+returns-clause-fails g c =
+    let e = c.clean.ensures in
+    clean-fails g.D.Disk.view g.D.Disk.failed c.args.self.now c.clean.new.self c.args.crew c.clean.result e.counted e.device e.fine
+
+pub returns-clause-unwritten : goal.returns-clause-unwritten
+returns-clause-unwritten g c honest =
+    let e = c.clean.ensures in
+    clean-unwritten g.D.Disk.view g.D.Disk.failed c.args.self.now c.clean.new.self c.args.crew honest c.clean.result e.failed e.unwritten

@@ -1,0 +1,35 @@
+use Rattle.flush_log.specs.AfterFlush.{after_upgrade}
+use Rattle.flush_log.specs.FlushText.{HasFrames}
+use Rattle.flush_log.specs.declared.text.Text.TheVariants as texts
+use Rattle.engine.proofs.ClaimWritten.{written-contents, written-crash, written-durable, written-fails, written-state}
+use Rattle.engine.proofs.ordered_store.by_pages.StoreOrderedStore.upgrade.Goals as goal
+
+pub returns-clause-contents : goal.returns-clause-contents
+returns-clause-contents g c =
+    let e = c.upgrade.ensures in
+    written-contents after_upgrade (λ s st. HasFrames s texts.Upgrade st.tree) c.what_was_upgraded_is_what_is_read.ensures.tree g.D.Disk.view c.args.self.now c.upgrade.new.self e.sound.0
+    c.upgrade.result e.store e.unchanged e.device
+
+pub returns-clause-durable : goal.returns-clause-durable
+returns-clause-durable g c honest =
+    let e = c.upgrade.ensures in
+    written-durable after_upgrade (λ s st. HasFrames s texts.Upgrade st.tree) c.what_was_upgraded_is_what_is_read.ensures.tree g.D.Disk.view c.args.self.now c.upgrade.new.self e.sound.0
+    c.what_was_upgraded_is_what_is_read.ensures.read c.upgrade.result e.failed honest (e.bytes honest) e.frames
+
+pub returns-clause-crash : goal.returns-clause-crash
+returns-clause-crash g c fine settled =
+    let e = c.upgrade.ensures in
+    written-crash after_upgrade (λ s st. HasFrames s texts.Upgrade st.tree) c.what_was_upgraded_is_what_is_read.ensures.tree g.D.Disk.view c.args.self.now c.upgrade.new.self e.sound.0
+    c.what_was_upgraded_is_what_is_read.ensures.read fine settled (g.met.D.Disk.lawful c.args.self.now.disk settled.honest)
+    c.upgrade.result e.frames e.frames_under_way e.unchanged (e.crash fine settled)
+
+pub returns-clause-state : goal.returns-clause-state
+returns-clause-state g c honest =
+    let e = c.upgrade.ensures in
+    written-state after_upgrade (λ s st. HasFrames s texts.Upgrade st.tree) c.what_was_upgraded_is_what_is_read.ensures.tree g.D.Disk.view c.args.self.now c.upgrade.new.self e.sound.0
+    c.upgrade.result (e.bytes honest)
+
+pub returns-clause-fails : goal.returns-clause-fails
+returns-clause-fails g c =
+    let e = c.upgrade.ensures in
+    written-fails c.args.self.now c.upgrade.new.self c.upgrade.result g.D.Disk.failed e.counted e.device e.unchanged

@@ -1,0 +1,51 @@
+-- What the trait `OrderedStore` says of a store of pages: which pairs its disk's bytes hold, and what its calls make of its state.
+use Rattle.std.specs.Prelude.{Option, Some, None, Result, Ok, Err}
+use Rattle.keys.specs.Bytes.{Bytes}
+use Rattle.keys.specs.declared.fault.Fault.{Fault}
+use Rattle.keys.specs.declared.settings.Settings.{Settings}
+use Rattle.mapping.specs.Levels.{contents}
+use Rattle.mapping.specs.Tree.{Store}
+use Rattle.flush_log.specs.AfterFlush.{after_flush, after_upgrade}
+use Rattle.recovery.specs.StoreOfDisk.{store_of_disk}
+use Rattle.cleaner.specs.AfterClean.{after_clean}
+use Rattle.engine.specs.Claim.{Held}
+use Rattle.engine.specs.Late.{after_create}
+
+-- the settings and the pairs of the store that was read, if one was
+abbrev pub held_in : Result (Settings × Store) Fault → Option Held
+held_in (Ok p) = Some (p.0, contents p.1.tree)
+held_in (Err fault) = None
+
+-- the settings and the pairs of the store that these bytes hold, if they hold one
+abbrev pub recovered_from : Bytes → Option Held
+recovered_from file = held_in (store_of_disk file)
+
+-- what was returned, if it was no fault
+abbrev pub if_ok : {X : Type 0} → Result X Fault → Option X
+if_ok (Ok x) = Some x
+if_ok (Err fault) = None
+
+-- the first store, and the bytes after its creation
+abbrev pub created_to : Settings → Bytes → Option (Store × Bytes)
+created_to s file = if_ok (after_create s file)
+
+-- the store that was read, if one was
+abbrev pub store_read : Result (Settings × Store) Fault → Option Store
+store_read (Ok p) = Some p.1
+store_read (Err fault) = None
+
+-- the store that these bytes hold, if they hold one
+abbrev pub opened_to : Bytes → Option Store
+opened_to file = store_read (store_of_disk file)
+
+-- the store and the bytes after a flush
+abbrev pub flushed_to : Settings → Store → Bytes → Option (Store × Bytes)
+flushed_to s st file = if_ok (after_flush s st file)
+
+-- the store and the bytes after a clean
+abbrev pub cleaned_to : Settings → Store → Bytes → Option (Store × Bytes)
+cleaned_to s st file = if_ok (after_clean s st file)
+
+-- the store and the bytes after an upgrade
+abbrev pub upgraded_to : Settings → Store → Bytes → Option (Store × Bytes)
+upgraded_to s st file = if_ok (after_upgrade s st file)
