@@ -150,11 +150,12 @@ def stay_empty(programs: Programs, library: Path, name: str) -> Outcome:
 
 # An example that opens its store when it starts.
 OPENS, LINE, ANSWER = "put_then_get", b"a one\n", b"a is one\n"
-OPENING = ("open", "hold", "length", "sync", "read")
+# Each read transfers a byte, so a later number fails a later read.
+OPENING = [*(FailingCalls(call) for call in ("open", "hold", "length", "sync", "read")), FailingCalls("read", 70), FailingCalls("read", 200)]
 
 
 def fail_to_open(programs: Programs, library: Path) -> Outcome:
-    """The example must report the failure, and must not change the file."""
+    """The example must report the failure, and must not change a file that has a store or zeros."""
     program = programs.examples / OPENS
     if not program.is_file():
         return Outcome(left_out="it is not built")
@@ -162,13 +163,16 @@ def fail_to_open(programs: Programs, library: Path) -> Outcome:
         file = Path(folder) / "store"
         if wrong := differs(run([program, file], LINE, Limits(stack=256)), 0, ANSWER):
             return Outcome(wrong)
-        before = file.read_bytes()
-        for call in OPENING:
-            environment = FailingCalls(call, cuts=True).environment(library, file)
-            ran = run([program, file], LINE, Limits(stack=256), environment=environment)
-            wrong = differs(ran, 1, b"", b"Error: the file of the store: Input/output error (os error 5)\n")
-            if wrong or file.read_bytes() != before:
-                return Outcome(f"{call}: {wrong or 'the file has other bytes'}")
+        for before in (file.read_bytes(), bytes(1_536)):
+            file.write_bytes(before)
+            for fails in OPENING:
+                environment = replace(fails, cuts=True).environment(library, file)
+                ran = run([program, file], LINE, Limits(stack=256), environment=environment)
+                wrong = differs(ran, 1, b"", b"Error: the file of the store: Input/output error (os error 5)\n")
+                if wrong or file.read_bytes() != before:
+                    return Outcome(f"{fails}: {wrong or 'the file has other bytes'}")
+            if wrong := differs(run([program, file], LINE, Limits(stack=256)), 0, ANSWER):
+                return Outcome(wrong)
     return Outcome()
 
 

@@ -111,15 +111,19 @@ def copy_of_stream(programs: Programs) -> Outcome:
 
 # ---- What is at the path of the copy.
 
+# Bytes that begin like those of an unfinished attempt: zeros and another byte, and a settings block with bad settings.
+LOOK_UNFINISHED = [bytes(9_999) + b"\1", bytes(4_096) + b"\1" + bytes(4_096), b"\0WBATCH1\0\3\0\4" + bytes(1_524), b"\0 precious"]
+
+
 
 def copy_over(programs: Programs) -> Outcome:
-    """A non-empty file, even the store's own, keeps its bytes and nothing is run; an empty one becomes the copy."""
+    """A file with bytes, even the store's own, keeps them and nothing is run; an empty one becomes the copy."""
     with new_folder() as folder:
         store, copy = Path(folder) / "store", Path(folder) / "copy"
         before = make(programs, store)
         wrong = None
         on_store = ("--disk", str(store))
-        for text in (b"\0", b"0123456789"):
+        for text in (b"\1", b"0123456789", *LOOK_UNFINISHED):
             copy.write_bytes(text)
             for words in (on_store, (*on_store, "--stream"), (*on_store, "--create"), ()):
                 ran = run([programs.store, *words, "--copy-to", copy], b"put z 1\nflush\n")
@@ -130,6 +134,20 @@ def copy_over(programs: Programs) -> Outcome:
         wrong = wrong or (None if store.read_bytes() == before else "the store has other bytes")
         copy.write_bytes(b"")
         return Outcome(wrong or differs(run([programs.store, "--disk", store, "--copy-to", copy]), 0, b"") or wrong_store(programs, copy))
+
+
+def copy_over_unfinished(programs: Programs) -> Outcome:
+    """A file that an unfinished attempt left becomes the copy, with no byte of what it had."""
+    with new_folder() as folder:
+        store, copy, other = Path(folder) / "store", Path(folder) / "copy", Path(folder) / "other"
+        before = make(programs, store)
+        wrong = differs(run([programs.store, *SMALL_STORE, "--disk", store, "--copy-to", other]), 0, b"")
+        whole = other.read_bytes()
+        for text in (b"\0", bytes(1_536), bytes(100_000), b"\0" + before[1:], b"\0" + before[1:64], b"\0" + before[1:] + b"more" * 999):
+            copy.write_bytes(text)
+            wrong = wrong or differs(run([programs.store, *SMALL_STORE, "--disk", store, "--copy-to", copy]), 0, b"")
+            wrong = wrong or (None if copy.read_bytes() == whole else f"the copy over {len(text)} bytes has other bytes")
+        return Outcome(wrong or (None if store.read_bytes() == before else "the store has other bytes"))
 
 
 def create_over_copy(programs: Programs) -> Outcome:
@@ -317,6 +335,20 @@ def fail_calls(programs: Programs, library: Path, fails: FailingCalls, is_done: 
         return Outcome(wrong_store(programs, store))
 
 
+def fail_reads(programs: Programs, library: Path, number: int) -> Outcome:
+    """If the file cannot be read, it keeps its zeros and nothing is run."""
+    with new_folder() as folder:
+        store, copy = Path(folder) / "store", Path(folder) / "copy"
+        make(programs, store)
+        copy.write_bytes(bytes(1_536))
+        command: Command = [programs.store, *SMALL_STORE, "--explain", "--disk", store, "--copy-to", copy]
+        ran = run(command, b"get a\n", environment=FailingCalls("read", number, 1).environment(library, copy))
+        is_right = (ran.status, ran.out) == (4, b"") and ran.err.startswith(DEVICE + os.fsencode(copy) + b": Input/output error")
+        if not is_right or copy.read_bytes() != bytes(1_536):
+            return Outcome(ran.describe())
+        return Outcome(differs(run(command, b"get a\n"), 0, b"value 1\n") or wrong_store(programs, copy))
+
+
 def refuse_allocations(programs: Programs, library: Path, lane: int) -> Outcome:
     """The copy is complete if the session succeeds; otherwise its file is empty or missing."""
     with new_folder() as folder:
@@ -381,6 +413,13 @@ def check_killed(programs: Programs, copy: Path, pairs: int) -> tuple[str | None
     return ran.describe(), ""
 
 
+def copy_again(programs: Programs, store: Path, copy: Path, what: str) -> str | None:
+    """The next copy to the same path succeeds, unless the killed one is whole."""
+    again = run([programs.store, "--disk", store, "--copy-to", copy])
+    wrong = differs(again, 4, b"", DEVICE) if what == "all pairs" else differs(again, 0, b"")
+    return wrong or (None if check_killed(programs, copy, 60_000) == (None, "all pairs") else "the next copy is not whole")
+
+
 def kill(programs: Programs) -> Outcome:
     puts = b"".join(b"put k%06d v%d\n" % (number, number) for number in range(60_000)) + b"flush\n"
     found: Counter[str] = Counter()
@@ -399,7 +438,8 @@ def kill(programs: Programs) -> Outcome:
             child.wait(PATIENCE)
             wrong_copy, what = check_killed(programs, copy, 60_000)
             found[what] += 1
-            wrong = wrong or wrong_copy or (None if store.read_bytes() == before else "the store has other bytes")
+            wrong = wrong or wrong_copy or copy_again(programs, store, copy, what)
+            wrong = wrong or (None if store.read_bytes() == before else "the store has other bytes")
     return Outcome(wrong, measured=", ".join(f"{count} with {what}" for what, count in found.items()))
 
 
@@ -414,6 +454,7 @@ def cases(programs: Programs, refusing: Path, failing: Path) -> list[Case]:
         Case("copies many pairs", copy_many, arguments),
         Case("copies at the end of a dialog", copy_of_stream, arguments),
         Case("replaces nothing", copy_over, arguments),
+        Case("replaces what an unfinished attempt left", copy_over_unfinished, arguments),
         Case("no copy in the file of the store", create_over_copy, arguments),
         Case("no copy where no file can be", copy_to_no_file, arguments),
         Case("no copy in a file that may not be so long", copy_too_long, arguments),
@@ -427,6 +468,7 @@ def cases(programs: Programs, refusing: Path, failing: Path) -> list[Case]:
         Case("no file of a copy before all is admitted", refuse_before_copy, arguments),
         *(Case(f"a copy is refused: {row[2].decode().strip()} of {len(row[0])} bytes", refuse_copy, (programs, *row)) for row in REFUSED_COPIES),
         *(Case(f"calls of a copy fail: {row[0].call} from {row[0].first} on", fail_calls, (programs, failing, *row)) for row in CALLS),
+        *(Case(f"reads of a copy's file fail: {number}", fail_reads, (programs, failing, number)) for number in range(2)),
         *(Case(f"a copy beside closed streams, {closed}", close, (programs, closed)) for closed in ("<&-", "2>&-", "<&- 2>&-")),
         Case("a copy after a closed pipe", closed_pipe, arguments),
     ]

@@ -1,7 +1,7 @@
 /* Fails calls of one kind, FAIL_CALL: FAIL_COUNT of them from the number FAIL_FROM on, counted from 0, with the error FAIL_ERROR. The kinds are
 
    input, output, error         a read of standard input, a write to standard output, to standard error
-   open                         opening the file FAIL_FILE for writing; those that follow are calls on this file:
+   open                         opening the file FAIL_FILE for writing; those that follow are calls on this file, also by a duplicated descriptor:
    hold, share, length          its exclusive lock, its shared lock, asking for its length
    cut, read, write, sync       setting its length, a read, a write, a sync
    thread                       starting a thread: this ends the program with FAIL_ERROR as its status
@@ -17,12 +17,12 @@ int strcmp(const char *, const char *);
 long syscall(long, ...);
 void *dlsym(void *, const char *);
 
-enum { READ = 0, WRITE = 1, OPEN = 2, NANOSLEEP = 35, FLOCK = 73, FDATASYNC = 75, FTRUNCATE = 77, EXIT_GROUP = 231, STATX = 332 };
-enum { O_WRITES = 03, LOCK_EX = 2 };
+enum { READ = 0, WRITE = 1, OPEN = 2, CLOSE = 3, NANOSLEEP = 35, FCNTL = 72, FLOCK = 73, FDATASYNC = 75, FTRUNCATE = 77, EXIT_GROUP = 231, STATX = 332 };
+enum { O_WRITES = 03, LOCK_EX = 2, F_DUPFD_CLOEXEC = 1030 };
 
 static const char *kind, *path;
 static long first, count, error, pause, made;
-static int cuts, file = -1;
+static int cuts, file = -1, duplicate = -1;
 
 __attribute__((constructor)) static void start(void) {
     path = getenv("FAIL_FILE");
@@ -47,9 +47,11 @@ static int fails(const char *call) {
     return 1;
 }
 
+static int is_file(int fd) { return fd >= 0 && (fd == file || fd == duplicate); }
+
 static void delay(int fd) {
     long duration[2] = {pause / 1000, pause % 1000 * 1000000}; /* seconds and nanoseconds */
-    if (fd == file && pause) {
+    if (is_file(fd) && pause) {
         syscall(NANOSLEEP, duration, 0);
     }
 }
@@ -57,27 +59,38 @@ static void delay(int fd) {
 static size_t taken(size_t size) { return cuts && size > 1 ? 1 : size; }
 
 int open(const char *name, int flags, int mode) {
-    int is_file = strcmp(name, path) == 0;
-    if (is_file && flags & O_WRITES && fails("open")) {
+    int is_path = strcmp(name, path) == 0;
+    if (is_path && flags & O_WRITES && fails("open")) {
         return -1;
     }
     int opened = syscall(OPEN, name, flags, mode);
-    file = is_file ? opened : file;
+    file = is_path ? opened : file;
     return opened;
 }
 
-int flock(int fd, int how) { return fd == file && fails(how & LOCK_EX ? "hold" : "share") ? -1 : syscall(FLOCK, fd, how); }
-
-int statx(int fd, const char *name, int flags, unsigned mask, void *buf) {
-    return fd == file && fails("length") ? -1 : syscall(STATX, fd, name, flags, mask, buf);
+int fcntl(int fd, int what, long value) {
+    int answer = syscall(FCNTL, fd, what, value);
+    duplicate = is_file(fd) && what == F_DUPFD_CLOEXEC ? answer : duplicate;
+    return answer;
 }
 
-int ftruncate(int fd, long length) { return fd == file && fails("cut") ? -1 : syscall(FTRUNCATE, fd, length); }
+int close(int fd) {
+    duplicate = fd == duplicate ? -1 : duplicate;
+    return syscall(CLOSE, fd);
+}
 
-int fdatasync(int fd) { return fd == file && fails("sync") ? -1 : syscall(FDATASYNC, fd); }
+int flock(int fd, int how) { return is_file(fd) && fails(how & LOCK_EX ? "hold" : "share") ? -1 : syscall(FLOCK, fd, how); }
+
+int statx(int fd, const char *name, int flags, unsigned mask, void *buf) {
+    return is_file(fd) && fails("length") ? -1 : syscall(STATX, fd, name, flags, mask, buf);
+}
+
+int ftruncate(int fd, long length) { return is_file(fd) && fails("cut") ? -1 : syscall(FTRUNCATE, fd, length); }
+
+int fdatasync(int fd) { return is_file(fd) && fails("sync") ? -1 : syscall(FDATASYNC, fd); }
 
 long read(int fd, void *buf, size_t size) {
-    if (fd != 0 && fd != file) {
+    if (fd != 0 && !is_file(fd)) {
         return syscall(READ, fd, buf, size);
     }
     delay(fd);
@@ -85,7 +98,7 @@ long read(int fd, void *buf, size_t size) {
 }
 
 long write(int fd, const void *bytes, size_t size) {
-    if (fd != 1 && fd != 2 && fd != file) {
+    if (fd != 1 && fd != 2 && !is_file(fd)) {
         return syscall(WRITE, fd, bytes, size);
     }
     const char *call = fd == 1 ? "output" : fd == 2 ? "error" : "write";

@@ -18,7 +18,7 @@ use crate::options::Options;
 use crate::progress::{LongCall, Progress, Reports};
 use crate::session::SessionError;
 use crate::watching::run_watched;
-use engine::{Crew, Disk, FileDisk, LockFile, Store};
+use engine::{Crew, Disk, FileDisk, LockFile, Store, is_unfinished};
 use flush_log::disk_size;
 use keys::Settings;
 use std::fs::{OpenFile, OpenOptions};
@@ -37,9 +37,25 @@ pub(crate) struct Copying<'a, F> {
     settings: Settings,
 }
 
+// Returns whether the locked file is empty, or has only the bytes of an unfinished store.
+fn is_free<F: Read + Write + Seek + OpenFile + LockFile + Drop>(file: &F) -> io::Result<bool> {
+    if file.metadata()?.len() == 0 {
+        return Ok(true);
+    }
+    let mut disk = FileDisk::of_file(file.try_clone()?)?;
+    match is_unfinished(&mut disk) {
+        Ok(is_free) => Ok(is_free),
+        Err(_) => Err(match disk.last_error() {
+            Some(reason) => reason,
+            None => ErrorKind::Other.into(),
+        }),
+    }
+}
+
 // Opens and locks the file of a copy. Fails, and leaves the file as it was, if the file has any
-// bytes. The file is extended to the copy's length and truncated again, so that a file that cannot
-// be extended is found before anything runs. Lack of room is found only when the copy is written.
+// bytes but those of an unfinished store. The file is extended to the copy's length and truncated,
+// so that a file that cannot be extended is found before anything runs. Lack of room is found only
+// when the copy is written.
 fn empty_file<R: Files>(rt: &R, path: &str, settings: Settings) -> io::Result<R::File>
 where
     R::File: LockFile,
@@ -49,7 +65,7 @@ where
     how.read(true).write(true).create(true);
     let file = how.open(rt, path)?;
     file.hold()?;
-    if file.metadata()?.len() > 0 {
+    if !is_free(&file)? {
         return Err(ErrorKind::AlreadyExists.into());
     }
     file.set_len(disk_size(&settings))?;

@@ -54,5 +54,6 @@ mod StepsLemmas
 mod TaskLemmas
 mod TextSteps
 mod TidyLemmas
+mod UnfinishedLemmas
 mod Verified
 mod WayOfOne

@@ -1,10 +1,11 @@
 -- A disk on which a store is made out of sight: its first byte is that of a store only at the end.
-use Rattle.std.specs.Prelude.{◌≡◌, ◌⊎◌, ℕ, nat_eq, if◌then◌else◌, [], ◌∷◌, slice_index, Err}
+use Rattle.std.specs.Prelude.{◌≡◌, ◌⊎◌, ℕ, Bool, nat_eq, ◌==◌, ◌||◌, if◌then◌else◌, [], ◌∷◌, take, slice_index, is_some, Err}
+use Rattle.std.specs.List.{list_all}
 use Rattle.keys.specs.Bytes.{Bytes}
 use Rattle.keys.specs.declared.fault.Fault.TheVariants.{NotAStore}
 use Rattle.flush_log.specs.Disk.{View}
 use Rattle.flush_log.specs.Overlay.{overlay, IsBeside, AgreeAt}
-use Rattle.flush_log.specs.SettingsBlock.{store_settings}
+use Rattle.flush_log.specs.SettingsBlock.{read_settings, settings_block_size, store_settings}
 
 -- the first byte of a settings block, B
 abbrev pub store_byte : ℕ
@@ -50,3 +51,15 @@ revealed file = overlay file 0 (store_byte ∷ [])
 -- what a crash may leave meanwhile: no store, or those bytes
 abbrev pub IsLeftRevealing : Bytes → Bytes → Type 0
 IsLeftRevealing file c = HoldsNoStore c ⊎ (c ≡ revealed file)
+
+-- zeros alone, or no bytes
+abbrev pub are_zeros : Bytes → Bool
+are_zeros bytes = list_all (λ b. b == 0) bytes
+
+-- bytes that begin with a settings block, but for its first byte, which is still 0
+abbrev pub hides_block : Bytes → Bool
+hides_block file = is_some (read_settings (take settings_block_size (exchanged file)))
+
+-- bytes that an attempt to make a store leaves if it does not end: a hidden settings block with anything after it, zeros alone, or no bytes
+abbrev pub is_unfinished : Bytes → Bool
+is_unfinished file = hides_block file || are_zeros file

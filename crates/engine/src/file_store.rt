@@ -1,17 +1,18 @@
 //! Stores in files of the system.
-ghost use Rattle.std.specs.Prelude.{◌≡◌, ◌≢◌, ◌⊎◌, None, Ok, Err, IsTrue, IfOk, MatchOption, MatchResult, false};
+ghost use Rattle.std.specs.Prelude.{◌≡◌, ◌≢◌, ◌⊎◌, ◌<◌, None, Ok, Err, IsTrue, IsSome, IfOk, IfErr, MatchOption, MatchResult, replicate, false, true};
 ghost use Rattle.keys.specs.Bytes.{Bytes};
 ghost use Rattle.keys.specs.Limits.{first_bad_field};
 ghost use Rattle.crew.specs.Crew.{is_crew};
-ghost use Rattle.flush_log.specs.Disk.{IsSettled};
+ghost use Rattle.flush_log.specs.Disk.{IsSettled, Kept};
 ghost use Rattle.recovery.specs.Recovered.{IsReadOf, IsLate};
-ghost use Rattle.recovery.specs.StoreOfDisk.{store_of_disk};
-ghost use Rattle.engine.specs.FileStore.{IsStoreOfFile, IsNewStore, IsOldStore, IsStoreFound, IfStoreFound, IsFaultOfFile};
+ghost use Rattle.engine.specs.FileStore.{IfStoreFound, IsFaultOfFile, IsFound, IsNewStore, IsStoreOfFile, disk_found, made_on_zeros};
+ghost use Rattle.engine.specs.Hidden.{is_unfinished};
 ghost use Rattle.engine.specs.declared.file_store.OpenFault.TheVariants.{Locked};
 ghost use Rattle.engine.specs.declared.file_store.OpenFault.TheVariants as open_fault;
 
 use crate::refusal::admit_crew;
 use crate::store::Store;
+use crate::unfinished::is_unfinished;
 use crew::Crew;
 use flush_log::{Disk, FileDisk, LockFile, disk_size};
 use keys::{Fault, Settings};
@@ -81,23 +82,50 @@ fn with_reason(fault: Fault, reason: Option<io::Error>) -> OpenFault
     }
 }
 
-// A new store on the disk of an empty file. Where there is none the file is emptied again.
-fn new_store<F: Read + Write + Seek + OpenFile + LockFile + Drop>(
+/// A disk over a file.
+trait DiskOfFile: Disk + Drop {
+    /// Gives the file this length, and zeros in the place of all that it held.
+    fn erased(self, len: u64) -> io::Result<Self>
+        ensures size { IfOk result (λ disk. (Self.view disk).size ≡ len) }
+        ensures honest { IfOk result
+            (λ disk. (Self.view disk).is_honest ≡ (Self.view self).is_honest) }
+        ensures zeros { IsTrue (Self.view self).is_honest →
+            IfOk result (λ disk. (Self.view disk).seen ≡ replicate len 0) };
+
+    /// Why the last call failed that did.
+    fn reason(&self) -> Option<io::Error>
+        ensures { 0 < Self.failed self.now → IsSome result };
+}
+
+impl<F: Read + Write + Seek + OpenFile + LockFile + Drop> DiskOfFile for FileDisk<F> {
+    fn erased(self, len: u64) -> io::Result<Self> {
+        self.zeroed(len)
+    }
+
+    fn reason(&self) -> Option<io::Error> {
+        self.last_error()
+    }
+}
+
+// Makes a new store on a disk that is erased first. If that fails, the disk is emptied.
+fn new_store<D: DiskOfFile>(
     alloc: Global,
-    disk: FileDisk<F>,
+    disk: D,
     settings: Settings,
-) -> Result<Store<FileDisk<F>>, OpenFault>
+) -> Result<Store<D>, OpenFault>
     requires good { first_bad_field settings ≡ None }
-    requires empty { (⟦<FileDisk<F> as Disk>⟧.view disk).size ≡ 0 }
-    ensures made { MatchResult result (IsNewStore settings) IsFaultOfFile }
+    ensures made { IfOk result (IsNewStore settings) }
+    ensures refused { IfErr result (λ fault. (file : Bytes) → IsFaultOfFile file fault) }
+    ensures bytes { IsTrue (D.view disk).is_honest → IfOk result (λ store.
+        ((D.view store.disk).seen ≡ made_on_zeros settings) × IsSettled (D.view store.disk)) }
     ensures fine { IfOk result (λ store. store.has_failed ≡ false) }
 {
-    let disk = disk.zeroed(disk_size(&settings))?;
+    let disk = disk.erased(disk_size(&settings))?;
     match Store::create(alloc, disk, settings) {
         Ok(store) => Ok(store),
         Err(refused) => {
-            let reason = refused.1.last_error();
-            let _emptied = refused.1.zeroed(0);
+            let reason = refused.1.reason();
+            let _emptied = refused.1.erased(0);
             Err(with_reason(refused.0, reason))
         }
     }
@@ -108,12 +136,34 @@ fn new_store<F: Read + Write + Seek + OpenFile + LockFile + Drop>(
 pub(crate) enum Found<D: Disk> {
     /// The store that its bytes encode.
     Store(Store<D>),
-    /// No bytes.
+    /// No bytes, or those of an unfinished store.
     Nothing(D),
 }
 
-// Opens the store of a disk that has bytes, as `Store::open` does. Of a file no clause says which bytes it has, or that they are synced;
-// so this is written for any disk.
+// Finds out whether a disk of which no store could be read, for this fault, has an unfinished one.
+fn find_unfinished<D: Disk>(fault: Fault, disk: D) -> Result<Found<D>, (Fault, D)>
+    ensures cases { ((fault ≢ Fault.NotAStore) × (result ≡ Err (fault, disk)))
+        ⊎ ((fault ≡ Fault.NotAStore) × MatchResult result
+        (λ f. f ≡ Found.Nothing (disk_found f))
+        (λ e. (e.0 ≡ Fault.NotAStore) ⊎ IsLate (D.failed disk) (D.failed e.1) e.0)) }
+    ensures exact { IsTrue (D.view disk).is_honest → fault ≡ Fault.NotAStore →
+        MatchResult result
+        (λ f. is_unfinished (D.view disk).seen ≡ true)
+        (λ e. e.0 ≡ Fault.NotAStore → is_unfinished (D.view disk).seen ≡ false) }
+    ensures kept { IfOk result (λ f. Kept (D.view disk) (D.view (disk_found f))) }
+{
+    let mut disk = disk;
+    match fault {
+        Fault::NotAStore => match is_unfinished(&mut disk) {
+            Ok(true) => Ok(Found::Nothing(disk)),
+            Ok(false) => Err((Fault::NotAStore, disk)),
+            Err(failed) => Err((failed.into(), disk)),
+        },
+        _ => Err((fault, disk)),
+    }
+}
+
+// Finds what a disk holds. Of a file no clause says which bytes it has, or that they are synced; so this is written for any disk.
 fn find_store<D: Disk>(
     rt: &(impl Threads + Sync),
     alloc: Global,
@@ -122,55 +172,60 @@ fn find_store<D: Disk>(
 ) -> Result<Found<D>, (Fault, D)>
     requires crew { IsTrue (is_crew crew) }
     ensures nothing { (D.view disk).size ≡ 0 → result ≡ Ok (Found.Nothing disk) }
-    ensures read { (D.view disk).size ≢ 0 →
-        (file : Bytes) × IsReadOf (D.view disk) file
-        × MatchResult result
-        (IsStoreFound (λ x. store_of_disk file ≡ Ok (x.settings, x.store)))
-        (λ e. (store_of_disk file ≡ Err e.0) ⊎ IsLate (D.failed disk) (D.failed e.1) e.0) }
-    ensures settled { (D.view disk).size ≢ 0 → IsTrue (D.view disk).is_honest →
-        IfOk result (IsStoreFound (λ x. IsSettled (D.view x.disk))) }
+    ensures read { (file : Bytes) × IsReadOf (D.view disk) file
+        × IsFound D.failed file (D.failed disk) result }
+    ensures kept { IfOk result (λ f. Kept (D.view disk) (D.view (disk_found f))) }
+    ensures settled { IsTrue (D.view disk).is_honest →
+        IfOk result (IfStoreFound (λ x. IsSettled (D.view x.disk))) }
     ensures fine { IfOk result (IfStoreFound (λ x. x.has_failed ≡ false)) }
 {
     if disk.len() == 0 {
         return Ok(Found::Nothing(disk));
     }
-    Ok(Found::Store(Store::open(rt, alloc, disk, crew)?))
+    match Store::open(rt, alloc, disk, crew) {
+        Ok(store) => Ok(Found::Store(store)),
+        Err(refused) => find_unfinished(refused.0, refused.1),
+    }
 }
 
-// The store of a file that is held: a new one if the file has no bytes, and otherwise the one that its bytes encode.
-fn store_of<F: Read + Write + Seek + OpenFile + LockFile + Drop>(
+// The store of a file that is held: a new one if the file has no bytes or those of an unfinished store, and otherwise the one that its
+// bytes encode.
+fn store_of<D: DiskOfFile>(
     rt: &(impl AllocGlobal + Threads + Sync),
     crew: Crew,
-    disk: FileDisk<F>,
+    disk: D,
     settings: Settings,
-) -> Result<Store<FileDisk<F>>, OpenFault>
+) -> Result<Store<D>, OpenFault>
     requires crew { IsTrue (is_crew crew) }
     requires good { first_bad_field settings ≡ None }
-    ensures new { (⟦<FileDisk<F> as Disk>⟧.view disk).size ≡ 0 →
-        MatchResult result (IsNewStore settings) IsFaultOfFile }
-    ensures old { (⟦<FileDisk<F> as Disk>⟧.view disk).size ≢ 0 →
-        MatchResult result IsOldStore IsFaultOfFile }
+    ensures opened { (file : Bytes) × IsReadOf (D.view disk) file
+        × MatchResult result (IsStoreOfFile settings file) (IsFaultOfFile file) }
+    // On an honest disk: no old byte is under a new store, and the disk is settled.
+    ensures bytes { IsTrue (D.view disk).is_honest → IsTrue (is_unfinished (D.view disk).seen) →
+        IfOk result (λ store. (D.view store.disk).seen ≡ made_on_zeros settings) }
+    ensures settled { IsTrue (D.view disk).is_honest →
+        IfOk result (λ store. IsSettled (D.view store.disk)) }
     ensures fine { IfOk result (λ store. store.has_failed ≡ false) }
 {
     match find_store(rt, rt.alloc(), disk, crew) {
         Ok(Found::Store(store)) => Ok(store),
         Ok(Found::Nothing(disk)) => new_store(rt.alloc(), disk, settings),
-        Err(refused) => Err(with_reason(refused.0, refused.1.last_error())),
+        Err(refused) => Err(with_reason(refused.0, refused.1.reason())),
     }
 }
 
-/// Opens the store of the file at this path, and holds the file for itself as long as the store or its disk is there. Where there is
-/// no file, or an empty one, a new store is made there under these settings, with the length that they need, and synced; else the file is
-/// synced, and the store that it holds comes back, with its own settings, as `Store::open` says. For a file that is only read there
-/// are `FileDisk::open_shared` and `Store::open`.
+/// Opens the store of the file at this path, and holds the file for itself as long as the store or its disk is there.
+///
+/// If there is no file, or the file is empty or unfinished as `is_unfinished` says, makes a new store there under these settings: the
+/// file gets the length that they need, with zeros in the place of what it held, and is synced. So a file goes on that a crash left while a
+/// new store or a copy was made. Any other file is synced, and the store that it holds is recovered, with its own settings, as
+/// `Store::open` says. A file that is only read is opened by `FileDisk::open_shared` and `Store::open`.
 ///
 /// A crew out of range is `Fault::BadCrew`, and then the first field of the settings that is out of range `Fault::BadSettings`, whatever
 /// the file holds: no file was opened or made then. Then come `OpenFault::Locked` and a reason why the file can't be opened, as it was;
-/// then a file that holds no store, or a damaged one, with the fault that `Store::recover` has of it, and `Fault::NoMemory` and a reason
-/// why a call failed. A file that isn't empty was not written then. One that was missing or empty is empty again, where its length can
-/// still be set.
-///
-/// A crash while a new store is made may leave a file that holds no store (`Fault::NotAStore`): remove it.
+/// then a file that holds no store and is not unfinished, or a damaged store, with the fault that `Store::recover` has of it, and
+/// `Fault::NoMemory` and a reason why a call failed. A file that was not to become a new store was not written then. One that was is empty
+/// or unfinished, and the next call makes the store.
 pub fn open_or_create<R: AllocGlobal + Threads + Sync + Files>(
     rt: &R,
     crew: Crew,
@@ -180,10 +235,10 @@ pub fn open_or_create<R: AllocGlobal + Threads + Sync + Files>(
 where
     R::File: LockFile,
     ensures bad_crew { is_crew crew ≡ false → result ≡ Err (OpenFault.Store Fault.BadCrew) }
-    // No clause of the library says what a file holds: so there are bytes, such that it is the store that they stand for or has the
-    // fault that they have; unless it is a new one, or there is no memory or a reason.
+    // No clause of the library says what a file holds: so there are bytes, such that the store is a new one if they are those of an
+    // unfinished store and else the one that they encode, or the fault is the one that they have; or there is no memory or a reason.
     ensures opened { IsTrue (is_crew crew) → MatchOption (first_bad_field settings)
-        (MatchResult result (IsStoreOfFile settings) IsFaultOfFile)
+        ((file : Bytes) × MatchResult result (IsStoreOfFile settings file) (IsFaultOfFile file))
         (λ field. result ≡ Err (OpenFault.Store (Fault.BadSettings field))) }
     ensures fine { IfOk result (λ store. store.has_failed ≡ false) }
 {

@@ -12,7 +12,7 @@ use flush_log::{Disk, DiskFault, write_through};
 const STORE_BYTE: u8 = b'B';
 
 // Exchanges 0 and the first byte of a settings block.
-fn exchanged_byte(byte: u8) -> u8
+pub(crate) fn exchanged_byte(byte: u8) -> u8
     ensures { result ≡ exchanged_byte byte }
 {
     if byte == 0 {

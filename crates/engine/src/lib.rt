@@ -16,6 +16,7 @@ mod refusal;
 mod step;
 pub mod step_laws;
 mod store;
+mod unfinished;
 
 pub use crate::file_store::{OpenFault, open_or_create};
 pub use crate::ordered_store::{
@@ -23,6 +24,7 @@ pub use crate::ordered_store::{
 };
 pub use crate::step::{Answer, Step};
 pub use crate::store::Store;
+pub use crate::unfinished::is_unfinished;
 pub use crew::{BadCrew, Crew, Gate, NoGate};
 pub use flush_log::{
     CrashDisk, Disk, DiskFault, Failing, FaultDisk, FileDisk, Fill, LockFile, MemDisk,

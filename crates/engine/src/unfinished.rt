@@ -1,0 +1,91 @@
+//! Whether a disk holds nothing but what an unfinished attempt to make a store leaves.
+ghost use Rattle.std.specs.Prelude.{◌≡◌, ◌+◌, ◌≤◌, IsTrue, length, take, drop, IfOk};
+ghost use Rattle.flush_log.specs.Disk.{Kept, CountsFailure, OnlyRead};
+ghost use Rattle.engine.specs.Hidden.{are_zeros, hides_block, is_unfinished};
+
+use crate::hidden_disk::exchanged_byte;
+use flush_log::{Disk, DiskFault, read_settings};
+
+// How many bytes the settings block has.
+const BLOCK_SIZE: usize = 64;
+
+// How many bytes are read at a time.
+const PIECE_SIZE: usize = 4_096;
+
+// Whether the disk begins with a settings block whose first byte is 0.
+fn hides_block<D: Disk>(disk: &mut D) -> Result<bool, DiskFault>
+    ensures kept { Kept (D.view disk.old) (D.view disk.new) }
+    ensures failed { CountsFailure result (D.failed disk.old) (D.failed disk.new) }
+    ensures exact { IsTrue (D.view disk.old).is_honest →
+        IfOk result (λ hides. hides ≡ hides_block (D.view disk.old).seen) }
+    ensures same { OnlyRead (D.view disk.old) (D.view disk.new) }
+{
+    if disk.len() < BLOCK_SIZE as u64 {
+        return Ok(false);
+    }
+    let mut block = [0; BLOCK_SIZE];
+    disk.read_at(0, &mut block)?;
+    block[0] = exchanged_byte(block[0]);
+    Ok(read_settings(&block).is_some())
+}
+
+fn are_zeros(bytes: &[u8]) -> bool
+    ensures { result ≡ are_zeros bytes.now }
+{
+    bytes.iter().all(|byte| *byte == 0)
+}
+
+// Whether the disk has zeros alone from a place on, as many as the buffer has bytes.
+fn reads_zeros<D: Disk>(disk: &mut D, at: u64, buf: &mut [u8]) -> Result<bool, DiskFault>
+    requires { at + length buf.old ≤ (D.view disk.old).size }
+    ensures kept { Kept (D.view disk.old) (D.view disk.new) }
+    ensures failed { CountsFailure result (D.failed disk.old) (D.failed disk.new) }
+    ensures exact { IsTrue (D.view disk.old).is_honest → IfOk result (λ zeros.
+        zeros ≡ are_zeros (take (length buf.old) (drop at (D.view disk.old).seen))) }
+    ensures same { OnlyRead (D.view disk.old) (D.view disk.new) }
+{
+    disk.read_at(at, buf)?;
+    Ok(are_zeros(buf))
+}
+
+// Whether the disk has zeros alone. Reads it up to the piece that has another byte.
+fn has_only_zeros<D: Disk>(disk: &mut D) -> Result<bool, DiskFault>
+    ensures kept { Kept (D.view disk.old) (D.view disk.new) }
+    ensures failed { CountsFailure result (D.failed disk.old) (D.failed disk.new) }
+    ensures exact { IsTrue (D.view disk.old).is_honest →
+        IfOk result (λ zeros. zeros ≡ are_zeros (D.view disk.old).seen) }
+    ensures same { OnlyRead (D.view disk.old) (D.view disk.new) }
+{
+    let len = disk.len();
+    let mut piece = [0; PIECE_SIZE];
+    let mut at = 0u64;
+    'pieces: while at < len {
+        let size = (len - at).min(PIECE_SIZE as u64);
+        if !reads_zeros(disk, at, &mut piece[..size as usize])? {
+            return Ok(false);
+        }
+        at += size;
+    }
+    Ok(true)
+}
+
+/// Returns whether the disk holds nothing but what an attempt to make a store leaves if it is cut off: no bytes, zeros alone, or a valid
+/// settings block whose first byte is still 0, with anything after it. Such a file may become a store, and nothing that anybody stored is
+/// lost. The attempts are `Store::create`, `Store::copy_to` and `open_or_create`, on a file that was empty or had zeros.
+///
+/// Only reads, 4,096 bytes at a time, and stops at the first piece that decides. So only a disk of zeros is read to its end. Fails with
+/// `DiskFault` if a read fails.
+pub fn is_unfinished<D: Disk>(disk: &mut D) -> Result<bool, DiskFault>
+    ensures kept { Kept (D.view disk.old) (D.view disk.new) }
+    ensures failed { CountsFailure result (D.failed disk.old) (D.failed disk.new) }
+    // On an honest disk: of what a read gives.
+    ensures exact { IsTrue (D.view disk.old).is_honest →
+        IfOk result (λ unfinished. unfinished ≡ is_unfinished (D.view disk.old).seen) }
+    // No byte changed, and nothing of what a crash may leave.
+    ensures same { OnlyRead (D.view disk.old) (D.view disk.new) }
+{
+    if hides_block(disk)? {
+        return Ok(true);
+    }
+    has_only_zeros(disk)
+}
