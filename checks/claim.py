@@ -60,8 +60,8 @@ class Source:
         for crate, path, listed, alias in IMPORT.findall(self.text):
             if listed:
                 for words in listed.split(","):
-                    name, *_, last = [*words.split(" as "), words.split(" as ")[-1]]
-                    self.names[last.strip()] = imported(crate, path, name.strip())
+                    name, _, alias = words.partition(" as ")
+                    self.names[(alias or name).strip()] = imported(crate, path, name.strip())
             else:
                 self.modules[alias or path.split(".")[-1]] = (crate, path)
 
