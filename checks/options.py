@@ -8,6 +8,7 @@ from tools.cases import SMALL_STORE, Case, Outcome, Programs, differs
 from tools.processes import Command, Dialog, Limits, RunResult, new_folder, run
 
 LONG_PUT = b"put a 0123456789abcdef\nflush\n"
+LONG_QUEUE = ("--max-key=16", "--max-value=16", "--seg-size=8192", "--segments=40")
 
 # Options, input, output (None: as without the option), and the two lines of errors.
 EXPLAINED: list[tuple[tuple[str, ...], bytes, bytes | None, bytes, bytes]] = [
@@ -289,6 +290,59 @@ def clean_in_vain(programs: Programs) -> Outcome:
     return Outcome(differs(ran, 4, 20 * b"new\n", b"fault 10 Full\n"))
 
 
+def clean_before_full(programs: Programs) -> Outcome:
+    """Frames of 37 or 38 bytes: five in the first segment, beside that of the new store, and six in each of the next. So the 78th flush leaves two of 16
+    segments free. The next flush that writes something cleans two segments first. The sessions without the option do not clean."""
+    words: Command = [*SMALL_STORE[:-1], "--segments=16"]
+    with new_folder() as folder:
+        path = Path(folder) / "file"
+        made = run([programs.store, "--disk", path, "--create", *words], 77 * LONG_PUT)
+        early = run([programs.store, "--disk", path, "--clean-when-full"], LONG_PUT)
+        idle = run([programs.store, "--disk", path, "--clean-when-full"], b"flush\nget a\n")
+        plain = run([programs.store, "--disk", path], LONG_PUT)
+        cleaned = run([programs.store, "--disk", path, "--clean-when-full"], LONG_PUT)
+        wrong = differs(made, 0, b"new\n" + b"replaced\n".join(b"flushed %d\n" % number for number in range(2, 79)))
+        wrong = wrong or differs(early, 0, b"replaced\nflushed 79\n") or differs(idle, 0, b"flushed 79\nvalue 0123456789abcdef\n")
+        wrong = wrong or differs(plain, 0, b"replaced\nflushed 80\n")
+        return Outcome(wrong or differs(cleaned, 0, b"replaced\ncleaned 1\ncleaned 2\nflushed 83\n"))
+
+
+def bytes_read(dialog: Dialog) -> int:
+    counts = Path(f"/proc/{dialog.process.pid}/io").read_text().splitlines()
+    return next(int(count.split()[1]) for count in counts if count.startswith("rchar"))
+
+
+def full_at_once(programs: Programs) -> Outcome:
+    """Two flushes of new pairs, which leave nothing dead, do not fit. The log is read once, and nothing is cleaned."""
+    with new_folder() as folder:
+        path = Path(folder) / "file"
+        dialog = Dialog(programs.store, "--disk", path, "--create", "--clean-when-full", *SMALL_STORE[:-1], "--segments=64")
+        dialog.send(b"".join(b"put key_%06d 0123456789abcdef\n" % number for number in range(200)) + b"flush\n")
+        answers = [dialog.read_line() for _ in range(201)]
+        before, length = bytes_read(dialog), path.stat().st_size
+        dialog.send(b"".join(b"put new_%06d 0123456789abcdef\n" % number for number in range(200)) + b"get key_000000\ngo\n")
+        answers += [dialog.read_line() for _ in range(201)]
+        dialog.send(b"flush\n")
+        line = dialog.read_line()
+        read = bytes_read(dialog) - before  # of a process that has ended, and that nobody has waited for
+        ended = dialog.finish()
+        is_right = answers[200] == b"flushed 2\n" and (line, ended) == (b"", (4, b"", b"fault 10 Full\n")) and read < 2 * length
+        return Outcome(None if is_right else f"{answers[200]!r}, then {line!r}, {ended}, and {read} bytes read in a log of {length}")
+
+
+def live_for_ever(programs: Programs, kind: str) -> Outcome:
+    """A queue of 500 pairs, 50 in and 50 out a flush, in 320 KB."""
+    words: Command = [programs.store, *LONG_QUEUE, *kind.split(), "--clean-when-full"]
+    lines = [b"put q%06d 1\n" % number for number in range(500)]
+    for first in range(0, 1_500 * 50, 50):
+        lines += [b"put q%06d 1\n" % (first + 500 + number) for number in range(50)] + [b"del q%06d\n" % (first + number) for number in range(50)]
+        lines.append(b"flush\n")
+    ran = run(words, b"".join(lines) + b"verify\n")
+    flushes = ran.out.count(b"flushed ")
+    is_right = not ran.status and not ran.err and flushes == 1_500 and ran.out.endswith(b" 500\n")
+    return Outcome(None if is_right else f"{flushes} flushes; {ran.describe()}")
+
+
 def cases(programs: Programs) -> list[Case]:
     return [
         Case("prints the version", print_version, (programs,)),
@@ -304,4 +358,7 @@ def cases(programs: Programs) -> list[Case]:
         Case("cleans ahead", clean_ahead, (programs,)),
         Case("reads once for a row of cleans", read_once, (programs,)),
         Case("can't clean what lives", clean_in_vain, (programs,)),
+        Case("cleans before the log is full", clean_before_full, (programs,)),
+        Case("finds at once that no cleans make room", full_at_once, (programs,)),
+        *(Case(f"keeps a queue with {kind}", live_for_ever, (programs, kind)) for kind in ("--fan=64 --chain=16", "--fan=16 --chain=4", "--fan=64 --chain=4")),
     ]

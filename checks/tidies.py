@@ -216,6 +216,59 @@ def refuse_merges(programs: Programs, library: Path) -> Outcome:
     return Outcome(None if is_right else f"{merging} in merges, {flushing} in the flush, {rest} others", measured=f"{merging} in merges")
 
 
+def fill_with_pages(programs: Programs, path: Path, in_use: int) -> int:
+    """Makes a store of 20 pairs in many pages, in 32 segments of which at least so many are in use. Returns the number of its last key."""
+    first, used = 0, 0
+    run([programs.store, "--disk", path, "--create", *SMALL[:-1], "--segments=32"])
+    while used < in_use and first < 4_000:
+        puts = b"".join(b"put q%06d 1\n" % (first + place) for place in range(20))
+        dels = b"".join(b"del q%06d\n" % (first - 20 + place) for place in range(20)) if first else b""
+        ran = run([programs.store, "--disk", path, "--stat"], puts + dels + b"flush\n")
+        used, first = int(ran.out.split(b" segments ")[-1].split()[0]), first + 20
+    return first - 1
+
+
+def compact(programs: Programs) -> Outcome:
+    """With --clean-when-full the only flush of a session compacts a store whose log is nearly full, and whose pages are nearly empty. A session without
+    the option does not, nor one that flushes nothing."""
+    with new_folder() as folder:
+        path = Path(folder) / "file"
+        last = fill_with_pages(programs, path, 30)
+        before = pages(run([programs.store, "--disk", path, "--clean-when-full"], b"flush\nverify\n").out)
+        plain = pages(run([programs.store, "--disk", path], b"verify\n").out)
+        ran = run([programs.store, "--disk", path, "--clean-when-full"], b"put q%06d 2\nflush\nscan %% * 99\n" % last)
+        after = run([programs.store, "--disk", path], b"scan % * 99\nverify\n")
+        rows = b"rows 20\n" + b"".join(b"q%06d %d\n" % (number, 1 + (number == last)) for number in range(last - 19, last + 1))
+        is_right = ran.status == 0 and ran.out.endswith(rows) and after.out.startswith(rows) and before == plain
+        is_right = is_right and before[0] > 8 * 20 // 16 + 4 * 3 and pages(after.out)[0] <= 8 * 20 // 16 + 4 * 2
+        return Outcome(None if is_right else f"{before} and {plain} pages, then {ran.describe()}, then {after.describe()}")
+
+
+def refuse_compaction(programs: Programs, library: Path) -> Outcome:
+    """Two thirds of the log are in use. A session that is refused an allocation leaves the file as it was, or byte for byte as with that allocation."""
+    with new_folder() as folder:
+        path = Path(folder) / "file"
+        command: Command = [programs.store, "--disk", path, "--clean-when-full"]
+        text = b"put q%06d 2\nflush\n" % fill_with_pages(programs, path, 22)
+        before = path.read_bytes()
+        counts = pages(run([programs.store, "--disk", path], b"verify\n").out)
+        ran = run(command, text)
+        after = path.read_bytes()
+        counts += pages(run([programs.store, "--disk", path], b"verify\n").out)
+        is_right = ran.status == 0 and ran.out.startswith(b"replaced\nflushed ") and counts[0] > 8 * 20 // 16 + 4 * 3 >= counts[1] + 4
+        if not is_right:
+            return Outcome(f"{counts} pages, and {ran.describe()}")
+
+        def prepare() -> None:
+            path.write_bytes(before)
+
+        def wrong_run(refused: subprocess.CompletedProcess[bytes]) -> str | None:
+            is_known = path.read_bytes() in (before, after)
+            return wrong_session(refused, ran.out, NO_MEMORY.__eq__) or (None if is_known else "the file holds other bytes")
+
+        return refuse_each(command, library, 1, 1, 60, text, wrong_run, prepare)
+
+
 def cases(programs: Programs, library: Path) -> list[Case]:
     command: Command = [programs.store, *QUEUE, "--tidy=99"]
     refusals = [
@@ -232,6 +285,8 @@ def cases(programs: Programs, library: Path) -> list[Case]:
         Case("keeps a queue small", keep_small, (programs,)),
         Case("reaches the disk with a session's only flush", flush_merged, (programs,)),
         Case("a flush in each session", flush_once_each, (programs,)),
+        Case("compacts a store whose log is nearly full", compact, (programs,)),
+        Case("an allocation refused in compaction", refuse_compaction, (programs, library)),
         Case("tidies a full log", clean_often, (programs,)),
         Case("what ends a session that tidies", stops, (programs,)),
         Case("a pipe that is closed", close_pipe, (programs,)),

@@ -13,13 +13,12 @@ use Rattle.mapping.specs.Tree.{Store, with_tree}
 use Rattle.flush_log.specs.AfterFlush.{after_text, of_version_two, unless_upgraded, flush_commit, file_after, store_after, is_spent}
 use Rattle.flush_log.specs.FlushText.{flush_text, upgrade_text, flushed}
 use Rattle.flush_log.specs.Layout.{is_full_for_flush}
-use Rattle.engine.specs.Batches.{tree_in_turn}
 use Rattle.engine.specs.Steps.{Step, Answer, Stepped, unless_refused, after_step, batching}
 use Rattle.bwsh.specs.declared.batch_file.Order.{Order}
 use Rattle.bwsh.specs.declared.batch_file.Order.TheVariants.{Batch, Flush, Clean, Upgrade, Verify, Numbers}
 use Rattle.bwsh.specs.declared.session.SessionError.TheVariants as errors
 use Rattle.bwsh.specs.BatchFile.{IsNoClean}
-use Rattle.bwsh.specs.Session.{Stored, Seen, Reads, Batches, later, AreLeft, AreTidiedAlike, if_it_holds, tidied_before, step_in, left_by, refused_by, left_by_step, refusal_of_step, after_order, refusal_of, map_after, own_lines, answer_lines, accepted, first_refusal, orders_end, stopped_by}
+use Rattle.bwsh.specs.Session.{Stored, Seen, Reads, Tidying, later, AreLeft, AreTidiedAlike, tidied_before, tidied_tree, step_in, left_by, refused_by, left_by_step, refusal_of_step, after_order, refusal_of, map_after, own_lines, answer_lines, accepted, first_refusal, orders_end, stopped_by}
 use Rattle.bwsh.specs.Shown.{shown_flushed, shown_cleaned, shown_upgraded}
 use Rattle.bwsh.proofs.RunLemmas.{of_flush, of_upgrade, answering, committed_unless}
 
@@ -54,9 +53,8 @@ upgrade-same One settings st f g text = text-same of_upgrade settings st f g tex
 upgrade-same Two settings st f g text = refl
 
 -- what is tidied before an order is the same store, whatever the bytes, and these stay
-tidied-same : (order : Order) (settings : Settings) (batches : Batches) (st : Store) → (now : Store) × ((file : List ℕ) → tidied_before order settings batches (st, file) ≡ (now, file))
-tidied-same Flush settings [] st = (st, λ file. refl)
-tidied-same Flush settings (x ∷ xs) st = (with_tree st (if_it_holds (tree_in_turn settings st.tree (x ∷ xs)) st.tree), λ file. refl)
+tidied-same : (order : Order) (settings : Settings) (batches : Tidying) (st : Store) → (now : Store) × ((file : List ℕ) → tidied_before order settings batches (st, file) ≡ (now, file))
+tidied-same Flush settings batches st = (with_tree st (tidied_tree settings batches st.tree), λ file. refl)
 tidied-same (Batch cs) settings batches st = (st, λ file. refl)
 tidied-same Clean settings batches st = (st, λ file. refl)
 tidied-same Upgrade settings batches st = (st, λ file. refl)
@@ -110,7 +108,7 @@ module _ (settings : Settings) (st : Store) (f g : Seen) where
   unfolding after_order refusal_of
   after_order-same alike order only =
       let (now, are) = tidied-same order settings g.tidying st in
-      let before : tidied_before order settings f.tidying (st, f.bytes) ≡ (now, f.bytes) = ap (λ (t : Batches). tidied_before order settings t (st, f.bytes)) alike ∙ are f.bytes in (
+      let before : tidied_before order settings f.tidying (st, f.bytes) ≡ (now, f.bytes) = ap (λ (t : Tidying). tidied_before order settings t (st, f.bytes)) alike ∙ are f.bytes in (
         ap (λ (at : Stored). (left_by_step settings at (step_in order)).0) before ∙ stored-same settings now f.bytes g.bytes order only
             ∙ ap (λ (at : Stored). (left_by_step settings at (step_in order)).0) (sym (are g.bytes)),
         ap (λ (at : Stored). refusal_of_step settings at (step_in order)) before ∙ refusal-same settings now f.bytes g.bytes order only
@@ -174,16 +172,17 @@ module _ (settings : Settings) where
       (same, refused, alike-without_cleans (after_order settings st (shown 0) order).0 (later shown) (later other) (λ i. alike (suc i)) rest only.1)
 
   -- and where the disk shows what was left
-  pub seen_is : (a b : Seen) → a.bytes ≡ b.bytes → a.tidying ≡ b.tidying → a ≡ b
-  seen_is a b bytes alike =
-      ap (λ (x : List ℕ). (let s : Seen = record { bytes = x; tidying = a.tidying } in s)) bytes
-      ∙ ap (λ (t : Batches). (let s : Seen = record { bytes = b.bytes; tidying = t } in s)) alike
+  pub seen_is : (a b : Seen) → a.bytes ≡ b.bytes → a.ahead ≡ b.ahead → a.tidying ≡ b.tidying → a ≡ b
+  seen_is a b bytes ahead alike =
+      ap (λ (x : List ℕ). (let s : Seen = record { bytes = x; ahead = a.ahead; tidying = a.tidying } in s)) bytes
+      ∙ ap (λ (x : List ℕ). (let s : Seen = record { bytes = b.bytes; ahead = x; tidying = a.tidying } in s)) ahead
+      ∙ ap (λ (t : Tidying). (let s : Seen = record { bytes = b.bytes; ahead = b.ahead; tidying = t } in s)) alike
 
   alike-left : (st : Store) (file : List ℕ) (shown other : Reads) → AreTidiedAlike shown other → (orders : List Order) → AreLeft settings st file shown orders
       → AreLeft settings st file other orders → AreAlike st shown other orders
   alike-left st file shown other alike [] p q = tt
   alike-left st file shown other alike (order ∷ rest) (first, p) (first_too, q) =
-      let seen : shown 0 ≡ other 0 = seen_is (shown 0) (other 0) (first ∙ sym first_too) (alike 0) in
+      let seen : shown 0 ≡ other 0 = seen_is (shown 0) (other 0) (first.0 ∙ sym first_too.0) (first.1 ∙ sym first_too.1) (alike 0) in
       let same = ap (λ (f : Seen). after_order settings st f order) seen in
       let at : Stored = after_order settings st (shown 0) order in
       let here = subst (λ (a : Stored). AreLeft settings a.0 a.1 (later other) rest) (sym same) q in (

@@ -27,7 +27,7 @@ use Rattle.bwsh.specs.declared.session.SessionError.{SessionError}
 use Rattle.bwsh.specs.declared.session.SessionError.TheVariants.{Words, Bad, Device}
 use Rattle.bwsh.specs.declared.session.SessionError.TheVariants as errors
 use Rattle.bwsh.specs.BatchFile.{parse_text, first_bad, orders_of, with_numbers}
-use Rattle.bwsh.specs.Session.{status_of_end, Reads, later, Start, IsStart, IsStartBy, IsShown, IsUncopied, IsEndAfter, map_left, map_left_from, start_for_copy, start_unless_bad, AreLeft, AreLeftFrom, AreUntidied, untidied, new_start, found_start, refusal_of, after_order, map_after, own_lines, answer_lines, printed, printed_by, accepted, orders_end, first_refusal, stopped_by, end_after, lines_after, run_by, run_from, run_of, bad_line_error, end_streamed, session_orders, session_end, session_lines, version_text, IsReadError, IsUnopened, IsHonestStore, Opens, IsForWords, BeginsWith, Prints, PrintsOneText, Runs, RunsOn, RunsFrom, stream_end, stream_lines, stream_orders, Answers, IsAnswered, Streams, EndsBy}
+use Rattle.bwsh.specs.Session.{status_of_end, Reads, later, Start, IsStart, IsStartBy, IsShown, IsUncopied, IsEndAfter, map_left, map_left_from, start_for_copy, start_unless_bad, AreLeft, AreLeftFrom, AreUntidied, no_tidying, untidied, new_start, found_start, refusal_of, after_order, map_after, own_lines, answer_lines, printed, printed_by, accepted, orders_end, first_refusal, stopped_by, end_after, lines_after, run_by, run_from, run_of, bad_line_error, end_streamed, session_orders, session_end, session_lines, version_text, IsReadError, IsUnopened, IsHonestStore, Opens, IsForWords, BeginsWith, Prints, PrintsOneText, Runs, RunsOn, RunsFrom, stream_end, stream_lines, stream_orders, Answers, IsAnswered, Streams, EndsBy}
 use Rattle.bwsh.specs.declared.options.asked.Mode.{Mode}
 use Rattle.bwsh.specs.Options.{Request, AsksFor, AsksForText, AsksToExplain, AsksToStream, AreRefused, copy_of, is_refusal, IsRightKind, request_of}
 use Rattle.bwsh.specs.declared.options.asked.Options.{Options}
@@ -47,7 +47,7 @@ IsReadError-of_fault bad early (inr e) = rw e tt
 
 -- some reads show what was left from this start, and nothing is tidied
 pub leave_from : (cleans : Bool) (start : Start) (orders : List Order) → (shown : Reads) × AreUntidied shown × AreLeftFrom start shown (run_from cleans start shown orders)
-leave_from cleans (Ok p) orders = leave cleans p.0 orders [] p.1.0 p.1.1
+leave_from cleans (Ok p) orders = leave cleans p.0 orders no_tidying p.1.0 p.1.1
 leave_from cleans (Err fault) orders = (λ i. untidied [], λ i. refl, tt)
 
 -- nothing is printed, for want of memory or since a device failed

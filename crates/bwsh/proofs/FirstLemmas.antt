@@ -14,33 +14,33 @@ use Rattle.bwsh.specs.declared.session.SessionError.TheVariants.{Device}
 use Rattle.bwsh.specs.declared.session.SessionError.TheVariants as errors
 use Rattle.bwsh.specs.BatchFile.{IsNoClean, is_flush}
 use Rattle.bwsh.specs.declared.options.asked.Mode.{Mode}
-use Rattle.bwsh.specs.Session.{Stored, Seen, Reads, Batches, AreLeft, AreSeen, AreUntidied, TidiesBy, after_order, flush_with_room, left_by_step, refusal_of, refusal_of_step, row_after, run_of, step_in, untidied, wants_clean, with_cleans, Runs, RunsFirst, RunsOn, RunsOrder}
+use Rattle.bwsh.specs.Session.{Stored, Seen, Reads, Tidying, AreLeft, AreSeen, IsAsked, TidiesBy, after_order, flush_with_room, left_by_step, no_tidying, refusal_of, refusal_of_step, row_after, run_of, step_in, untidied, wants_clean, with_cleans, Runs, RunsFirst, RunsOn, RunsOrder}
 use Rattle.bwsh.specs.Shown.{shown_cleaned}
 use Rattle.bwsh.proofs.Prints.{Prints-asked, Prints-device, Prints-kept}
-use Rattle.bwsh.proofs.RunLemmas.{AreLeft-left_shown, AreTidiedBy, AreTidiedBy-first, AreTidiedBy-left_shown, AreTidiedOnce-alike, IsCut, LeavesStored-alike, Runs-alike, Runs-cut, Runs-show_call, Runs-none, Runs-stops, TidiesBy-none, first_shown, left_shown, seen_with}
+use Rattle.bwsh.proofs.RunLemmas.{AreLeft-left_shown, AreTidiedBy, AreTidiedBy-first, AreTidiedBy-left_shown, AreTidiedOnce-alike, IsCut, LeavesStored-alike, Runs-alike, Runs-cut, Runs-show_call, Runs-none, Runs-stops, TidiesBy-none, as_asked, first_shown, left_shown, no_tidying_asked, seen_with}
 
 -- ---- there are reads that show what is left
 
 -- whatever the store and the bytes, some reads show what was left before each of these orders, which depend on them, and the stores are tidied by any batches that are asked for
 abbrev pub Leavable : Settings → (Store → Reads → List Order) → Type 0
-Leavable settings next = (batches : Batches) (now : Store) (file : List ℕ) → (shown : Reads) × AreTidiedBy batches shown × AreLeft settings now file shown (next now shown)
+Leavable settings next = (batches : Tidying) (now : Store) (file : List ℕ) → (shown : Reads) × AreTidiedBy batches shown × AreLeft settings now file shown (next now shown)
 
-pub leave_one : (settings : Settings) (next : Store → Reads → List Order) → Leavable settings next → (batches : Batches) (st : Store) (file : List ℕ) (order : Order)
+pub leave_one : (settings : Settings) (next : Store → Reads → List Order) → Leavable settings next → (batches : Tidying) (st : Store) (file : List ℕ) (order : Order)
     → (shown : Reads) × AreTidiedBy batches shown
     × AreLeft settings st file (first_shown (seen_with batches file) shown) (order ∷ next (after_order settings st (seen_with batches file) order).0 shown)
 leave_one settings next leavable batches st file order =
     let at : Stored = after_order settings st (seen_with batches file) order in
     let (shown, all, are) = leavable batches at.0 at.1 in
-    (shown, all, (refl, are))
+    (shown, all, ((refl, refl), are))
 
 pub leave_flush : (settings : Settings) (next : Store → Reads → List Order) → Leavable settings next → (most row : ℕ)
     → Leavable settings (λ now shown. flush_with_room most row settings now shown next)
 leave_flush settings next leavable zero row batches now file =
     let (shown, all, are) = leave_one settings next leavable batches now file Flush in (first_shown (seen_with batches file) shown, AreTidiedBy-first batches file shown all, are)
 leave_flush settings next leavable (suc most) row batches now file =
-    go (wants_clean row settings now (seen_with batches file)) refl (leave_flush settings next leavable most (row_after row settings))
+    go (wants_clean (suc most) row settings now (seen_with batches file)) refl (leave_flush settings next leavable most (row_after row settings))
   where
-    go : (b : Bool) → wants_clean row settings now (seen_with batches file) ≡ b → Leavable settings (λ st shown. flush_with_room most (row_after row settings) settings st shown next)
+    go : (b : Bool) → wants_clean (suc most) row settings now (seen_with batches file) ≡ b → Leavable settings (λ st shown. flush_with_room most (row_after row settings) settings st shown next)
         → (shown : Reads) × AreTidiedBy batches shown × AreLeft settings now file shown (flush_with_room (suc most) row settings now shown next)
     go true is later_on =
         let (shown, all, are) = leave_one settings (λ st after. flush_with_room most (row_after row settings) settings st after next) later_on batches now file Clean in
@@ -76,44 +76,44 @@ leave false settings orders batches now file =
 -- ---- orders that depend on the reads
 
 -- what these orders print, and how they end, is right but for memory and devices, where something is seen at each that can be, at the first with these batches
-abbrev pub RunsBy : Batches → Mode → Bool → Settings → Store → List ℕ → (Reads → List Order) → Option (List ℕ) → Option (List ℕ) → Result (Unit {0}) SessionError → Type 0
+abbrev pub RunsBy : Tidying → Mode → Bool → Settings → Store → List ℕ → (Reads → List Order) → Option (List ℕ) → Option (List ℕ) → Result (Unit {0}) SessionError → Type 0
 RunsBy batches mode honest settings st left orders old new end =
     (shown : Reads) × ((shown 0).tidying ≡ batches) × AreSeen mode honest settings st left shown (orders shown) × Runs settings st shown (orders shown) old new end
 
--- a store is tidied only where that is asked for, at the first order and later
-pub asked_first : (mode : Mode) (seen : Seen) (shown : Reads) → (mode.tidy ≡ 0 → seen.tidying ≡ []) → (mode.tidy ≡ 0 → AreUntidied shown) → mode.tidy ≡ 0 → AreUntidied (first_shown seen shown)
-asked_first mode seen shown first further off zero = first off
-asked_first mode seen shown first further off (suc i) = further off i
+-- a store is tidied only as it is asked for, at the first order and later
+pub asked_first : (mode : Mode) (seen : Seen) (shown : Reads) → IsAsked mode seen.tidying → ((i : ℕ) → IsAsked mode (shown i).tidying) → (i : ℕ) → IsAsked mode (first_shown seen shown i).tidying
+asked_first mode seen shown first further zero = first
+asked_first mode seen shown first further (suc i) = further i
 
 -- and once for each flush
-pub tidies_first : (mode : Mode) (seen : Seen) (shown : Reads) (order : Order) (rest : List Order) → (mode.tidy ≡ 0 → seen.tidying ≡ []) → IsNoClean order ⊎ (seen.tidying ≡ (shown 0).tidying)
+pub tidies_first : (mode : Mode) (seen : Seen) (shown : Reads) (order : Order) (rest : List Order) → IsAsked mode seen.tidying → IsNoClean order ⊎ (seen.tidying ≡ (shown 0).tidying)
     → TidiesBy mode shown rest → TidiesBy mode (first_shown seen shown) (order ∷ rest)
 tidies_first mode seen shown order rest first once further = (asked_first mode seen shown first further.0, (once, further.1))
 
 -- what is seen at the first order is seen at the one before it
-on_next : (order : Order) (seen next : Seen) (batches : Batches) → next.tidying ≡ batches → IsNoClean order ⊎ (seen.tidying ≡ batches) → IsNoClean order ⊎ (seen.tidying ≡ next.tidying)
+on_next : (order : Order) (seen next : Seen) (batches : Tidying) → next.tidying ≡ batches → IsNoClean order ⊎ (seen.tidying ≡ batches) → IsNoClean order ⊎ (seen.tidying ≡ next.tidying)
 on_next order seen next batches is (inl other) = inl other
 on_next order seen next batches is (inr same) = inr (same ∙ sym is)
 
 -- they end before anything of them is done
-pub RunsBy-cut : (batches : Batches) (mode : Mode) → (mode.tidy ≡ 0 → batches ≡ []) → (honest : Bool) (settings : Settings) (st : Store) (left : List ℕ) (next : Store → Reads → List Order)
+pub RunsBy-cut : (batches : Tidying) (mode : Mode) → IsAsked mode batches → (honest : Bool) (settings : Settings) (st : Store) (left : List ℕ) (next : Store → Reads → List Order)
     → Leavable settings next → (old new : Option (List ℕ)) → Appends old new [] → (early : SessionError) → IsCut early → RunsBy batches mode honest settings st left (next st) old new (Err early)
 RunsBy-cut batches mode unasked honest settings st left next leavable old new none early cut =
     let (shown, all, are) = leavable batches st left in (
       shown,
       all 0,
-      ((λ off i. all i ∙ unasked off, AreTidiedOnce-alike batches shown (next st shown) all), λ h. are),
+      ((λ i. as_asked mode unasked (all i), AreTidiedOnce-alike batches shown (next st shown) all), λ h. are),
       Runs-cut settings st shown (next st shown) old new none early cut,
     )
 
 -- nothing was appended before they are run
-pub RunsBy-asked : (batches : Batches) (mode : Mode) (honest : Bool) (settings : Settings) (st : Store) (left : List ℕ) (orders : Reads → List Order) (old mid new : Option (List ℕ)) → Appends old mid []
+pub RunsBy-asked : (batches : Tidying) (mode : Mode) (honest : Bool) (settings : Settings) (st : Store) (left : List ℕ) (orders : Reads → List Order) (old mid new : Option (List ℕ)) → Appends old mid []
     → (end : Result (Unit {0}) SessionError) → RunsBy batches mode honest settings st left orders mid new end → RunsBy batches mode honest settings st left orders old new end
 unfolding Runs
 RunsBy-asked batches mode honest settings st left orders old mid new none end (shown, first, are, p) = (shown, first, are, Prints-asked old mid new none _ _ end p)
 
 -- they are the same orders as those, where these batches are seen at the first
-pub RunsBy-alike : (batches : Batches) (mode : Mode) (honest : Bool) (settings : Settings) (st : Store) (left : List ℕ) (orders others : Reads → List Order)
+pub RunsBy-alike : (batches : Tidying) (mode : Mode) (honest : Bool) (settings : Settings) (st : Store) (left : List ℕ) (orders others : Reads → List Order)
     → ((shown : Reads) → (shown 0).tidying ≡ batches → orders shown ≡ others shown) → (old new : Option (List ℕ)) (end : Result (Unit {0}) SessionError)
     → RunsBy batches mode honest settings st left others old new end → RunsBy batches mode honest settings st left orders old new end
 RunsBy-alike batches mode honest settings st left orders others same old new end (shown, first, are, runs) = (
@@ -134,7 +134,7 @@ module _ (mode : Mode) (honest : Bool) (settings : Settings) (st : Store) (left 
   RunsBy-stops all next leavable early (file, is, runs, none) heads =
       let at : Stored = after_order settings st file order in
       let (shown, alike, are) = leavable file.tidying at.0 at.1 in
-      let tidies : TidiesBy mode shown (next at.0 shown) = (λ off i. alike i ∙ is.0 off, AreTidiedOnce-alike file.tidying shown (next at.0 shown) alike) in (
+      let tidies : TidiesBy mode shown (next at.0 shown) = (λ i. as_asked mode is.0 (alike i), AreTidiedOnce-alike file.tidying shown (next at.0 shown) alike) in (
         first_shown file shown,
         refl,
         (
@@ -147,7 +147,7 @@ module _ (mode : Mode) (honest : Bool) (settings : Settings) (st : Store) (left 
 
   -- all of it is done: what is next goes on with what it leaves, after a clean with the same batches
   pub RunsBy-show_call : (all : Reads → List Order) (next : Store → Reads → List Order) (done : Unit {0}) → (one : RunsOrder mode honest settings st left order old new (Ok done) now bytes)
-      → Heads one.0 all next → (batches : Batches) → IsNoClean order ⊎ (one.0.tidying ≡ batches) → (last : Option (List ℕ)) (end : Result (Unit {0}) SessionError)
+      → Heads one.0 all next → (batches : Tidying) → IsNoClean order ⊎ (one.0.tidying ≡ batches) → (last : Option (List ℕ)) (end : Result (Unit {0}) SessionError)
       → RunsBy batches mode honest settings now bytes (next now) new last end → RunsBy one.0.tidying mode honest settings st left all old last end
   RunsBy-show_call all next done (file, is, runs, leaves) heads batches once last end (shown, first, are, further_on) =
       let at : Stored = after_order settings st file order in
@@ -168,18 +168,18 @@ module _ (mode : Mode) (honest : Bool) (settings : Settings) (st : Store) (left 
       )
 
 -- without the batches at the first
-RunsOn-by : (batches : Batches) (mode : Mode) (honest : Bool) (settings : Settings) (st : Store) (left : List ℕ) (orders : List Order) (old new : Option (List ℕ)) (end : Result (Unit {0}) SessionError)
+RunsOn-by : (batches : Tidying) (mode : Mode) (honest : Bool) (settings : Settings) (st : Store) (left : List ℕ) (orders : List Order) (old new : Option (List ℕ)) (end : Result (Unit {0}) SessionError)
     → RunsBy batches mode honest settings st left (λ shown. run_of mode.clean_when_full settings st shown orders) old new end → RunsOn mode honest settings st left orders old new end
 RunsOn-by batches mode honest settings st left orders old new end (shown, first, are, p) = (shown, are, p)
 
--- and with those that are seen there
+-- and with what is seen of it there
 pub RunsOn-with : (mode : Mode) (honest : Bool) (settings : Settings) (st : Store) (left : List ℕ) (orders : List Order) (old new : Option (List ℕ)) (end : Result (Unit {0}) SessionError)
-    → RunsOn mode honest settings st left orders old new end → (batches : Batches) × RunsBy batches mode honest settings st left (λ shown. run_of mode.clean_when_full settings st shown orders) old new end
+    → RunsOn mode honest settings st left orders old new end → (batches : Tidying) × RunsBy batches mode honest settings st left (λ shown. run_of mode.clean_when_full settings st shown orders) old new end
 RunsOn-with mode honest settings st left orders old new end (shown, are, p) = ((shown 0).tidying, (shown, refl, are, p))
 
 -- ---- what is seen at a clean
 
--- a clean does the same whichever batches are seen at it
+-- a clean does the same however the store is tidied after it
 clean_alike : (settings : Settings) (st : Store) (f g : Seen) → f.bytes ≡ g.bytes
     → (after_order settings st f Clean ≡ after_order settings st g Clean) × (refusal_of settings st f Clean ≡ refusal_of settings st g Clean)
 unfolding after_order refusal_of
@@ -187,11 +187,11 @@ clean_alike settings st f g same =
     (ap (λ (file : List ℕ). left_by_step settings (st, file) (step_in Clean)) same, ap (λ (file : List ℕ). refusal_of_step settings (st, file) (step_in Clean)) same)
 
 module _ (mode : Mode) (honest : Bool) (settings : Settings) (st : Store) (left : List ℕ) (old new : Option (List ℕ)) (end : Result (Unit {0}) SessionError) (now : Store) (bytes : List ℕ)
-    (batches : Batches) (unasked : mode.tidy ≡ 0 → batches ≡ []) where
-  -- so these can be seen
+    (batches : Tidying) (unasked : IsAsked mode batches) where
+  -- so this can be seen
   pub clean_with : RunsOrder mode honest settings st left Clean old new end now bytes → (one : RunsOrder mode honest settings st left Clean old new end now bytes) × (one.0.tidying ≡ batches)
   clean_with (seen, is, runs, leaves) =
-      let too : Seen = seen_with batches seen.bytes in
+      let too : Seen = record seen { tidying = batches } in
       let (after, refused) = clean_alike settings st too seen refl in (
         (
           too,
@@ -234,8 +234,8 @@ module _ (mode : Mode) (honest : Bool) (settings : Settings) where
       → RunsOrder mode honest settings st left order old new (Ok done) now bytes → (rest : List Order) (last : Option (List ℕ)) (end : Result (Unit {0}) SessionError)
       → RunsOn mode honest settings now bytes rest new last end → RunsOn mode honest settings st left (order ∷ rest) old last end
   one_done st left order old new done now bytes makes one rest last end (shown, are, p) =
-      let batches : Batches = (shown 0).tidying in
-      let (two, once) = order_with mode honest settings st left old new (Ok done) now bytes batches (λ off. are.0.0 off 0) order one in
+      let batches : Tidying = (shown 0).tidying in
+      let (two, once) = order_with mode honest settings st left old new (Ok done) now bytes batches (are.0.0 0) order one in
       RunsOn-by two.0.tidying mode honest settings st left (order ∷ rest) old last end
       (RunsBy-show_call mode honest settings st left order old new now bytes (λ shown. run_of mode.clean_when_full settings st shown (order ∷ rest)) (λ s shown. run_of mode.clean_when_full settings s shown rest)
       done two (heads_of mode.clean_when_full settings st two.0 order rest makes) batches once last end (shown, refl, are, p))
@@ -256,8 +256,8 @@ module _ (mode : Mode) (honest : Bool) (settings : Settings) where
   -- any orders end before anything of them is done
   pub RunsOn-cut : (st : Store) (left : List ℕ) (orders : List Order) (old : Option (List ℕ)) (early : SessionError) → IsCut early → RunsOn mode honest settings st left orders old old (Err early)
   RunsOn-cut st left orders old early cut =
-      RunsOn-by [] mode honest settings st left orders old old (Err early)
-      (RunsBy-cut [] mode (λ off. refl) honest settings st left (λ s shown. run_of mode.clean_when_full settings s shown orders) (leave mode.clean_when_full settings orders) old old (Appends-nil old) early cut)
+      RunsOn-by no_tidying mode honest settings st left orders old old (Err early)
+      (RunsBy-cut no_tidying mode (no_tidying_asked mode) honest settings st left (λ s shown. run_of mode.clean_when_full settings s shown orders) (leave mode.clean_when_full settings orders) old old (Appends-nil old) early cut)
 
   pub RunsFirst-cut : (st : Store) (left : List ℕ) (orders : List Order) (old : Option (List ℕ)) (early : SessionError) (now : Store) (bytes : List ℕ) → IsCut early
       → RunsFirst mode honest settings st left orders old old (Err early) now bytes

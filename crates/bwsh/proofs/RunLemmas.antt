@@ -39,7 +39,7 @@ use Rattle.bwsh.specs.declared.show.StoreNumbers.{StoreNumbers}
 use Rattle.bwsh.specs.declared.session.SessionError.{SessionError}
 use Rattle.bwsh.specs.declared.session.SessionError.TheVariants as errors
 use Rattle.bwsh.specs.declared.options.asked.Mode.{Mode}
-use Rattle.bwsh.specs.Session.{Stored, Seen, Reads, Batches, AreLeft, AreTidiedOnce, AreUntidied, TidiesBy, later, untidied, step_in, left_by, refused_by, left_by_step, refusal_of_step, refusal_of, tidied_before, after_order, map_after, map_left, own_lines, answer_lines, accepted, orders_end, numbers_of, Prints, Runs, RunsOrder, LeavesStored}
+use Rattle.bwsh.specs.Session.{Stored, Seen, Reads, Tidying, AreLeft, AreTidiedOnce, AreUntidied, IsAsked, IsSeen, TidiesBy, later, no_tidying, untidied, step_in, left_by, refused_by, left_by_step, refusal_of_step, refusal_of, tidied_before, after_order, map_after, map_left, own_lines, answer_lines, accepted, orders_end, numbers_of, Prints, Runs, RunsOrder, LeavesStored}
 use Rattle.bwsh.specs.Shown.{shown_flushed, shown_cleaned, shown_upgraded, shown_report, shown_numbers, shown_answer}
 use Rattle.bwsh.proofs.Prints.{Prints-all, Prints-after_order, Prints-early}
 use Rattle.bwsh.proofs.StoreLemmas.{IsEndingOf}
@@ -158,48 +158,63 @@ LeavesStored-alike honest settings a b f g order refused after held now bytes le
 
 -- ---- what the disk shows is what was left
 
--- a read gives these bytes, and the store is tidied by these batches
-abbrev pub seen_with : Batches → List ℕ → Seen
-seen_with batches file = record { bytes = file; tidying = batches }
+-- reads give these bytes, and the store is tidied so
+abbrev pub seen_with : Tidying → List ℕ → Seen
+seen_with batches file = record { bytes = file; ahead = file; tidying = batches }
 
--- all stores are tidied by these batches
-abbrev pub AreTidiedBy : Batches → Reads → Type 0
+-- all stores are tidied so
+abbrev pub AreTidiedBy : Tidying → Reads → Type 0
 AreTidiedBy batches shown = (i : ℕ) → (shown i).tidying ≡ batches
 
 -- what orders leave that begin with these bytes, before each of them
-abbrev pub left_shown : Batches → Settings → Store → List ℕ → List Order → Reads
+abbrev pub left_shown : Tidying → Settings → Store → List ℕ → List Order → Reads
 left_shown batches settings st file [] = λ i. seen_with batches file
 left_shown batches settings st file (order ∷ rest) =
     let left : Stored = after_order settings st (seen_with batches file) order in first_shown (seen_with batches file) (left_shown batches settings left.0 left.1 rest)
 
-pub AreLeft-left_shown : (batches : Batches) (settings : Settings) (st : Store) (file : List ℕ) (orders : List Order) → AreLeft settings st file (left_shown batches settings st file orders) orders
+pub AreLeft-left_shown : (batches : Tidying) (settings : Settings) (st : Store) (file : List ℕ) (orders : List Order) → AreLeft settings st file (left_shown batches settings st file orders) orders
 AreLeft-left_shown batches settings st file [] = tt
 AreLeft-left_shown batches settings st file (order ∷ rest) =
-    let left : Stored = after_order settings st (seen_with batches file) order in (refl, AreLeft-left_shown batches settings left.0 left.1 rest)
+    let left : Stored = after_order settings st (seen_with batches file) order in ((refl, refl), AreLeft-left_shown batches settings left.0 left.1 rest)
 
 -- the stores are tidied so at the first order and later
-pub AreTidiedBy-first : (batches : Batches) (file : List ℕ) (shown : Reads) → AreTidiedBy batches shown → AreTidiedBy batches (first_shown (seen_with batches file) shown)
+pub AreTidiedBy-first : (batches : Tidying) (file : List ℕ) (shown : Reads) → AreTidiedBy batches shown → AreTidiedBy batches (first_shown (seen_with batches file) shown)
 AreTidiedBy-first batches file shown all zero = refl
 AreTidiedBy-first batches file shown all (suc i) = all i
 
-pub AreTidiedBy-left_shown : (batches : Batches) (settings : Settings) (st : Store) (file : List ℕ) (orders : List Order) → AreTidiedBy batches (left_shown batches settings st file orders)
+pub AreTidiedBy-left_shown : (batches : Tidying) (settings : Settings) (st : Store) (file : List ℕ) (orders : List Order) → AreTidiedBy batches (left_shown batches settings st file orders)
 AreTidiedBy-left_shown batches settings st file [] = λ i. refl
 AreTidiedBy-left_shown batches settings st file (order ∷ rest) =
     let left : Stored = after_order settings st (seen_with batches file) order in
     AreTidiedBy-first batches file (left_shown batches settings left.0 left.1 rest) (AreTidiedBy-left_shown batches settings left.0 left.1 rest)
 
 -- so they are tidied once for each flush
-pub AreTidiedOnce-alike : (batches : Batches) (shown : Reads) (orders : List Order) → AreTidiedBy batches shown → AreTidiedOnce shown orders
+pub AreTidiedOnce-alike : (batches : Tidying) (shown : Reads) (orders : List Order) → AreTidiedBy batches shown → AreTidiedOnce shown orders
 AreTidiedOnce-alike batches shown [] all = tt
 AreTidiedOnce-alike batches shown (order ∷ rest) all =
     (inr (all zero ∙ sym (all (suc zero))), AreTidiedOnce-alike batches (later shown) rest (λ i. all (suc i)))
 
+-- no tidying is asked for in any way
+pub no_tidying_asked : (mode : Mode) → IsAsked mode no_tidying
+no_tidying_asked mode = (λ off. refl, λ off. refl)
+
+-- the same way is asked for
+pub as_asked : (mode : Mode) {a b : Tidying} → IsAsked mode b → a ≡ b → IsAsked mode a
+as_asked mode asked is = subst (IsAsked mode) (sym is) asked
+
 -- where no store is tidied, none is where that isn't asked for
 pub TidiesBy-none : (mode : Mode) (shown : Reads) (orders : List Order) → AreUntidied shown → TidiesBy mode shown orders
-TidiesBy-none mode shown orders none = (λ off. none, AreTidiedOnce-alike [] shown orders none)
+TidiesBy-none mode shown orders none = (λ i. as_asked mode (no_tidying_asked mode) (none i), AreTidiedOnce-alike no_tidying shown orders none)
+
+-- these bytes can be seen, where nothing is tidied, and they are what the disk shows if it is honest
+seen_left : (mode : Mode) (honest : Bool) (left file : List ℕ) → (IsTrue honest → file ≡ left) → IsSeen mode honest left (untidied file)
+seen_left mode honest left file is = (no_tidying_asked mode, λ h. (is h, is h))
+
+seen_untidied : (mode : Mode) (honest : Bool) (left : List ℕ) → IsSeen mode honest left (untidied left)
+seen_untidied mode honest left = seen_left mode honest left left (λ h. refl)
 
 -- an order before which the store is tidied by no batches does what its step does
-untidied_before : (order : Order) (settings : Settings) (at : Stored) → tidied_before order settings [] at ≡ at
+untidied_before : (order : Order) (settings : Settings) (at : Stored) → tidied_before order settings no_tidying at ≡ at
 untidied_before (Batch cs) settings at = refl
 untidied_before Flush settings at = refl
 untidied_before Clean settings at = refl
@@ -383,12 +398,12 @@ module _ (mode : Mode) (honest : Bool) (settings : Settings) (st : Store) (seen 
       → (IsTrue honest → file ≡ (let p : Played Global = plays (batching settings) settings st seen (map step_of (take place (x ∷ []))) in p.bytes))
       → IsPlayFault settings now file old new (x ∷ []) place fault → RunsOrder mode honest settings st seen order text text (Err early) now bytes
   RunsOrder-refused text said now file bytes old new place fault early below (inl device) played shown refused =
-      rw device.1 (untidied seen, (λ off. refl, λ h. refl), cut_off settings st (untidied seen) order text text refl, tt)
+      rw device.1 (untidied seen, seen_untidied mode honest seen, cut_off settings st (untidied seen) order text text refl, tt)
   RunsOrder-refused text said now file bytes old new place fault early below (inr other) played shown refused =
       let first : place ≡ 0 = omega (arith, below) in
       let none_played = subst (λ (n : ℕ). IsPlayed honest settings st seen (map step_of (take n (x ∷ []))) said now) first played in
       let of_seen = subst (λ (n : ℕ). IsTrue honest → file ≡ (let p : Played Global = plays (batching settings) settings st seen (map step_of (take n (x ∷ []))) in p.bytes)) first shown in
-      rw other.1 (untidied file, (λ off. refl, of_seen), stopped settings st (untidied file) order text text fault refl (why_by now file old new place fault first none_played.1 other.0 refused), tt)
+      rw other.1 (untidied file, seen_left mode honest seen file of_seen, stopped settings st (untidied file) order text text fault refl (why_by now file old new place fault first none_played.1 other.0 refused), tt)
 
   module _ (a : code_answer.Answer) (mid : Store) (bytes : List ℕ) (done : IsStepDone honest settings st seen (step_of x) a mid bytes) where
     abbrev outcome : Answer Global × Stored
@@ -425,7 +440,7 @@ module _ (mode : Mode) (honest : Bool) (settings : Settings) (st : Store) (seen 
           → Prints old new (flat_map shown_answer (map answer_of said)) (Ok tt) end → RunsOrder mode honest settings st seen order old new end now after
       one_answered old new end said said_is p =
           let printed = subst (λ (l : List (List ℕ)). Prints old new l (Ok tt) end) (answers_of said said_is) p in
-          (untidied done.file, (λ off. refl, done.shown), answered settings st (untidied done.file) order old new end none printed, OnOk-always end leaves)
+          (untidied done.file, seen_left mode honest seen done.file done.shown, answered settings st (untidied done.file) order old new end none printed, OnOk-always end leaves)
 
   -- it is played, and its answers are written
   pub RunsOrder-answered : PlansHold settings st → CleansKeep settings st → (said : List code_answer.Answer) (now : Store) (after : List ℕ)
@@ -512,7 +527,7 @@ Runs-cut settings st shown orders old new none early (inr e) =
 
 -- memory is refused before anything of an order is done
 pub RunsOrder-forgone : (mode : Mode) (honest : Bool) (settings : Settings) (st : Store) (seen : List ℕ) (order : Order) (old : Option (List ℕ)) → RunsOrder mode honest settings st seen order old old (Err (errors.Fault NoMemory)) st seen
-RunsOrder-forgone mode honest settings st seen order old = (untidied seen, (λ off. refl, λ h. refl), stopped settings st (untidied seen) order old old NoMemory refl (inl refl), tt)
+RunsOrder-forgone mode honest settings st seen order old = (untidied seen, seen_untidied mode honest seen, stopped settings st (untidied seen) order old old NoMemory refl (inl refl), tt)
 
 -- ---- what a verify answers
 
@@ -522,7 +537,7 @@ module _ (mode : Mode) (honest : Bool) (settings : Settings) (st : Store) (seen 
   never_refused file = refl
 
   pub RunsOrder-unverified : (old : Option (List ℕ)) (fault : Fault) → fault ≡ NoMemory → RunsOrder mode honest settings st seen order old old (Err (errors.Fault fault)) st seen
-  RunsOrder-unverified old fault e = (untidied seen, (λ off. refl, λ h. refl), stopped settings st (untidied seen) order old old fault refl (inl e), tt)
+  RunsOrder-unverified old fault e = (untidied seen, seen_untidied mode honest seen, stopped settings st (untidied seen) order old old fault refl (inl e), tt)
 
   unmoved : LeavesStored honest settings st (untidied seen) Verify st seen
   unfolding after_order refusal_of
@@ -533,7 +548,7 @@ module _ (mode : Mode) (honest : Bool) (settings : Settings) (st : Store) (seen 
   RunsOrder-verified old new end request is p =
       let printed = subst (λ (r : Report). Prints old new (shown_report r ∷ []) (Ok tt) end) is p in
       subst (λ (o : Order). RunsOrder mode honest settings st seen o old new end st seen) (sym order_is)
-      (untidied seen, (λ off. refl, λ h. refl), answered settings st (untidied seen) Verify old new end (never_refused (untidied seen)) printed, OnOk-always end unmoved)
+      (untidied seen, seen_untidied mode honest seen, answered settings st (untidied seen) Verify old new end (never_refused (untidied seen)) printed, OnOk-always end unmoved)
 
 -- ---- the numbers of the store
 
@@ -547,14 +562,14 @@ module _ (mode : Mode) (honest : Bool) (settings : Settings) (st : Store) (seen 
   still = record { unrefused = refl; store = refl; bytes = λ h. refl; holds = refl }
 
   pub RunsOrder-uncounted : (old : Option (List ℕ)) (fault : Fault) → fault ≡ NoMemory → RunsOrder mode honest settings st seen order old old (Err (errors.Fault fault)) st seen
-  RunsOrder-uncounted old fault e = (untidied seen, (λ off. refl, λ h. refl), stopped settings st (untidied seen) order old old fault refl (inl e), tt)
+  RunsOrder-uncounted old fault e = (untidied seen, seen_untidied mode honest seen, stopped settings st (untidied seen) order old old fault refl (inl e), tt)
 
   pub RunsOrder-counted : (old new : Option (List ℕ)) (end : Result (Unit {0}) SessionError) (numbers : StoreNumbers) → numbers ≡ numbers_of settings st
       → Prints old new (shown_numbers numbers ∷ []) (Ok tt) end → RunsOrder mode honest settings st seen order old new end st seen
   RunsOrder-counted old new end numbers is p =
       let printed = subst (λ (n : StoreNumbers). Prints old new (shown_numbers n ∷ []) (Ok tt) end) is p in
       subst (λ (o : Order). RunsOrder mode honest settings st seen o old new end st seen) (sym order_is)
-      (untidied seen, (λ off. refl, λ h. refl), answered settings st (untidied seen) Numbers old new end (numbers_given (untidied seen)) printed, OnOk-always end still)
+      (untidied seen, seen_untidied mode honest seen, answered settings st (untidied seen) Numbers old new end (numbers_given (untidied seen)) printed, OnOk-always end still)
 
 -- the orders from this place on
 pub orders_left : (orders : List Order) (i : ℕ) (order : Order) → i < length orders → order ≡ get_or orders i order → drop i orders ≡ order ∷ drop (i + 1) orders

@@ -1,6 +1,6 @@
 -- Lemmas on stores that are tidied before their flushes.
 use Rattle.std.proofs.Common.{◌≡◌, ◌≢◌, ◌⊎◌, inl, inr, ℕ, List, [], ◌∷◌, ◌++◌, map, Option, None, Result, Ok, Err, refl, sym, ap, ◌∙◌, subst, append_assoc}
-use Rattle.std.specs.Prelude.{Bool, true, false, ◌&&◌, if◌then◌else◌, nat_eq, OnOk}
+use Rattle.std.specs.Prelude.{Bool, true, false, not, ◌&&◌, if◌then◌else◌, nat_eq, IsTrue, OnOk}
 use Rattle.std.specs.List.{flat_map}
 use Rattle.std.specs.declared.alloc.Global.{Global}
 use Rattle.std.proofs.lemmas.Result.{on_ok_weaker}
@@ -23,6 +23,9 @@ use Rattle.recovery.specs.StoreOfDisk.{and_then, frames_in, unless_found}
 use Rattle.cleaner.specs.AfterClean.{after_carried, after_clean, after_clean_of, clean_commit}
 use Rattle.cleaner.specs.CleanText.{clean_text}
 use Rattle.engine.specs.Batches.{tree_in_turn}
+use Rattle.engine.specs.Compacted.{IsCompacted, compacted}
+use Rattle.engine.specs.Room.{is_bloated, is_two_thirds_full}
+use Rattle.engine.specs.State.{State}
 use Rattle.engine.specs.Tidied.{IsTidied}
 use Rattle.bwsh.specs.declared.batch_file.Order.{Order}
 use Rattle.bwsh.specs.declared.batch_file.Order.TheVariants.{Batch, Flush, Clean, Upgrade, Verify, Numbers}
@@ -30,10 +33,10 @@ use Rattle.bwsh.specs.declared.options.asked.Mode.{Mode}
 use Rattle.bwsh.specs.declared.session.SessionError.{SessionError}
 use Rattle.bwsh.specs.declared.session.SessionError.TheVariants as errors
 use Rattle.bwsh.specs.BatchFile.{commands_of}
-use Rattle.bwsh.specs.Session.{Batches, LeavesStored, Prints, Reads, Runs, RunsOrder, Seen, Stored, TidiesTo, answer_lines, after_order, if_it_holds, is_same_map, later, left_by, left_by_step, map_after, own_lines, refusal_of, refusal_of_step, refused_by, step_in, tidied}
+use Rattle.bwsh.specs.Session.{Batches, IsAsked, IsByBatches, LeavesStored, Prints, Reads, Runs, RunsOrder, Seen, Stored, Tidying, TidiesTo, answer_lines, after_order, by_batches, compacted_if, compacting, if_it_holds, is_same_map, later, left_by, left_by_step, map_after, no_tidying, own_lines, refusal_of, refusal_of_step, refused_by, step_in, tidied, tidied_tree, tree_of_batches}
 use Rattle.bwsh.specs.Shown.{shown_cleaned, shown_flushed, shown_reply}
 use Rattle.bwsh.proofs.Prints.{Prints-all, front-whole}
-use Rattle.bwsh.proofs.RunLemmas.{LeavesStored-alike, OnOk-always, Runs-alike, answered, answering, committed_unless, of_clean, seen_with}
+use Rattle.bwsh.proofs.RunLemmas.{LeavesStored-alike, OnOk-always, Runs-alike, answered, answering, committed_unless, of_clean}
 
 -- ---- maps
 
@@ -70,29 +73,34 @@ holds_by : (now old : Tree) (b : Bool) → is_same_map (contents now) (contents 
 holds_by now old true same = is_same_map-is (contents now) (contents old) same
 holds_by now old false same = refl
 
+holds_batches : (settings : Settings) (batches : Batches) (tree : Tree) → contents (tree_of_batches settings batches tree) ≡ contents tree
+holds_batches settings [] tree = refl
+holds_batches settings (b ∷ bs) tree = holds_by (tree_in_turn settings tree (b ∷ bs)) tree _ refl
+
+holds_if : (now old : Tree) (b : Bool) → contents now ≡ contents old → contents (if b then now else old) ≡ contents old
+holds_if now old true same = same
+holds_if now old false same = refl
+
+holds_compacted : (settings : Settings) (compacts : Bool) (tree : Tree) → contents (compacted_if compacts settings tree) ≡ contents tree
+holds_compacted settings false tree = refl
+holds_compacted settings true tree = holds_if (if_it_holds (compacted settings tree) tree) tree (is_bloated settings tree) (holds_by (compacted settings tree) tree _ refl)
+
 -- what is held stays
-pub holds-tidied : (settings : Settings) (batches : Batches) (at : Stored) → contents (tidied settings batches at).0.tree ≡ contents at.0.tree
-holds-tidied settings [] at = refl
-holds-tidied settings (b ∷ bs) at = holds_by (tree_in_turn settings at.0.tree (b ∷ bs)) at.0.tree _ refl
+pub holds-tidied : (settings : Settings) (tidying : Tidying) (at : Stored) → contents (tidied settings tidying at).0.tree ≡ contents at.0.tree
+holds-tidied settings tidying at =
+    holds_compacted settings tidying.compacts (tree_of_batches settings tidying.batches at.0.tree) ∙ holds_batches settings tidying.batches at.0.tree
 
 -- the log and the bytes stay
-pub log-tidied : (settings : Settings) (batches : Batches) (at : Stored)
-    → ((tidied settings batches at).0 ≡ with_tree at.0 (tidied settings batches at).0.tree) × ((tidied settings batches at).1 ≡ at.1)
-log-tidied settings [] at = (refl, refl)
-log-tidied settings (b ∷ bs) at = (refl, refl)
-
--- the tree that tidying leaves depends on the tree alone
-abbrev tidied_tree : Settings → Batches → Tree → Tree
-tidied_tree settings [] tree = tree
-tidied_tree settings (b ∷ bs) tree = if_it_holds (tree_in_turn settings tree (b ∷ bs)) tree
+pub log-tidied : (settings : Settings) (tidying : Tidying) (at : Stored)
+    → ((tidied settings tidying at).0 ≡ with_tree at.0 (tidied settings tidying at).0.tree) × ((tidied settings tidying at).1 ≡ at.1)
+log-tidied settings tidying at = (refl, refl)
 
 -- what is stored, with another tree
 abbrev retreed : Tree → Stored → Stored
 retreed tree at = (with_tree at.0 tree, at.1)
 
-tidied-is : (settings : Settings) (batches : Batches) (at : Stored) → tidied settings batches at ≡ retreed (tidied_tree settings batches at.0.tree) at
-tidied-is settings [] at = refl
-tidied-is settings (b ∷ bs) at = refl
+tidied-is : (settings : Settings) (batches : Tidying) (at : Stored) → tidied settings batches at ≡ retreed (tidied_tree settings batches at.0.tree) at
+tidied-is settings batches at = refl
 
 -- a tree that holds the same counts
 if_it_holds-is : (now old : Tree) → contents now ≡ contents old → if_it_holds now old ≡ now
@@ -100,18 +108,40 @@ if_it_holds-is now old same =
     let one : is_same_map (contents now) (contents old) ≡ true = ap (λ (m : Rows). is_same_map m (contents old)) same ∙ is_same_map-own (contents old) in
     ap (λ (b : Bool). if b then now else old) one
 
-tidies_by : (settings : Settings) (st now : Store) (file : List ℕ) (batches : Batches) → contents now.tree ≡ contents st.tree
-    → now ≡ with_tree st (tree_in_turn settings st.tree batches) → tidied settings batches (st, file) ≡ (now, file)
-tidies_by settings st now file [] holds planned = ap (λ (s : Store). (let at : Stored = (s, file) in at)) (sym planned)
-tidies_by settings st now file (b ∷ bs) holds planned =
+tidies_by : (settings : Settings) (st now : Store) (batches : Batches) → contents now.tree ≡ contents st.tree
+    → now ≡ with_tree st (tree_in_turn settings st.tree batches) → with_tree st (tree_of_batches settings batches st.tree) ≡ now
+tidies_by settings st now [] holds planned = sym planned
+tidies_by settings st now (b ∷ bs) holds planned =
     let tree : Tree = tree_in_turn settings st.tree (b ∷ bs) in
     let same : contents tree ≡ contents st.tree = ap (λ (s : Store). contents s.tree) (sym planned) ∙ holds in
-    ap (λ (t : Tree). (let at : Stored = (with_tree st t, file) in at)) (if_it_holds-is tree st.tree same)
-    ∙ ap (λ (s : Store). (let at : Stored = (s, file) in at)) (sym planned)
+    ap (λ (t : Tree). with_tree st t) (if_it_holds-is tree st.tree same) ∙ sym planned
 
 -- what `Store::tidy` leaves is tidied by some batches
-pub tidies : (settings : Settings) (st now : Store) → IsTidied settings st now → (batches : Batches) × ((file : List ℕ) → tidied settings batches (st, file) ≡ (now, file))
-tidies settings st now is = (is.batches, λ file. tidies_by settings st now file is.batches is.holds is.planned)
+pub tidies : (settings : Settings) (st now : Store) → IsTidied settings st now → (batches : Batches) × ((file : List ℕ) → tidied settings (by_batches batches) (st, file) ≡ (now, file))
+tidies settings st now is =
+    (is.batches, λ file. ap (λ (s : Store). (let at : Stored = (s, file) in at)) (tidies_by settings st now is.batches is.holds is.planned))
+
+-- the store is compacted after these batches
+module _ (settings : Settings) (st mid now : Store) (batches : Batches) (are : (file : List ℕ) → tidied settings (by_batches batches) (st, file) ≡ (mid, file)) where
+  mid_is : with_tree st (tree_of_batches settings batches st.tree) ≡ mid
+  mid_is = ap (λ (at : Stored). at.0) (are [])
+
+  mid_tree : tree_of_batches settings batches st.tree ≡ mid.tree
+  mid_tree = ap (λ (s : Store). s.tree) mid_is
+
+  compacted_then : (bloated : is_bloated settings mid.tree ≡ true) → IsCompacted settings mid now → (file : List ℕ)
+      → tidied settings (record { batches = batches; compacts = true }) (st, file) ≡ (now, file)
+  compacted_then bloated is file =
+      let same : contents (compacted settings mid.tree) ≡ contents mid.tree = ap (λ (s : Store). contents s.tree) (sym is.planned) ∙ is.holds in
+      ap (λ (t : Tree). (let at : Stored = (with_tree st (compacted_if true settings t), file) in at)) mid_tree
+      ∙ ap (λ (b : Bool). (let at : Stored = (with_tree st (if b then if_it_holds (compacted settings mid.tree) mid.tree else mid.tree), file) in at)) bloated
+      ∙ ap (λ (t : Tree). (let at : Stored = (with_tree st t, file) in at)) (if_it_holds-is (compacted settings mid.tree) mid.tree same)
+      ∙ ap (λ (s : Store). (let at : Stored = (with_tree s (compacted settings mid.tree), file) in at)) mid_is
+      ∙ ap (λ (s : Store). (let at : Stored = (s, file) in at)) (sym is.planned)
+
+-- what `Store::compact` leaves of a bloated store is tidied by compaction
+pub compacts : (settings : Settings) (st now : Store) → is_bloated settings st.tree ≡ true → IsCompacted settings st now → (file : List ℕ) → tidied settings compacting (st, file) ≡ (now, file)
+compacts settings st now bloated is = compacted_then settings st st now [] (λ file. refl) bloated is
 
 -- ---- replies
 
@@ -147,19 +177,58 @@ replies-anywhere settings st shown m (order ∷ front) commands rest =
 
 -- in the same ways, but that nothing is tidied
 abbrev pub untidy : Mode → Mode
-untidy mode = record mode { tidy = 0 }
+untidy mode = record mode { tidy = 0; clean_when_full = false }
 
--- a store becomes another one, where these batches tidy it
-abbrev pub IsTidiedBy : Settings → Batches → Store → Store → Type 0
+-- so nothing is
+pub plain_of : (mode : Mode) (t : Tidying) → IsAsked (untidy mode) t → t ≡ no_tidying
+plain_of mode t asked =
+    ap (λ (b : Batches). (let s : Tidying = record { batches = b; compacts = t.compacts } in s)) (asked.0 refl)
+    ∙ ap (λ (c : Bool). (let s : Tidying = record { batches = []; compacts = c } in s)) (asked.1 refl)
+
+-- a store becomes another one, where it is tidied so
+abbrev pub IsTidiedBy : Settings → Tidying → Store → Store → Type 0
 IsTidiedBy settings batches old now = (file : List ℕ) → tidied settings batches (old, file) ≡ (now, file)
 
--- what `Store::tidy` leaves is tidied as it is asked for
-pub TidiesTo-some : (most : ℕ) (settings : Settings) (st now : Store) → most ≢ 0 → IsTidied settings st now → TidiesTo most settings st now
-TidiesTo-some most settings st now some is =
-    let (batches, are) = tidies settings st now is in
-    record { batches = batches; unasked = λ off. absurd (some off); leaves = are }
+-- no batches are none that weren't asked for
+pub by_no_batches : (mode : Mode) (settings : Settings) (st : Store) → IsByBatches mode settings st st
+by_no_batches mode settings st = ([], λ off. refl, λ file. refl)
 
-module _ (settings : Settings) (batches : Batches) (under st : Store) (are : IsTidiedBy settings batches under st) where
+-- what `Store::tidy` leaves is tidied as it is asked for
+pub by_some_batches : (mode : Mode) (settings : Settings) (st now : Store) → mode.tidy ≢ 0 → IsTidied settings st now → IsByBatches mode settings st now
+by_some_batches mode settings st now some is =
+    let (batches, are) = tidies settings st now is in
+    (batches, λ off. absurd (some off), are)
+
+-- and it isn't compacted after them
+pub TidiesTo-batches : (mode : Mode) (settings : Settings) (st now : Store) → IsByBatches mode settings st now → TidiesTo mode settings st now
+TidiesTo-batches mode settings st now (batches, unasked, are) =
+    record { tidying = by_batches batches; asked = (unasked, λ off. refl); leaves = are }
+
+-- or it is, or isn't, where flushes make themselves room
+pub TidiesTo-compacted : (mode : Mode) (settings : Settings) (st mid now : Store) → mode.clean_when_full ≡ true → IsByBatches mode settings st mid
+    → (now ≡ mid) ⊎ (IsTrue (is_two_thirds_full settings mid) × IsTrue (is_bloated settings mid.tree) × IsCompacted settings mid now) → TidiesTo mode settings st now
+TidiesTo-compacted mode settings st mid now room by (inl same) = subst (λ (s : Store). TidiesTo mode settings st s) (sym same) (TidiesTo-batches mode settings st mid by)
+TidiesTo-compacted mode settings st mid now room (batches, unasked, are) (inr (full, bloated, is)) =
+    record {
+      tidying = record { batches = batches; compacts = true };
+      asked = (unasked, λ off. absurd (cc));
+      leaves = compacted_then settings st mid now batches are bloated is;
+    }
+
+-- a test that is not off is on
+pub on_by : (b : Bool) → not b ≡ false → b ≡ true
+on_by true e = refl
+on_by false e = absurd (cc)
+
+-- the same of a store on its disk
+pub TidiesTo-after : {D : Type 0} (mode : Mode) (x y z : State D) → mode.clean_when_full ≡ true → y.settings ≡ x.settings → IsByBatches mode x.settings x.store y.store
+    → (z ≡ y) ⊎ (IsTrue (is_two_thirds_full y.settings y.store) × IsTrue (is_bloated y.settings y.store.tree) × IsCompacted y.settings y.store z.store) → TidiesTo mode x.settings x.store z.store
+TidiesTo-after mode x y z room settings by (inl same) = TidiesTo-compacted mode x.settings x.store y.store z.store room by (inl (ap (λ (s : State _). s.store) same))
+TidiesTo-after mode x y z room settings by (inr (full, bloated, is)) =
+    TidiesTo-compacted mode x.settings x.store y.store z.store room by
+    (subst (λ (t : Settings). (z.store ≡ y.store) ⊎ (IsTrue (is_two_thirds_full t y.store) × IsTrue (is_bloated t y.store.tree) × IsCompacted t y.store z.store)) settings (inr (full, bloated, is)))
+
+module _ (settings : Settings) (batches : Tidying) (under st : Store) (are : IsTidiedBy settings batches under st) where
   -- the tidied store holds the same
   pub held_by : contents st.tree ≡ contents under.tree
   held_by = ap (λ (at : Stored). contents at.0.tree) (sym (are [])) ∙ holds-tidied settings batches (under, [])
@@ -173,26 +242,26 @@ module _ (settings : Settings) (batches : Batches) (under st : Store) (are : IsT
   tree_by : tidied_tree settings batches under.tree ≡ st.tree
   tree_by = ap (λ (at : Stored). at.0.tree) (sym (tidied-is settings batches (under, [])) ∙ are [])
 
-  module _ (seen : Seen) (plain : seen.tidying ≡ []) where
+  module _ (seen : Seen) (plain : seen.tidying ≡ no_tidying) where
     at_hand : tidied settings batches (under, seen.bytes) ≡ tidied settings seen.tidying (st, seen.bytes)
-    at_hand = are seen.bytes ∙ ap (λ (b : Batches). tidied settings b (st, seen.bytes)) (sym plain)
+    at_hand = are seen.bytes ∙ ap (λ (b : Tidying). tidied settings b (st, seen.bytes)) (sym plain)
 
     -- a flush of the tidied store leaves what one leaves before which the store is tidied, and is refused for the same reason
-    after_flush_of : after_order settings under (seen_with batches seen.bytes) Flush ≡ after_order settings st seen Flush
+    after_flush_of : after_order settings under (record seen { tidying = batches }) Flush ≡ after_order settings st seen Flush
     unfolding after_order
     after_flush_of = ap (λ (at : Stored). left_by_step settings at (step_in Flush)) at_hand
 
-    refusal_flush_of : refusal_of settings under (seen_with batches seen.bytes) Flush ≡ refusal_of settings st seen Flush
+    refusal_flush_of : refusal_of settings under (record seen { tidying = batches }) Flush ≡ refusal_of settings st seen Flush
     unfolding refusal_of
     refusal_flush_of = ap (λ (at : Stored). refusal_of_step settings at (step_in Flush)) at_hand
 
-pub RunsOrder-tidied : (mode : Mode) (honest : Bool) (settings : Settings) (batches : Batches) → (mode.tidy ≡ 0 → batches ≡ []) → (under st : Store) → IsTidiedBy settings batches under st
+pub RunsOrder-tidied : (mode : Mode) (honest : Bool) (settings : Settings) (batches : Tidying) → IsAsked mode batches → (under st : Store) → IsTidiedBy settings batches under st
     → (left : List ℕ) (old new : Option (List ℕ)) (end : Result (Unit {0}) SessionError) (now : Store) (bytes : List ℕ)
     → RunsOrder (untidy mode) honest settings st left Flush old new end now bytes
     → (one : RunsOrder mode honest settings under left Flush old new end now bytes) × (one.0.tidying ≡ batches)
 RunsOrder-tidied mode honest settings batches unasked under st are left old new end now bytes (seen, is, runs, leaves) =
-    let plain : seen.tidying ≡ [] = is.0 refl in
-    let too : Seen = seen_with batches seen.bytes in
+    let plain : seen.tidying ≡ no_tidying = plain_of mode seen.tidying is.0 in
+    let too : Seen = record seen { tidying = batches } in
     let after = after_flush_of settings batches under st are seen plain in
     let refused = refusal_flush_of settings batches under st are seen plain in (
       (
@@ -206,13 +275,13 @@ RunsOrder-tidied mode honest settings batches unasked under st are left old new 
 
 -- the same of a store that has the settings of the first, and of a disk that is as honest and shows the same
 pub flush_tidied : (mode : Mode) (b honest : Bool) → b ≡ honest → (s settings : Settings) → s ≡ settings → (shows seen : List ℕ) → shows ≡ seen → (first st : Store)
-    → TidiesTo mode.tidy settings first st → (old new : Option (List ℕ)) (end : Result (Unit {0}) SessionError) (now : Store) (bytes : List ℕ)
+    → TidiesTo mode settings first st → (old new : Option (List ℕ)) (end : Result (Unit {0}) SessionError) (now : Store) (bytes : List ℕ)
     → RunsOrder (untidy mode) b s st shows Flush old new end now bytes → RunsOrder mode honest settings first seen Flush old new end now bytes
 flush_tidied mode b honest b_is s settings s_is shows seen shows_is first st by old new end now bytes one =
     let of_honest = subst (λ (c : Bool). RunsOrder (untidy mode) c s st shows Flush old new end now bytes) b_is one in
     let of_settings = subst (λ (t : Settings). RunsOrder (untidy mode) honest t st shows Flush old new end now bytes) s_is of_honest in
     let own = subst (λ (f : List ℕ). RunsOrder (untidy mode) honest settings st f Flush old new end now bytes) shows_is of_settings in
-    (RunsOrder-tidied mode honest settings by.batches by.unasked first st by.leaves seen old new end now bytes own).0
+    (RunsOrder-tidied mode honest settings by.tidying by.asked first st by.leaves seen old new end now bytes own).0
 
 -- ---- memory that is refused when the flush is done
 
@@ -285,7 +354,7 @@ step_clean-tree : (settings : Settings) (at : Stored) → (left_by_step settings
 step_clean-tree settings at = ap (λ (q : Stored). q.0.tree) (step_clean-any_tree settings at at.0.tree)
 
 -- so it makes no difference whether the store is tidied before or after it
-pub tidied-cleaned : (settings : Settings) (batches : Batches) (at : Stored)
+pub tidied-cleaned : (settings : Settings) (batches : Tidying) (at : Stored)
     → tidied settings batches (left_by_step settings at (step_in Clean)) ≡ left_by_step settings (tidied settings batches at) (step_in Clean)
 tidied-cleaned settings batches at =
     let left : Stored = left_by_step settings at (step_in Clean) in
@@ -309,7 +378,7 @@ module _ (settings : Settings) (st : Store) (seen : Seen) where
   keeps_tree = ap (λ (at : Stored). at.0.tree) (after_clean-any_tree st.tree)
 
 -- what a clean of the tidied store prints and leaves, one of the store does, which is tidied then
-module _ (mode : Mode) (honest : Bool) (settings : Settings) (batches : Batches) (under st : Store) (are : IsTidiedBy settings batches under st) (left : List ℕ) (old new : Option (List ℕ))
+module _ (mode : Mode) (honest : Bool) (settings : Settings) (batches : Tidying) (under st : Store) (are : IsTidiedBy settings batches under st) (left : List ℕ) (old new : Option (List ℕ))
     (end : Result (Unit {0}) SessionError) (now : Store) (bytes : List ℕ) where
   -- with the log of the store, and the tree of the tidied one
   abbrev with_its_tree : Store

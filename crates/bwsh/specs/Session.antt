@@ -1,5 +1,5 @@
 -- What a session starts on, what it runs and prints, and how it ends.
-use Rattle.std.specs.Prelude.{◌≡◌, ◌⊎◌, ◌+◌, ◌-◌, ◌&&◌, ℕ, zero, suc, max, ◌/◌, Bool, not, true, false, IsTrue, ⊤, List, [], ◌∷◌, ◌++◌, map, is_some, codes, replicate, if◌then◌else◌, Option, Some, None, IfSome, Result, Ok, Err, IfOk, IfErr, OnOk}
+use Rattle.std.specs.Prelude.{◌≡◌, ◌⊎◌, ◌+◌, ◌-◌, ◌&&◌, ◌||◌, nat_eq, ℕ, zero, suc, max, ◌/◌, Bool, not, true, false, IsTrue, ⊤, List, [], ◌∷◌, ◌++◌, map, is_some, codes, replicate, if◌then◌else◌, Option, Some, None, IfSome, Result, Ok, Err, IfOk, IfErr, OnOk}
 use Rattle.std.specs.Bool.{MatchBool}
 use Rattle.std.specs.Option.{option_map, option_or}
 use Rattle.std.specs.Str.{bytes_eq}
@@ -19,12 +19,17 @@ use Rattle.keys.specs.declared.fault.Fault.TheVariants.{BadCrew, BadSettings, Fu
 use Rattle.mapping.specs.Tree.{Store, Tree, with_tree}
 use Rattle.mapping.specs.Levels.{contents}
 use Rattle.verify.specs.Report.{report}
+use Rattle.cleaner.specs.PagesRead.{PagesRead}
 use Rattle.flush_log.specs.Disk.{View}
+use Rattle.flush_log.specs.FlushText.{flush_text}
 use Rattle.flush_log.specs.NewStore.{disk_of_new}
 use Rattle.flush_log.specs.Segments.{disk_size, last_segment}
 use Rattle.recovery.specs.StoreOfDisk.{first_store, store_of_disk}
 use Rattle.engine.specs.Batches.{tree_in_turn}
+use Rattle.engine.specs.Compacted.{compacted}
 use Rattle.engine.specs.Copies.{IsFilledFault, IsPutFault}
+use Rattle.engine.specs.Cleans.{IsReadFor}
+use Rattle.engine.specs.Room.{is_bloated, is_overfull, is_tight, is_worth, live_known}
 use Rattle.engine.specs.State.{State}
 use Rattle.engine.specs.Steps.{Step, Stepped, batching, after_step}
 use Rattle.bwsh.specs.declared.line.Line.{Line}
@@ -136,15 +141,34 @@ IsStart request start = MatchBool (is_crew request.crew) (IsStartBy request.sett
 abbrev pub Batches : Type 0
 Batches = List (List (Command Global))
 
--- What is seen at an order: what a read of the disk gives before it, and by which batches the store is tidied before it, if it is a flush. At a
--- clean these are the batches that tidy the store before the flush for which the clean makes room.
+-- how a store is tidied before a flush: by these batches, and then it is compacted or isn't
+pub record Tidying : Type 0 where
+  pub batches : Batches
+  pub compacts : Bool
+
+-- by these batches alone
+abbrev pub by_batches : Batches → Tidying
+by_batches batches = record { batches = batches; compacts = false }
+
+-- by compaction alone
+abbrev pub compacting : Tidying
+compacting = record { batches = []; compacts = true }
+
+-- a store that stays as it is
+abbrev pub no_tidying : Tidying
+no_tidying = record { batches = []; compacts = false }
+
+-- What is seen at an order: what a read of the disk gives that the order makes, what a reading of the log gives that decides on cleans before
+-- it, and how the store is tidied before it, if it is a flush. At a clean this is how it is tidied before the flush for which the clean makes
+-- room.
 pub record Seen : Type 0 where
   pub bytes : Bytes
-  pub tidying : Batches
+  pub ahead : Bytes
+  pub tidying : Tidying
 
--- the same where nothing is tidied
+-- these bytes, where nothing is tidied
 abbrev pub untidied : Bytes → Seen
-untidied file = record { bytes = file; tidying = [] }
+untidied file = record { bytes = file; ahead = file; tidying = no_tidying }
 
 -- what is seen at each order, counted from 0
 abbrev pub Reads : Type 0
@@ -191,14 +215,26 @@ is_same_map _ _ = false
 abbrev pub if_it_holds : Tree → Tree → Tree
 if_it_holds now old = if is_same_map (contents now) (contents old) then now else old
 
--- what tidying leaves of what is stored: the tree that its batches leave, each planned on what the one before it left, where that holds what
--- the tree held
-abbrev pub tidied : Settings → Batches → Stored → Stored
-tidied settings [] at = at
-tidied settings (b ∷ bs) at = (with_tree at.0 (if_it_holds (tree_in_turn settings at.0.tree (b ∷ bs)) at.0.tree), at.1)
+-- the tree that batches leave, each planned on what the one before it left, where that holds what the tree held
+abbrev pub tree_of_batches : Settings → Batches → Tree → Tree
+tree_of_batches settings [] t = t
+tree_of_batches settings (b ∷ bs) t = if_it_holds (tree_in_turn settings t (b ∷ bs)) t
+
+-- the compacted tree in place of a bloated one, where that is asked for and it holds the same
+abbrev pub compacted_if : Bool → Settings → Tree → Tree
+compacted_if false settings t = t
+compacted_if true settings t = if is_bloated settings t then if_it_holds (compacted settings t) t else t
+
+-- the tree that tidying leaves
+abbrev pub tidied_tree : Settings → Tidying → Tree → Tree
+tidied_tree settings tidying t = compacted_if tidying.compacts settings (tree_of_batches settings tidying.batches t)
+
+-- what tidying leaves of what is stored
+abbrev pub tidied : Settings → Tidying → Stored → Stored
+tidied settings tidying at = (with_tree at.0 (tidied_tree settings tidying at.0.tree), at.1)
 
 -- what it leaves before an order: before a flush the store is tidied, and before no other order
-abbrev pub tidied_before : Order → Settings → Batches → Stored → Stored
+abbrev pub tidied_before : Order → Settings → Tidying → Stored → Stored
 tidied_before Flush settings tidying at = tidied settings tidying at
 tidied_before _ settings tidying at = at
 
@@ -301,11 +337,50 @@ can_clean settings st seen = not (makes_no_room (refusal_of settings st seen Cle
 abbrev pub row_of_cleans : ℕ → ℕ
 row_of_cleans segments = max 1 (segments / 8)
 
--- A flush of a store, at which this is seen, takes a clean in front of it, where this many cleans are still to be run before it is tried: there
--- is room to be made, and where the flush is tried now, the log is full for that of the tidied store.
-abbrev pub wants_clean : ℕ → Settings → Store → Seen → Bool
-wants_clean zero settings st seen = is_full (refusal_of settings st seen Flush) && can_clean settings st seen
-wants_clean (suc row) settings st seen = can_clean settings st seen
+-- cleans are worth a row of them, where a sound log has these live bytes
+abbrev pub are_worth : Settings → Store → Option ℕ → Bool
+are_worth settings st None = false
+are_worth settings st (Some live) = is_worth settings st live
+
+-- no cleans make room for a flush, where a sound log has these live bytes
+abbrev pub is_hopeless : Settings → Store → Option ℕ → Bool
+is_hopeless settings st None = false
+is_hopeless settings st (Some live) = is_overfull settings st live
+
+-- the list has nothing
+abbrev pub is_nil : {X : Type 0} → List X → Bool
+is_nil [] = true
+is_nil (x ∷ xs) = false
+
+-- a flush of the store would write something
+abbrev pub is_unwritten : Store → Bool
+is_unwritten st = not (is_nil (flush_text st.version st.tree))
+
+-- cleans may make room for the flush, as far as the live bytes of the log say
+abbrev pub may_help : Settings → Store → Option ℕ → Bool
+may_help settings st live = not (is_hopeless settings st live)
+
+-- A row of cleans is run at once, before the flush of a tidied store that has this number of cleans left in front of it: none was run yet, few
+-- segments are free, the flush writes something, the row is worth it by the live bytes of the log, and cleans may help.
+abbrev pub is_early : ℕ → Settings → Store → Option ℕ → Bool
+is_early most settings st live = nat_eq most settings.segments && is_tight settings st && is_unwritten st && are_worth settings st live && may_help settings st live
+
+-- the store that is tidied as is seen at a flush
+abbrev pub prepared : Settings → Store → Seen → Store
+prepared settings st seen = (tidied settings seen.tidying (st, seen.bytes)).0
+
+-- what there is for a clean in front of a flush that is tried next, which has this number of cleans left in front of it
+abbrev pub has_reason : ℕ → Settings → Store → Seen → Bool
+has_reason most settings st seen =
+    is_early most settings (prepared settings st seen) (live_known settings (prepared settings st seen) seen.ahead)
+    || (is_full (refusal_of settings st seen Flush) && may_help settings (prepared settings st seen) (live_known settings (prepared settings st seen) seen.ahead))
+
+-- A flush of a store, at which this is seen, with at most the first number of cleans in front of it, takes one, where the second number is how
+-- many are still to be run before the flush is tried. There is room to be made; and where the flush is tried now, there is a reason for it: a row
+-- is run at once, or the log is full for the flush of the tidied store and cleans can help.
+abbrev pub wants_clean : ℕ → ℕ → Settings → Store → Seen → Bool
+wants_clean most zero settings st seen = can_clean settings st seen && has_reason most settings st seen
+wants_clean most (suc row) settings st seen = can_clean settings st seen
 
 -- how many are to be run after that one
 abbrev pub row_after : ℕ → Settings → ℕ
@@ -317,7 +392,7 @@ row_after (suc row) settings = row
 abbrev pub flush_with_room : ℕ → ℕ → Settings → Store → Reads → (Store → Reads → List Order) → List Order
 flush_with_room zero row settings st shown next = Flush ∷ next (after_order settings st (shown 0) Flush).0 (later shown)
 flush_with_room (suc most) row settings st shown next =
-    if wants_clean row settings st (shown 0)
+    if wants_clean (suc most) row settings st (shown 0)
     then Clean ∷ flush_with_room most (row_after row settings) settings (after_order settings st (shown 0) Clean).0 (later shown) next
     else Flush ∷ next (after_order settings st (shown 0) Flush).0 (later shown)
 
@@ -337,11 +412,15 @@ abbrev pub run_from : Bool → Start → Reads → List Order → List Order
 run_from cleans (Ok p) shown orders = run_of cleans p.0 p.1.0 shown orders
 run_from cleans (Err fault) shown orders = orders
 
+-- these bytes are read at an order and ahead of it
+abbrev pub IsLeft : Bytes → Seen → Type 0
+IsLeft file seen = (seen.bytes ≡ file) × (seen.ahead ≡ file)
+
 -- the disk shows what was left, before each of these orders: these bytes before the first
 abbrev pub AreLeft : Settings → Store → Bytes → Reads → List Order → Type 0
 AreLeft settings st file shown [] = ⊤
 AreLeft settings st file shown (order ∷ rest) =
-    ((shown 0).bytes ≡ file) × AreLeft settings (after_order settings st (shown 0) order).0 (after_order settings st (shown 0) order).1 (later shown) rest
+    IsLeft file (shown 0) × AreLeft settings (after_order settings st (shown 0) order).0 (after_order settings st (shown 0) order).1 (later shown) rest
 
 -- the same from this start
 abbrev pub AreLeftFrom : Start → Reads → List Order → Type 0
@@ -350,26 +429,34 @@ AreLeftFrom (Err fault) shown orders = ⊤
 
 -- no store is tidied
 abbrev pub AreUntidied : Reads → Type 0
-AreUntidied shown = (i : ℕ) → (shown i).tidying ≡ []
+AreUntidied shown = (i : ℕ) → (shown i).tidying ≡ no_tidying
 
--- stores are tidied by the same batches
+-- a store is tidied so only in ways in which batches are asked for, and compacted only where flushes make themselves room
+abbrev pub IsAsked : Mode → Tidying → Type 0
+IsAsked mode tidying = (mode.tidy ≡ 0 → tidying.batches ≡ []) × (mode.clean_when_full ≡ false → tidying.compacts ≡ false)
+
+-- stores are tidied in the same way
 abbrev pub AreTidiedAlike : Reads → Reads → Type 0
 AreTidiedAlike shown other = (i : ℕ) → (shown i).tidying ≡ (other i).tidying
 
--- a flush and the cleans that make room for it are of a store that is tidied once: at a clean the same batches are seen as at the next order
+-- a flush and the cleans that make room for it are of a store that is tidied once: at a clean the same is seen of it as at the next order
 abbrev pub AreTidiedOnce : Reads → List Order → Type 0
 AreTidiedOnce shown [] = ⊤
 AreTidiedOnce shown (order ∷ rest) = (IsNoClean order ⊎ ((shown 0).tidying ≡ (later shown 0).tidying)) × AreTidiedOnce (later shown) rest
 
--- a store is tidied only where that is asked for, and once for each flush
+-- a store is tidied only as it is asked for, and once for each flush
 abbrev pub TidiesBy : Mode → Reads → List Order → Type 0
-TidiesBy mode shown orders = (mode.tidy ≡ 0 → AreUntidied shown) × AreTidiedOnce shown orders
+TidiesBy mode shown orders = ((i : ℕ) → IsAsked mode (shown i).tidying) × AreTidiedOnce shown orders
 
--- a store becomes another one by some batches that tidy it: by none, where at most 0 leaves may be merged
-pub record TidiesTo (most : ℕ) (settings : Settings) (old now : Store) : Type 0 where
-  pub batches : Batches
-  pub unasked : most ≡ 0 → batches ≡ []
-  pub leaves : (file : Bytes) → tidied settings batches (old, file) ≡ (now, file)
+-- a store becomes another one, which was tidied so, in such ways
+pub record TidiesTo (mode : Mode) (settings : Settings) (old now : Store) : Type 0 where
+  pub tidying : Tidying
+  pub asked : IsAsked mode tidying
+  pub leaves : (file : Bytes) → tidied settings tidying (old, file) ≡ (now, file)
+
+-- a store becomes another one by batches that tidy it, as they are asked for
+abbrev pub IsByBatches : Mode → Settings → Store → Store → Type 0
+IsByBatches mode settings old now = (batches : Batches) × (mode.tidy ≡ 0 → batches ≡ []) × ((file : Bytes) → tidied settings (by_batches batches) (old, file) ≡ (now, file))
 
 -- this can be seen at each of these orders, where the words give this: the disk shows in memory what was left, in a file anything
 abbrev pub IsShown : Request → Start → Reads → List Order → Type 0
@@ -563,7 +650,7 @@ pub record LeavesStored (honest : Bool) (settings : Settings) (st : Store) (seen
 
 -- this can be seen at an order, in such ways: the disk shows, if it is honest, these bytes
 abbrev pub IsSeen : Mode → Bool → Bytes → Seen → Type 0
-IsSeen mode honest left seen = (mode.tidy ≡ 0 → seen.tidying ≡ []) × (IsTrue honest → seen.bytes ≡ left)
+IsSeen mode honest left seen = IsAsked mode seen.tidying × (IsTrue honest → IsLeft left seen)
 
 -- What one order prints, and how it ends, is right but for memory and devices, where something is seen that can be, in such ways.
 -- Where all of it is done it leaves this store, and on an honest disk the bytes that come last.
@@ -586,22 +673,49 @@ abbrev pub with_room : ℕ → ℕ → Settings → Store → Reads → List Ord
 with_room most row settings st shown rest = flush_with_room most row settings st shown (λ now reads. with_cleans settings now reads rest)
 
 -- what is printed of that, and how it ends, is right but for memory and devices, where some such reads are seen at each order that is run, and
--- the store is tidied by these batches before the flush
-abbrev pub RunsRoom : ℕ → ℕ → Batches → Mode → Bool → Settings → Store → Bytes → List Order → Option Bytes → Option Bytes → Result (Unit {0}) SessionError → Type 0
-RunsRoom most row batches mode honest settings st left rest old new end =
-    (shown : Reads) × ((shown 0).tidying ≡ batches) × AreSeen mode honest settings st left shown (with_room most row settings st shown rest)
+-- the store is tidied so before the flush
+abbrev pub RunsRoom : ℕ → ℕ → Tidying → Mode → Bool → Settings → Store → Bytes → List Order → Option Bytes → Option Bytes → Result (Unit {0}) SessionError → Type 0
+RunsRoom most row tidying mode honest settings st left rest old new end =
+    (shown : Reads) × ((shown 0).tidying ≡ tidying) × AreSeen mode honest settings st left shown (with_room most row settings st shown rest)
     × Runs settings st shown (with_room most row settings st shown rest) old new end
 
 -- What cleans in front of a flush print, and how they end, is right, of which there are at most this many, with this many of them to be run before
 -- the flush is tried: it goes on with a store that is tidied to this one and, on an honest disk, these bytes, and it is tried next, with at most so
 -- many cleans as are returned; or the cleans stop early, and so does the flush.
-abbrev pub RunsCleans : ℕ → ℕ → Batches → Mode → Bool → Settings → Store → Bytes → Option Bytes → Option Bytes → Result ℕ SessionError → Store → Bytes → Type 0
-RunsCleans most row batches mode honest settings st left old new (Ok more) now bytes =
-    (cleaned : Store) × ((file : Bytes) → tidied settings batches (cleaned, file) ≡ (now, file))
-    × ((rest : List Order) (last : Option Bytes) (end : Result (Unit {0}) SessionError) → RunsRoom more 0 batches mode honest settings cleaned bytes rest new last end
-    → RunsRoom most row batches mode honest settings st left rest old last end)
-RunsCleans most row batches mode honest settings st left old new (Err early) now bytes =
-    (rest : List Order) → RunsRoom most row batches mode honest settings st left rest old new (Err early)
+abbrev pub RunsCleans : ℕ → ℕ → Tidying → Mode → Bool → Settings → Store → Bytes → Option Bytes → Option Bytes → Result ℕ SessionError → Store → Bytes → Type 0
+RunsCleans most row tidying mode honest settings st left old new (Ok more) now bytes =
+    (cleaned : Store) × ((file : Bytes) → tidied settings tidying (cleaned, file) ≡ (now, file))
+    × ((rest : List Order) (last : Option Bytes) (end : Result (Unit {0}) SessionError) → RunsRoom more 0 tidying mode honest settings cleaned bytes rest new last end
+    → RunsRoom most row tidying mode honest settings st left rest old last end)
+RunsCleans most row tidying mode honest settings st left old new (Err early) now bytes =
+    (rest : List Order) → RunsRoom most row tidying mode honest settings st left rest old new (Err early)
+
+-- these bytes decide on cleans in front of a flush of a store that was tidied for it: they have these live bytes, if the log is sound, and the disk
+-- shows them, if it is honest
+abbrev pub IsKnown : {D : Type 0} → (D → View) → State D → Option ℕ → Type 0
+IsKnown view x live = (ahead : Bytes) × (IsTrue (view x.disk).is_honest → ahead ≡ (view x.disk).seen) × (live_known x.settings x.store ahead ≡ live)
+
+-- by what is read of the log of a tidied store no row of cleans is run at once before its flush, which has this number of cleans left in front of it
+abbrev pub IsCalm : {D : Type 0} → (D → View) → State D → ℕ → Type 0
+IsCalm view x most = (live : Option ℕ) × IsKnown view x live × (is_early most x.settings x.store live ≡ false)
+
+-- by what is read of it no cleans can make room for the flush
+abbrev pub IsUndue : {D : Type 0} → (D → View) → State D → Type 0
+IsUndue view x = (live : Option ℕ) × IsKnown view x live × (may_help x.settings x.store live ≡ false)
+
+-- the log is full for a flush of the store that is tidied so, whatever is read
+abbrev pub IsFullFor : Settings → Store → Tidying → Type 0
+IsFullFor settings st tidying = (at : Seen) → at.tidying ≡ tidying → refusal_of settings st at Flush ≡ Some Full
+
+-- what is done in front of a flush that is tried next, of which the log is full: some cleans; or none, where no cleans could make room
+abbrev pub RunsAhead : ℕ → Tidying → Mode → Bool → Settings → Store → Bytes → Option Bytes → Option Bytes → Result (Option ℕ) SessionError → Store → Bytes → Type 0
+RunsAhead most tidying mode honest settings st left old new (Ok None) now bytes = ⊤
+RunsAhead most tidying mode honest settings st left old new (Ok (Some more)) now bytes = RunsCleans most 0 tidying mode honest settings st left old new (Ok more) now bytes
+RunsAhead most tidying mode honest settings st left old new (Err early) now bytes = RunsCleans most 0 tidying mode honest settings st left old new (Err early) now bytes
+
+-- what was read of the log of this store serves its cleans, and says how many bytes live there
+abbrev pub IsReadAhead : {D : Type 0} → (D → View) → State D → PagesRead → Type 0
+IsReadAhead view x reading = IsReadFor view x reading × IsKnown view x (Some reading.live)
 
 -- What a stream of lines prints of this store, and how it ends, is right but for memory and devices, for what some lines say, which are
 -- those of the known text: the orders up to the first bad one, which is returned where all of these are done. Then this store is left, with

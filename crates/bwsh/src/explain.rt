@@ -28,7 +28,7 @@ fn file_advice(asked: &Options, reason: &io::Error) -> &'static str {
 fn copy_advice(reason: &io::Error) -> &'static str {
     match reason.kind() {
         ErrorKind::AlreadyExists => {
-            " The file was left as it was. A copy needs a path without a file, or an empty file."
+            " The file was left as it was. A copy needs a path without a file, or an empty or unfinished file."
         }
         ErrorKind::NotFound => " The directory of a copy has to exist.",
         ErrorKind::PermissionDenied => " A copy needs permission to write its file.",

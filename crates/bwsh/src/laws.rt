@@ -1,5 +1,5 @@
 //! Laws about the definitions in `specs/`. Each is the contract of a function with an empty body.
-ghost use Rattle.std.specs.Prelude.{◌≡◌, ◌<◌, ◌≤◌, ◌+◌, Bool, false, List, [], ◌∷◌, ◌++◌, filter, length, map, Option, Some, None, Result, Err};
+ghost use Rattle.std.specs.Prelude.{◌≡◌, ◌<◌, ◌≤◌, ◌+◌, Bool, false, true, List, [], ◌∷◌, ◌++◌, filter, length, map, Option, Some, None, Result, Err};
 ghost use Rattle.std.specs.List.{All, flat_map};
 ghost use Rattle.std.specs.declared.alloc.Global.{Global};
 ghost use Rattle.crew.specs.Crew.{is_crew};
@@ -13,6 +13,8 @@ ghost use Rattle.keys.specs.declared.settings.Settings.{Settings};
 ghost use Rattle.mapping.specs.Levels.{contents};
 ghost use Rattle.mapping.specs.Tree.{Store, with_tree};
 ghost use Rattle.verify.specs.Report.{report};
+ghost use Rattle.engine.specs.Compacted.{IsCompacted};
+ghost use Rattle.engine.specs.Room.{is_bloated};
 ghost use Rattle.engine.specs.Tidied.{IsTidied};
 ghost use Rattle.bwsh.specs.declared.batch_file.Order.{Order};
 ghost use Rattle.bwsh.specs.declared.batch_file.Order.TheVariants.{Batch, Flush, Clean, Upgrade, Verify, Numbers};
@@ -22,7 +24,7 @@ ghost use Rattle.bwsh.specs.declared.line.Why.{Why};
 ghost use Rattle.bwsh.specs.declared.session.SessionError.{SessionError};
 ghost use Rattle.bwsh.specs.BatchFile.{orders_of, commands_of, commands_of_lines, batch_lines, IsBatch, IsForBatches, IsNoClean, cleans_nothing, first_bad, last_order, streamed, unended, with_numbers};
 ghost use Rattle.bwsh.specs.Options.{Request, AsksForProgress};
-ghost use Rattle.bwsh.specs.Session.{Answers, AreLeft, AreTidiedAlike, AreUntidied, Batches, IsStart, Reads, Start, Stored, Streams, accepted, answer_lines, after_order, left_by_step, end_after, end_streamed, later, numbers_of, orders_end, printed, step_in, tidied, untidied, with_cleans, IsAnswered, IsEndAfter, IsReported, IsReportedAfterProgress};
+ghost use Rattle.bwsh.specs.Session.{Answers, AreLeft, AreTidiedAlike, AreUntidied, Batches, Tidying, IsStart, Reads, Start, Stored, Streams, accepted, answer_lines, after_order, left_by_step, end_after, end_streamed, later, numbers_of, orders_end, printed, step_in, by_batches, compacting, tidied, untidied, with_cleans, IsAnswered, IsEndAfter, IsReported, IsReportedAfterProgress};
 ghost use Rattle.bwsh.specs.Shown.{shown_reply, shown_flushed, shown_cleaned, shown_upgraded, shown_report, shown_numbers};
 ghost use Rattle.bwsh.specs.Token.{token_bytes, shown_token};
 ghost use Rattle.bwsh.specs.Words.{words_of};
@@ -145,7 +147,8 @@ pub fn cleans_alone_are_put_among_orders()
 {}
 
 /// Tidying changes no reply, no pair, no byte of the disk and nothing in the log. `Store::tidy`
-/// leaves the result of `tidied` for some batches. A clean may come before or after it.
+/// leaves the result of `tidied` for some batches, and `Store::compact` its result for compaction, if
+/// the store is bloated. A clean may come before or after it.
 pub fn tidying_changes_no_replies()
     ensures replies { (settings : Settings) → (st : Store) → (shown : Reads) → (m : Pairs Bytes) →
         (front : List Order) → (commands : List (Command Global)) → (rest : List Order) →
@@ -153,17 +156,20 @@ pub fn tidying_changes_no_replies()
         ≡ answer_lines settings st shown m front
         ++ (map shown_reply (replies_to (map_after_all m (flat_map commands_of front)) commands)
         ++ last)) }
-    ensures holds { (settings : Settings) → (batches : Batches) → (at : Stored) →
-        contents (tidied settings batches at).0.tree ≡ contents at.0.tree }
-    ensures log { (settings : Settings) → (batches : Batches) → (at : Stored) →
-        ((tidied settings batches at).0 ≡ with_tree at.0 (tidied settings batches at).0.tree)
-        × ((tidied settings batches at).1 ≡ at.1) }
+    ensures holds { (settings : Settings) → (tidying : Tidying) → (at : Stored) →
+        contents (tidied settings tidying at).0.tree ≡ contents at.0.tree }
+    ensures log { (settings : Settings) → (tidying : Tidying) → (at : Stored) →
+        ((tidied settings tidying at).0 ≡ with_tree at.0 (tidied settings tidying at).0.tree)
+        × ((tidied settings tidying at).1 ≡ at.1) }
     ensures tidies { (settings : Settings) → (st now : Store) → IsTidied settings st now →
         (batches : Batches) × ((file : Bytes) →
-        tidied settings batches (st, file) ≡ (now, file)) }
-    ensures cleans { (settings : Settings) → (batches : Batches) → (at : Stored) →
-        tidied settings batches (left_by_step settings at (step_in Clean))
-        ≡ left_by_step settings (tidied settings batches at) (step_in Clean) }
+        tidied settings (by_batches batches) (st, file) ≡ (now, file)) }
+    ensures compacts { (settings : Settings) → (st now : Store) →
+        is_bloated settings st.tree ≡ true → IsCompacted settings st now → (file : Bytes) →
+        tidied settings compacting (st, file) ≡ (now, file) }
+    ensures cleans { (settings : Settings) → (tidying : Tidying) → (at : Stored) →
+        tidied settings tidying (left_by_step settings at (step_in Clean))
+        ≡ left_by_step settings (tidied settings tidying at) (step_in Clean) }
     ensures untidied { (settings : Settings) → (st : Store) → (file : Bytes) → (order : Order) →
         after_order settings st (untidied file) order
         ≡ left_by_step settings (st, file) (step_in order) }

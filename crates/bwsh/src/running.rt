@@ -1,6 +1,6 @@
 //! Running the orders of a session (batches, flushes and the like) on a store. Each is answered
 //! before the next one runs.
-ghost use Rattle.std.specs.Prelude.{false, true, IsTrue, ◌≡◌, ◌≢◌, ◌⊎◌, ◌<◌, [], ◌∷◌, Option, Some, Ok, Err, IfOk, IfErr, IfSome, None, OnOk};
+ghost use Rattle.std.specs.Prelude.{false, true, IsTrue, ◌≡◌, ◌≢◌, ◌⊎◌, ◌<◌, ◌≤◌, [], ◌∷◌, Option, Some, Ok, Err, IfOk, IfErr, IfSome, None, OnOk};
 ghost use Rattle.std.specs.Option.{option_map};
 ghost use Rattle.crew.specs.Crew.{is_crew};
 ghost use Rattle.keys.specs.Bytes.{Bytes};
@@ -8,10 +8,12 @@ ghost use Rattle.keys.specs.Limits.{first_bad_field};
 ghost use Rattle.mapping.specs.Levels.{contents};
 ghost use Rattle.mapping.specs.Tree as mapped;
 ghost use Rattle.engine.specs.Cleans.{IsReadFor};
+ghost use Rattle.engine.specs.Compacted.{IsCompacted};
 ghost use Rattle.engine.specs.Plays.{step_of};
+ghost use Rattle.engine.specs.Room.{is_bloated, is_two_thirds_full};
 ghost use Rattle.engine.specs.Tidied.{IsTidied};
 ghost use Rattle.verify.specs.Report.{report};
-ghost use Rattle.bwsh.specs.Session.{RunsOn, RunsFirst, RunsOrder, RunsCleans, RunsFrom, Shows, Start, Opens, IsHonestStore, TidiesTo, map_after, map_left, step_in, numbers_of, row_of_cleans};
+ghost use Rattle.bwsh.specs.Session.{RunsOn, RunsFirst, RunsOrder, RunsCleans, RunsFrom, Shows, Start, Opens, IsByBatches, IsCalm, IsFullFor, IsHonestStore, IsKnown, IsReadAhead, IsUndue, RunsAhead, TidiesTo, is_early, map_after, map_left, may_help, step_in, numbers_of, row_of_cleans};
 
 use crate::batch::Batch;
 use crate::batch_file::Order;
@@ -67,6 +69,7 @@ pub(crate) fn run_step<R: Threads + Sync, D: Disk, O: Write>(
         result store.new.store (D.view store.new.disk).seen }
     ensures settings { store.new.settings ≡ store.old.settings }
     ensures honest { (D.view store.new.disk).is_honest ≡ (D.view store.old.disk).is_honest }
+    ensures size { (D.view store.new.disk).size ≡ (D.view store.old.disk).size }
     ensures failed { OnOk result (store.new.has_failed ≡ store.old.has_failed) }
     ensures kept { (result ≡ Err (SessionError.Fault Fault.Full))
         ⊎ (result ≡ Err (SessionError.Fault Fault.NothingToClean)) →
@@ -104,8 +107,8 @@ fn tidy_store<R: Threads + Sync, D: Disk>(
     }
 }
 
-// With `--tidy`, tidies the store before a flush, which then writes the merged leaves.
-fn tidy_before_flush<R: Threads + Sync, D: Disk>(
+// With `--tidy`, tidies the store.
+fn tidy_if_asked<R: Threads + Sync, D: Disk>(
     rt: &R,
     crew: Crew,
     mode: Mode,
@@ -113,7 +116,7 @@ fn tidy_before_flush<R: Threads + Sync, D: Disk>(
 ) -> Result<(), SessionError>
     requires crew { IsTrue (is_crew crew) }
     requires fine { store.old.has_failed ≡ false }
-    ensures tidied { TidiesTo mode.tidy store.old.settings store.old.store store.new.store }
+    ensures tidied { IsByBatches mode store.old.settings store.old.store store.new.store }
     ensures end { (result ≡ Ok tt) ⊎ (result ≡ Err (SessionError.Fault Fault.NoMemory)) }
     ensures rest { (store.new.settings ≡ store.old.settings) × (store.new.disk ≡ store.old.disk)
         × (store.new.has_failed ≡ store.old.has_failed) }
@@ -122,6 +125,32 @@ fn tidy_before_flush<R: Threads + Sync, D: Disk>(
         return Ok(());
     }
     tidy_store(rt, crew, mode.tidy, store)
+}
+
+// Compacts the store if a flush is due, the log fills and pages are nearly empty. Fails only if an
+// allocation fails. Then the store is unchanged.
+fn compact_if_due<R: Threads + Sync, D: Disk>(
+    rt: &R,
+    crew: Crew,
+    store: &mut Store<D>,
+) -> Result<(), SessionError>
+    requires crew { IsTrue (is_crew crew) }
+    requires fine { store.old.has_failed ≡ false }
+    ensures compacted { (store.new ≡ store.old)
+        ⊎ (IsTrue (is_two_thirds_full store.old.settings store.old.store)
+        × IsTrue (is_bloated store.old.settings store.old.store.tree)
+        × IsCompacted store.old.settings store.old.store store.new.store) }
+    ensures fault { IfErr result (λ refused. refused ≡ SessionError.Fault Fault.NoMemory) }
+    ensures rest { (store.new.settings ≡ store.old.settings) × (store.new.disk ≡ store.old.disk)
+        × (store.new.has_failed ≡ store.old.has_failed) }
+{
+    if !store.is_flush_due() {
+        return Ok(());
+    }
+    match store.compact_if_bloated(rt, crew) {
+        Ok(()) => Ok(()),
+        Err(_no_memory) => Err(SessionError::Fault(Fault::NoMemory)),
+    }
 }
 
 // Flushes the store. An allocation that fails in tidying ends the session only after the flush.
@@ -142,7 +171,7 @@ fn run_flush<R: Threads + Sync, D: Disk, O: Write>(
     ensures honest { (D.view store.new.disk).is_honest ≡ (D.view store.old.disk).is_honest }
     ensures failed { OnOk result (store.new.has_failed ≡ store.old.has_failed) }
 {
-    let tidied = tidy_before_flush(rt, crew, mode, store);
+    let tidied = tidy_if_asked(rt, crew, mode, store);
     run_step(rt, crew, store, Step::Flush, lines, out)?;
     tidied
 }
@@ -254,8 +283,8 @@ fn run_row<R: Threads + Sync, D: Disk, O: Write>(
     requires fine { store.old.has_failed ≡ false }
     requires read { IfSome reading.old (IsReadFor D.view store.old) }
     ensures runs { (mode : Mode) → (under : mapped.Store) →
-        (by : TidiesTo mode.tidy store.old.settings under store.old.store) →
-        RunsCleans most row by.batches mode (D.view store.old.disk).is_honest store.old.settings
+        (by : TidiesTo mode store.old.settings under store.old.store) →
+        RunsCleans most row by.tidying mode (D.view store.old.disk).is_honest store.old.settings
         under (D.view store.old.disk).seen (O.contents out.old) (O.contents out.new) result
         store.new.store (D.view store.new.disk).seen }
     ensures settings { store.new.settings ≡ store.old.settings }
@@ -286,21 +315,23 @@ fn row_of_cleans(segments: u32) -> u32
     (segments / 8).max(1)
 }
 
-// Reads the log once for the next `count` cleans. If there is no memory for that, returns no reading,
-// and each clean reads the log itself. Any other fault refuses the first clean.
+// Reads the log once for the next `count` cleans. A fault refuses the first clean.
 fn read_for_row<R: Threads + Sync, D: Disk>(
     rt: &R,
     crew: Crew,
     store: &mut Store<D>,
     count: u32,
-) -> Result<Option<Reading>, SessionError>
+) -> Result<Reading, SessionError>
     requires fine { store.old.has_failed ≡ false }
     requires some { 0 < count }
-    ensures read { IfOk result (λ reading. IfSome reading (IsReadFor D.view store.new)) }
+    ensures read { IfOk result (IsReadAhead D.view store.new) }
     ensures refused { IfErr result (λ refused. (mode : Mode) → (text : Option Bytes) →
         RunsOrder mode (D.view store.old.disk).is_honest store.old.settings store.old.store
         (D.view store.old.disk).seen Order.Clean text text (Err refused) store.new.store
         (D.view store.new.disk).seen) }
+    ensures unknown { IfErr result (λ refused. (refused ≡ SessionError.Fault Fault.NoMemory)
+        ⊎ (refused ≡ SessionError.Device) ⊎ (refused ≡ SessionError.Fault Fault.NothingToClean)
+        ⊎ IsKnown D.view store.old None) }
     ensures settings { store.new.settings ≡ store.old.settings }
     ensures honest { (D.view store.new.disk).is_honest ≡ (D.view store.old.disk).is_honest }
     ensures same { store.new.store ≡ store.old.store }
@@ -310,42 +341,255 @@ fn read_for_row<R: Threads + Sync, D: Disk>(
         (D.view store.new.disk).seen ≡ (D.view store.old.disk).seen) }
 {
     match store.read_ahead(rt, crew, u64::from(count)) {
-        Ok(reading) => Ok(Some(reading)),
-        Err(Fault::NoMemory) => Ok(None),
+        Ok(reading) => Ok(reading),
         Err(fault) => Err(store_fault(fault)),
     }
 }
 
-// Cleans an eighth of the segments, but at most `most`, by one reading of the log. Returns how many
-// more cleans may be run in front of this flush.
-fn clean_ahead<R: Threads + Sync, D: Disk, O: Write>(
+// Returns how many cleans are left in front of a flush if the log cannot be read for early cleans. If
+// nothing can be cleaned there is none, and the flush decides. Out of memory or a failed device ends
+// the session. A damaged log does not: it refuses the clean that is made if the log is full.
+fn cleans_if_unread(refused: SessionError, most: u32) -> Result<u32, SessionError>
+    ensures { (((refused ≡ SessionError.Fault Fault.NoMemory) ⊎ (refused ≡ SessionError.Device))
+        × (result ≡ Err refused))
+        ⊎ ((refused ≡ SessionError.Fault Fault.NothingToClean) × (result ≡ Ok 0))
+        ⊎ ((refused ≢ SessionError.Fault Fault.NoMemory) × (refused ≢ SessionError.Device)
+        × (refused ≢ SessionError.Fault Fault.NothingToClean) × (result ≡ Ok most)) }
+{
+    match refused {
+        SessionError::Device => Err(SessionError::Device),
+        SessionError::Fault(Fault::NoMemory) => Err(SessionError::Fault(Fault::NoMemory)),
+        SessionError::Fault(Fault::NothingToClean) => Ok(0),
+        _ => Ok(most),
+    }
+}
+
+// Returns whether cleans may make room for the flush, as far as this reading of the log says.
+fn may_help<R: Threads + Sync, D: Disk>(
+    rt: &R,
+    crew: Crew,
+    store: &Store<D>,
+    reading: &Reading,
+) -> Result<bool, SessionError>
+    ensures helps { IfOk result (λ helps. helps
+        ≡ may_help store.now.settings store.now.store (Some reading.now.live)) }
+    ensures fault { IfErr result (λ refused. refused ≡ SessionError.Fault Fault.NoMemory) }
+{
+    match store.is_overfull(rt, crew, reading) {
+        Ok(full) => Ok(!full),
+        Err(_no_memory) => Err(SessionError::Fault(Fault::NoMemory)),
+    }
+}
+
+// Returns whether a row of cleans is run before a flush is tried that has `most` cleans left: if none
+// was run yet, few segments are free, the flush writes something, the row is worth it, and cleans may
+// make room.
+fn is_early<R: Threads + Sync, D: Disk>(
+    rt: &R,
+    crew: Crew,
+    store: &Store<D>,
+    reading: &Reading,
+    most: u32,
+) -> Result<bool, SessionError>
+    ensures early { IfOk result (λ early. early
+        ≡ is_early most store.now.settings store.now.store (Some reading.now.live)) }
+    ensures fault { IfErr result (λ refused. refused ≡ SessionError.Fault Fault.NoMemory) }
+{
+    if most != store.settings().segments {
+        return Ok(false);
+    }
+    if !store.is_tight() {
+        return Ok(false);
+    }
+    if !store.is_flush_due() {
+        return Ok(false);
+    }
+    if !store.is_worth_cleaning(reading) {
+        return Ok(false);
+    }
+    may_help(rt, crew, store, reading)
+}
+
+// Cleans an eighth of the segments by this reading if they are worth it. Otherwise keeps the reading.
+// Returns how many more cleans may be run in front of this flush.
+fn clean_if_worth<R: Threads + Sync, D: Disk, O: Write>(
     rt: &R,
     crew: Crew,
     store: &mut Store<D>,
-    most: u32,
+    reading: Reading,
+    kept: &mut Option<Reading>,
     lines: &mut Vec<u8>,
     out: &mut O,
 ) -> Result<u32, SessionError>
     requires crew { IsTrue (is_crew crew) }
     requires fine { store.old.has_failed ≡ false }
-    requires some { 0 < most }
+    requires read { IsReadAhead D.view store.old reading }
+    requires none { kept.old ≡ None }
     ensures runs { (mode : Mode) → (under : mapped.Store) →
-        (by : TidiesTo mode.tidy store.old.settings under store.old.store) →
-        RunsCleans most (row_of_cleans store.old.settings.segments) by.batches mode
+        (by : TidiesTo mode store.old.settings under store.old.store) →
+        RunsCleans store.old.settings.segments 0 by.tidying mode
         (D.view store.old.disk).is_honest store.old.settings under (D.view store.old.disk).seen
         (O.contents out.old) (O.contents out.new) result store.new.store
         (D.view store.new.disk).seen }
+    ensures calm { IfOk result (λ left. IsCalm D.view store.new left) }
+    ensures most { IfOk result (λ left. left ≤ store.old.settings.segments) }
+    ensures read { OnOk result (IfSome kept.new (IsReadAhead D.view store.new)) }
     ensures settings { store.new.settings ≡ store.old.settings }
     ensures honest { (D.view store.new.disk).is_honest ≡ (D.view store.old.disk).is_honest }
     ensures failed { OnOk result (store.new.has_failed ≡ store.old.has_failed) }
     ensures holds { OnOk result
         (contents store.new.store.tree ≡ contents store.old.store.tree) }
-    ensures fewer { IfOk result (λ more. more < most) }
 {
+    // This call is made only for the proof: there is a segment at least.
+    let _some = store.segments_in_use();
+    let segments = store.settings().segments;
+    if !is_early(rt, crew, store, &reading, segments)? {
+        *kept = Some(reading);
+        return Ok(segments);
+    }
+    let row = row_of_cleans(segments);
+    run_row(
+        rt,
+        crew,
+        store,
+        &mut Some(reading),
+        row,
+        segments,
+        lines,
+        out,
+    )
+}
+
+// Before the flush is tried, cleans an eighth of the segments if few are free and that many bytes are
+// dead. Reads the log for that, and keeps the reading if nothing is cleaned. Returns how many more
+// cleans may be run in front of this flush.
+fn clean_early<R: Threads + Sync, D: Disk, O: Write>(
+    rt: &R,
+    crew: Crew,
+    store: &mut Store<D>,
+    kept: &mut Option<Reading>,
+    lines: &mut Vec<u8>,
+    out: &mut O,
+) -> Result<u32, SessionError>
+    requires crew { IsTrue (is_crew crew) }
+    requires fine { store.old.has_failed ≡ false }
+    requires none { kept.old ≡ None }
+    ensures runs { (mode : Mode) → (under : mapped.Store) →
+        (by : TidiesTo mode store.old.settings under store.old.store) →
+        RunsCleans store.old.settings.segments 0 by.tidying mode
+        (D.view store.old.disk).is_honest store.old.settings under (D.view store.old.disk).seen
+        (O.contents out.old) (O.contents out.new) result store.new.store
+        (D.view store.new.disk).seen }
+    ensures calm { IfOk result (λ left. IsCalm D.view store.new left) }
+    ensures most { IfOk result (λ left. left ≤ store.old.settings.segments) }
+    ensures read { OnOk result (IfSome kept.new (IsReadAhead D.view store.new)) }
+    ensures settings { store.new.settings ≡ store.old.settings }
+    ensures honest { (D.view store.new.disk).is_honest ≡ (D.view store.old.disk).is_honest }
+    ensures failed { OnOk result (store.new.has_failed ≡ store.old.has_failed) }
+    ensures holds { OnOk result
+        (contents store.new.store.tree ≡ contents store.old.store.tree) }
+{
+    // This call is made only for the proof: there is a segment at least.
+    let _some = store.segments_in_use();
+    let segments = store.settings().segments;
+    if !store.is_tight() || !store.is_flush_due() {
+        return Ok(segments);
+    }
+    match read_for_row(rt, crew, store, row_of_cleans(segments)) {
+        Ok(reading) => clean_if_worth(rt, crew, store, reading, kept, lines, out),
+        Err(refused) => cleans_if_unread(refused, segments),
+    }
+}
+
+// Cleans an eighth of the segments, but at most `most`, by this reading, in front of a flush for which
+// the log is full. Returns how many more cleans may be run in front of this flush, or nothing if no
+// cleans could make room for it.
+fn clean_if_due<R: Threads + Sync, D: Disk, O: Write>(
+    rt: &R,
+    crew: Crew,
+    store: &mut Store<D>,
+    reading: Reading,
+    most: u32,
+    lines: &mut Vec<u8>,
+    out: &mut O,
+) -> Result<Option<u32>, SessionError>
+    requires crew { IsTrue (is_crew crew) }
+    requires fine { store.old.has_failed ≡ false }
+    requires some { 0 < most }
+    requires read { IsReadAhead D.view store.old reading }
+    ensures runs { (mode : Mode) → (under : mapped.Store) →
+        (by : TidiesTo mode store.old.settings under store.old.store) →
+        IsFullFor store.old.settings under by.tidying →
+        RunsAhead most by.tidying mode (D.view store.old.disk).is_honest store.old.settings
+        under (D.view store.old.disk).seen (O.contents out.old) (O.contents out.new) result
+        store.new.store (D.view store.new.disk).seen }
+    ensures undue { IfOk result (λ ahead. ahead ≡ None → IsUndue D.view store.old
+        × (O.contents out.new ≡ O.contents out.old)) }
+    ensures fewer { IfOk result (λ ahead. IfSome ahead (λ more. more < most)) }
+    ensures settings { store.new.settings ≡ store.old.settings }
+    ensures honest { (D.view store.new.disk).is_honest ≡ (D.view store.old.disk).is_honest }
+    ensures failed { OnOk result (store.new.has_failed ≡ store.old.has_failed) }
+    ensures holds { OnOk result
+        (contents store.new.store.tree ≡ contents store.old.store.tree) }
+{
+    if !may_help(rt, crew, store, &reading)? {
+        return Ok(None);
+    }
+    let row = row_of_cleans(store.settings().segments);
+    let more = run_row(rt, crew, store, &mut Some(reading), row, most, lines, out)?;
+    Ok(Some(more))
+}
+
+// Returns how many cleans are left after a row for which the log could not be read: none if nothing
+// can be cleaned. Any other fault ends the session.
+fn no_row(refused: SessionError) -> Result<Option<u32>, SessionError>
+    ensures { (((refused ≡ SessionError.Fault Fault.Full)
+        ⊎ (refused ≡ SessionError.Fault Fault.NothingToClean)) × (result ≡ Ok (Some 0)))
+        ⊎ ((refused ≢ SessionError.Fault Fault.Full)
+        × (refused ≢ SessionError.Fault Fault.NothingToClean) × (result ≡ Err refused)) }
+{
+    match refused {
+        SessionError::Fault(Fault::Full | Fault::NothingToClean) => Ok(Some(0)),
+        other => Err(other),
+    }
+}
+
+// Cleans as `clean_if_due` does, by the reading that was kept, or by a new one.
+fn clean_ahead<R: Threads + Sync, D: Disk, O: Write>(
+    rt: &R,
+    crew: Crew,
+    store: &mut Store<D>,
+    kept: Option<Reading>,
+    most: u32,
+    lines: &mut Vec<u8>,
+    out: &mut O,
+) -> Result<Option<u32>, SessionError>
+    requires crew { IsTrue (is_crew crew) }
+    requires fine { store.old.has_failed ≡ false }
+    requires some { 0 < most }
+    requires read { IfSome kept (IsReadAhead D.view store.old) }
+    ensures runs { (mode : Mode) → (under : mapped.Store) →
+        (by : TidiesTo mode store.old.settings under store.old.store) →
+        IsFullFor store.old.settings under by.tidying →
+        RunsAhead most by.tidying mode (D.view store.old.disk).is_honest store.old.settings
+        under (D.view store.old.disk).seen (O.contents out.old) (O.contents out.new) result
+        store.new.store (D.view store.new.disk).seen }
+    ensures undue { IfOk result (λ ahead. ahead ≡ None → IsUndue D.view store.old
+        × (O.contents out.new ≡ O.contents out.old)) }
+    ensures fewer { IfOk result (λ ahead. IfSome ahead (λ more. more < most)) }
+    ensures settings { store.new.settings ≡ store.old.settings }
+    ensures honest { (D.view store.new.disk).is_honest ≡ (D.view store.old.disk).is_honest }
+    ensures failed { OnOk result (store.new.has_failed ≡ store.old.has_failed) }
+    ensures holds { OnOk result
+        (contents store.new.store.tree ≡ contents store.old.store.tree) }
+{
+    if let Some(reading) = kept {
+        return clean_if_due(rt, crew, store, reading, most, lines, out);
+    }
     let row = row_of_cleans(store.settings().segments);
     match read_for_row(rt, crew, store, row.min(most)) {
-        Ok(mut reading) => run_row(rt, crew, store, &mut reading, row, most, lines, out),
-        Err(refused) => cleans_after_refusal(refused),
+        Ok(reading) => clean_if_due(rt, crew, store, reading, most, lines, out),
+        Err(refused) => no_row(refused),
     }
 }
 
@@ -361,7 +605,7 @@ fn flush_or_clean<R: Threads + Sync, D: Disk, O: Write>(
     requires crew { IsTrue (is_crew crew) }
     requires fine { store.old.has_failed ≡ false }
     ensures runs { (mode : Mode) → mode.clean_when_full ≡ true → (first : mapped.Store) →
-        TidiesTo mode.tidy store.old.settings first store.old.store →
+        TidiesTo mode store.old.settings first store.old.store →
         RunsFirst mode (D.view store.old.disk).is_honest
         store.old.settings first (D.view store.old.disk).seen (Order.Flush ∷ [])
         (O.contents out.old) (O.contents out.new) result store.new.store
@@ -372,18 +616,23 @@ fn flush_or_clean<R: Threads + Sync, D: Disk, O: Write>(
     ensures holds { OnOk result
         (contents store.new.store.tree ≡ contents store.old.store.tree) }
 {
-    let mut left = store.settings().segments;
+    let mut kept = None;
+    let mut left = clean_early(rt, crew, store, &mut kept, lines, out)?;
     'room: loop {
         let done = run_step(rt, crew, store, Step::Flush, lines, out);
         if left == 0 || !is_full(&done) {
             return done;
         }
-        left = clean_ahead(rt, crew, store, left, lines, out)?;
+        match clean_ahead(rt, crew, store, kept.take(), left, lines, out)? {
+            Some(more) => left = more,
+            None => return done,
+        }
     }
 }
 
-// Flushes the store, with cleans that make room for the flush. The store is tidied once, and an
-// allocation that fails in tidying ends the session only after the flush.
+// Flushes the store, with cleans that make room for the flush. The store is tidied and compacted once.
+// An allocation that fails in tidying ends the session only after the flush. One that fails in
+// compaction ends it before the flush.
 fn run_flush_with_room<R: AllocGlobal + Threads + Sync, D: Disk, O: Write>(
     rt: &R,
     crew: Crew,
@@ -404,7 +653,8 @@ fn run_flush_with_room<R: AllocGlobal + Threads + Sync, D: Disk, O: Write>(
     ensures holds { OnOk result
         (contents store.new.store.tree ≡ contents store.old.store.tree) }
 {
-    let tidied = tidy_before_flush(rt, crew, mode, store);
+    let tidied = tidy_if_asked(rt, crew, mode, store);
+    compact_if_due(rt, crew, store)?;
     flush_or_clean(rt, crew, store, lines, out)?;
     tidied
 }

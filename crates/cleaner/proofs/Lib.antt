@@ -6,6 +6,7 @@ mod CleanLemmas
 mod CleanRows
 mod DoneLemmas
 mod LaterCleans
+mod LiveLemmas
 mod NextReading
 mod NumberLists
 mod PlanLemmas

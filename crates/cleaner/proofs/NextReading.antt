@@ -38,6 +38,7 @@ use Rattle.recovery.proofs.FoundWithin.{log-within}
 use Rattle.cleaner.specs.Chosen.{image_in}
 use Rattle.cleaner.specs.Cleaned.{IsCleanFault, IsRead, IsClean}
 use Rattle.cleaner.specs.CleanText.{clean_text}
+use Rattle.cleaner.specs.Live.{live_bytes}
 use Rattle.cleaner.specs.PagesRead.{PagesRead, pages_at, HasTexts, IsReading, IsReadingOf}
 use Rattle.cleaner.proofs.CleanLemmas.{sound-cleaned, all-clean_text}
 use Rattle.cleaner.proofs.LaterCleans.{same-clean_text}
@@ -68,10 +69,10 @@ first-has head last limit is more = omega (arith, is, more)
 module _ (v : View) (g : Format) (e : LogEnds) (now : List ℕ) (limit : ℕ) (found : List Found) (Wrong : Fault → Type 0) where
   -- what is kept of the frames that were found
   abbrev IsKeptOf : Result PagesRead Fault → Type 0
-  IsKeptOf r = MatchResult r (λ r. (broken_in (frames_in found) ≡ None) × (r.limit ≡ limit) × HasTexts g 0 found r) Wrong
+  IsKeptOf r = MatchResult r (λ r. (broken_in (frames_in found) ≡ None) × (r.limit ≡ limit) × (r.live ≡ live_bytes found) × HasTexts g 0 found r) Wrong
 
   pub new-reading : (r : Result PagesRead Fault) → IsReadOf v now → log_between g now e.head e.tail ≡ Ok found → limit ≤ last_segment g.settings e.tail → IsKeptOf r → IfOk r (IsReadingOf v g e)
-  new-reading (Ok r) is read below (sound, same, texts) = (
+  new-reading (Ok r) is read below (sound, same, live, texts) = (
     now,
     is,
     record { found = found; read = record { read = read; sound = sound }; within = omega (arith, same, below); texts = λ n from in_front. texts n (omega arith) in_front },
@@ -79,7 +80,7 @@ module _ (v : View) (g : Format) (e : LogEnds) (now : List ℕ) (limit : ℕ) (f
   new-reading (Err fault) is read below h = tt
 
   pub new-limit : (Such : ℕ → Type 0) (r : Result PagesRead Fault) → Such limit → IsKeptOf r → IfOk r (λ r. Such r.limit)
-  new-limit Such (Ok r) such (sound, same, texts) = subst Such (sym same) such
+  new-limit Such (Ok r) such (sound, same, live, texts) = subst Such (sym same) such
   new-limit Such (Err fault) such h = tt
 
 -- why it is refused

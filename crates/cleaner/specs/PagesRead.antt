@@ -13,10 +13,11 @@ use Rattle.cleaner.specs.Chosen.{image_in}
 use Rattle.cleaner.specs.Cleaned.{IsRead}
 use Rattle.cleaner.specs.CleanText.{clean_text}
 
--- a reading: the segments below the limit can be cleaned by it, and under the number of each of them where a page lives it has, of
--- each such page, the frames, back to back
+-- a reading: the segments below the limit can be cleaned by it, so many bytes of the log that was read live, and under the number of
+-- each of these segments where a page lives it has, of each such page, the frames, back to back
 pub record PagesRead : Type 0 where
   pub limit : ℕ
+  pub live : ℕ
   pub pages : List (ℕ × List Bytes)
 
 abbrev pub or_none : Option (List Bytes) → List Bytes

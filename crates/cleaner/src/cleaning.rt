@@ -1,5 +1,5 @@
 //! The clean: what lives in the log's first segment is carried to its end, and a crash leaves the store of before or of after.
-ghost use Rattle.std.specs.Prelude.{◌≡◌, ◌≢◌, ◌⊎◌, ◌≤◌, ◌<◌, ◌+◌, ◌-◌, suc, min, None, Ok, IsTrue, IfOk, IfErr, OnOk, MatchResult};
+ghost use Rattle.std.specs.Prelude.{◌≡◌, ◌≢◌, ◌⊎◌, ◌≤◌, ◌<◌, ◌+◌, ◌-◌, suc, min, None, Some, Ok, IsTrue, IfOk, IfErr, OnOk, MatchResult};
 ghost use Rattle.keys.specs.Bytes.{Bytes};
 ghost use Rattle.keys.specs.Limits.{first_bad_field};
 ghost use Rattle.mapping.specs.Tree.{Store};
@@ -14,6 +14,7 @@ ghost use Rattle.recovery.specs.Recovered.{IsReadOf, IsLate};
 ghost use Rattle.recovery.specs.StoreOfDisk.{store_of_disk};
 ghost use Rattle.cleaner.specs.AfterClean.{slot_on_disk, after_clean};
 ghost use Rattle.cleaner.specs.Cleaned.{WouldClean, IsCleanFault, IsRefused, cleaned_slot, IsClean};
+ghost use Rattle.cleaner.specs.Live.{live_in};
 ghost use Rattle.cleaner.specs.PagesRead.{HasTexts, IsReadingOf};
 
 use crate::choose::choose;
@@ -82,6 +83,7 @@ fn plan<D: Disk>(
         (λ fault. IsRefused format.now ends.now file fault
         ⊎ IsLate (D.failed disk.old) (D.failed disk.new) fault) }
     ensures limit { reading.new.limit ≡ reading.old.limit }
+    ensures live { reading.new.live ≡ reading.old.live }
     ensures kept { Kept (D.view disk.old) (D.view disk.new) }
     ensures same { OnlyRead (D.view disk.old) (D.view disk.new) }
     ensures counted { OnOk result (D.failed disk.new ≡ D.failed disk.old) }
@@ -118,6 +120,13 @@ pub fn read_for_cleans<D: Disk>(
     ensures limit { IfOk result (λ reading. (reading.limit
         ≡ ends.now.head + min count (last_segment format.now.settings ends.now.tail - ends.now.head))
         × (ends.now.head < last_segment format.now.settings ends.now.tail)) }
+    // The live bytes, of bytes that were read: none, if it is refused otherwise than before it reads or late.
+    ensures live { (file : Bytes) × IsReadOf (D.view disk.old) file
+        × MatchResult result
+        (λ reading. live_in format.now ends.now file ≡ Some reading.live)
+        (λ fault. (fault ≡ Fault.NothingToClean)
+        ⊎ IsLate (D.failed disk.old) (D.failed disk.new) fault
+        ⊎ (live_in format.now ends.now file ≡ None)) }
     // Why it is refused, as a clean is: of bytes that were read, which on an honest disk are what a read gives.
     ensures err { (file : Bytes) × IsReadOf (D.view disk.old) file ×
         ((st : Store) → ends_of st ≡ ends.now → st.version ≡ format.now.version →
@@ -186,6 +195,7 @@ pub fn clean_by<D: Disk>(
     ensures reading { IfOk result (λ now.
         IsReadingOf (D.view disk.new) format.now (ends_in now) reading.new) }
     ensures limit { reading.new.limit ≡ reading.old.limit }
+    ensures live { reading.new.live ≡ reading.old.live }
 {
     let commit = plan(alloc, disk, format, ends, reading)?;
     let next = commit.slot();

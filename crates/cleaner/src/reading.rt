@@ -1,5 +1,5 @@
 //! What one reading of a log keeps for the cleans of its first segments.
-ghost use Rattle.std.specs.Prelude.{◌≡◌, ◌≢◌, ◌⊎◌, ◌++◌, ℕ, List, None, Some, nat_lt, OnOk, IfOk, MatchResult};
+ghost use Rattle.std.specs.Prelude.{◌≡◌, ◌≢◌, ◌⊎◌, ◌++◌, ◌-◌, ◌^◌, ℕ, List, None, Some, min, nat_lt, sum_by, OnOk, IfOk, MatchResult};
 ghost use Rattle.std.specs.BTreeMap.{get};
 ghost use Rattle.std.specs.List.Sorted.{IsStrictlySortedBy};
 ghost use Rattle.std.specs.Map.{keys_of};
@@ -14,6 +14,7 @@ ghost use Rattle.recovery.specs.LogPages.{broken_in};
 ghost use Rattle.recovery.specs.StoreOfDisk.{frames_in};
 ghost use Rattle.recovery.specs.declared.gather.Wanted.TheVariants.{Before};
 ghost use Rattle.cleaner.specs.Chosen.{page_in, pages_in, held};
+ghost use Rattle.cleaner.specs.Live.{live_bytes};
 ghost use Rattle.cleaner.specs.PagesRead.{pages_at, HasTexts};
 
 use keys::Fault;
@@ -27,6 +28,8 @@ use std::marker::Model;
 #[derive(Drop)]
 pub struct Reading {
     limit: u64,
+    // How many bytes of the log that was read live.
+    live: u64,
     // Of each segment the pages that live in it, by rising page id: the frames of each page, back to back.
     pages: BTreeMap<u64, Vec<Vec<u8>>, Global>,
 }
@@ -37,7 +40,7 @@ impl Model for Reading {
 
     ghost Value = { PagesRead };
 
-    ghost view = { λ r. record { limit = r.limit; pages = entries_held r.pages.entries } };
+    ghost view = { λ r. record { limit = r.limit; live = r.live; pages = entries_held r.pages.entries } };
 }
 
 // Adds a page to those of its segment, after them. It is left out if no frame of it is kept.
@@ -85,6 +88,18 @@ fn by_segment(
     Ok(pages)
 }
 
+// How many bytes the live frames of these pages have.
+fn live_bytes(by_pid: &BTreeMap<u64, Kept, Global>) -> u64
+    ensures { result ≡ min (sum_by (λ e. e.1.size) by_pid.now.entries) (2 ^ 64 - 1) }
+{
+    let mut live = 0u64;
+    for entry in by_pid.iter() {
+        let (_pid, kept) = entry;
+        live = live.saturating_add(kept.size);
+    }
+    live
+}
+
 impl Reading {
     /// Keeps what was read of the pages that live in the segments below this limit.
     ///
@@ -94,7 +109,8 @@ impl Reading {
         ensures { (g : Format) (found : List Found) → first_bad_field g.settings ≡ None →
             AreGathered g (Before limit) pages found →
             MatchResult result
-            (λ r. (broken_in (frames_in found) ≡ None) × (r.limit ≡ limit) × HasTexts g 0 found r)
+            (λ r. (broken_in (frames_in found) ≡ None) × (r.limit ≡ limit)
+            × (r.live ≡ live_bytes found) × HasTexts g 0 found r)
             (λ fault. (fault ≡ NoMemory)
             ⊎ ((f : findings.Finding) × (broken_in (frames_in found) ≡ Some f)
             × (fault ≡ BadStructure f))) }
@@ -103,8 +119,9 @@ impl Reading {
             return Err(Fault::BadStructure(finding));
         }
         let Gathering { alloc, by_pid, .. } = pages;
+        let live = live_bytes(&by_pid);
         let pages = by_segment(alloc, by_pid)?;
-        Ok(Reading { limit, pages })
+        Ok(Reading { limit, live, pages })
     }
 
     /// Returns whether a log that begins at this segment can be cleaned by this reading.
@@ -114,10 +131,20 @@ impl Reading {
         head < self.limit
     }
 
+    /// Returns how many bytes the live frames of the whole log had when it was read: of each page, its frames from the last base on. A
+    /// clean copies frames as they are, so it does not change this number. Headers of segments and unused ends of segments do not count.
+    /// At most `u64::MAX`.
+    pub fn live(&self) -> u64
+        ensures { result ≡ self.now.live }
+    {
+        self.live
+    }
+
     /// Takes out the pages that live in this segment: none if there are none.
     pub(crate) fn take(&mut self, segment: u64) -> Option<Vec<Vec<u8>>>
         ensures taken { held result ≡ pages_at segment self.old }
         ensures limit { self.new.limit ≡ self.old.limit }
+        ensures live { self.new.live ≡ self.old.live }
         ensures rest { (n : ℕ) → n ≢ segment → pages_at n self.new ≡ pages_at n self.old }
     {
         self.pages.remove(&segment)

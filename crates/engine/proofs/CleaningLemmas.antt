@@ -1,11 +1,11 @@
--- A flush that cleans: which cleans were needed, and how it ends.
-use Rattle.std.specs.Prelude.{◌≡◌, ◌≢◌, ◌⊎◌, ℕ, suc, ◌+◌, ◌<◌, ◌≤◌, Bool, IsTrue, true, false, if◌then◌else◌, List, [], ◌∷◌, ◌++◌, Result, Ok, Err}
-use Rattle.std.proofs.Common.{refl, sym, ap, ◌∙◌, subst, inl, inr, ⊎_elim, arith, add-zero}
+-- A flush that cleans: which rows of cleans were needed, and how it ends.
+use Rattle.std.specs.Prelude.{◌≡◌, ◌≢◌, ◌⊎◌, ℕ, ◌+◌, ◌<◌, ◌≤◌, Bool, IsTrue, true, false, if◌then◌else◌, List, [], ◌∷◌, ◌++◌, Option, Some, None, Result, Ok, Err, IfSome}
+use Rattle.std.proofs.Common.{refl, sym, ap, ◌∙◌, subst, inl, inr, ⊎_elim, arith, zero-add}
 use Rattle.std.proofs.lemmas.Bool.{cases_lt}
 use Rattle.std.specs.declared.alloc.Global.{Global}
 use Rattle.keys.specs.Results.{and_then}
 use Rattle.keys.specs.declared.fault.Fault.{Fault}
-use Rattle.keys.specs.declared.fault.Fault.TheVariants.{Device, Full, Spent}
+use Rattle.keys.specs.declared.fault.Fault.TheVariants.{Device, Full, NoMemory, NothingToClean, Spent}
 use Rattle.keys.specs.declared.settings.Settings.{Settings}
 use Rattle.mapping.specs.Levels.{contents}
 use Rattle.mapping.specs.Tree.{Store}
@@ -14,20 +14,24 @@ use Rattle.flush_log.specs.AfterFlush.{Commit, flush_commit, file_after, is_spen
 use Rattle.flush_log.specs.FlushText.{flush_text, flushed}
 use Rattle.flush_log.specs.Layout.{is_full_for_flush}
 use Rattle.flush_log.specs.Disk.{View, Lawful, IsSettled, Kept, Same, LeavesOnly}
+use Rattle.flush_log.specs.Ends.{ends_of}
+use Rattle.flush_log.proofs.SameLemmas.{leaves_the_same}
 use Rattle.recovery.specs.InStep.{IsStore}
 use Rattle.recovery.proofs.KeptStore.{flushed-tree}
 use Rattle.recovery.proofs.ReadBytes.{kept_then}
 use Rattle.recovery.proofs.StoreLemmas.{ok-then}
-use Rattle.engine.specs.Cleaning.{most_ahead, IsFullAfter, AreNeeded, IsFlushedCleaning, IsWantOfRoom, IsStop, IsStoppedCleaning}
-use Rattle.engine.specs.Cleans.{cleans, AreCleaned, AreStopped}
+use Rattle.cleaner.specs.PagesRead.{PagesRead, IsReading}
+use Rattle.engine.specs.Cleaning.{most_ahead, IsRoomy, IsOverfull, IsEarly, IsFullAfter, BeginsRow, AreNeeded, IsFlushedCleaning, IsWantOfRoom, IsOfMachine, IsStoppedCleaning, IsOfBytes, IsHeld, IsNoReading}
+use Rattle.engine.specs.Cleans.{cleans, AreCleaned, AreStopped, IsReadFor, IsOnlyRead, IsRefusedClean}
 use Rattle.engine.specs.Plays.{IsStepDone, IsStepFault, IsLeftInStep, answer_of}
+use Rattle.engine.specs.Room.{live_known}
 use Rattle.engine.specs.State.{State, IsSound}
 use Rattle.engine.specs.Steps.{Step, Answer, Played, Stepped, after_step, batching, plays}
 use Rattle.engine.specs.Steps.Step.{Flush, Clean}
 use Rattle.engine.specs.Steps.Answer.{Flushed}
 use Rattle.engine.specs.declared.step.Answer as code_answer
 use Rattle.engine.specs.declared.step.Step.TheVariants as called
-use Rattle.engine.proofs.CleansLemmas.{same_left}
+use Rattle.engine.proofs.CleansLemmas.{same_left, still_cleaned, one_stopped}
 use Rattle.engine.proofs.PlayTurn.{stays, still_said, still_exact, goes_on, crash_on, refused_after}
 
 -- ---- a flush
@@ -76,15 +80,22 @@ text_full s st file other (f ∷ fs) h =
 full_any : (s : Settings) (st : Store) (file other : List ℕ) → after_flush s st file ≡ Err Full → after_flush s st other ≡ Err Full
 full_any s st file other h = text_full s st file other (flush_text st.version st.tree) h
 
+-- a flush that finds the log full has something to write
+due_when_full : (s : Settings) (st : Store) (file : List ℕ) → after_flush s st file ≡ Err Full → flush_text st.version st.tree ≢ []
+due_when_full s st file full none = (let e = subst (λ (text : List Frame). after_text s st file text ≡ Err Full) none full in absurd (cc))
+
+step_full : (s : Settings) (st : Store) (file : List ℕ) → after_flush s st file ≡ Err Full → (let q : Stepped Global = after_step (batching s) s st file Flush in q ≡ Err Full)
+step_full s st file full = ap (λ (r : Result Left Fault). and_then r (λ (p : Left). ok_step (Flushed p.0.sequence) p)) full
+
 -- ---- cleans that are needed
 
 none_needed : (s : Settings) (st : Store) (file : List ℕ) → AreNeeded s st file 0
 none_needed s st file = λ i h. absurd (omega (arith, h))
 
--- more of them, where the log is full after these, but not more than may go ahead
-needed_more : (s : Settings) (st : Store) (file : List ℕ) (n more : ℕ) → AreNeeded s st file n → more ≤ most_ahead s → IsFullAfter s st file n → AreNeeded s st file (n + more)
-needed_more s st file n more before few full = λ i h.
-    ⊎_elim (λ less. before i less) (λ later. (n, later, omega (arith, h, few, later), full)) (cases_lt i n)
+-- more of them, if a row of cleans begins after these, but not more than may go ahead
+needed_more : (s : Settings) (st : Store) (file : List ℕ) (n more : ℕ) → AreNeeded s st file n → more ≤ most_ahead s → (0 < more → BeginsRow s st file n) → AreNeeded s st file (n + more)
+needed_more s st file n more before few begins = λ i h.
+    ⊎_elim (λ less. before i less) (λ later. (n, later, omega (arith, h, few, later), begins (omega (arith, h, later)))) (cases_lt i n)
 
 -- ---- faults
 
@@ -96,9 +107,19 @@ want_other : (why fault : Fault) → IsWantOfRoom why fault → fault ≢ Device
 want_other why fault (inl room) other = λ device. (let e = room.0 in absurd (cc))
 want_other why fault (inr same) other = λ device. other (same.1 ∙ device)
 
-is_device : (why fault : Fault) → IsWantOfRoom why fault → why ≡ Device → fault ≡ Device
-is_device why fault (inl room) device = (let e = room.0 in absurd (cc))
-is_device why fault (inr same) device = same.1 ∙ device
+is_machine : (why fault : Fault) → IsWantOfRoom why fault → IsOfMachine why → IsOfMachine fault
+is_machine why fault (inl room) (inl device) = (let e = room.0 in absurd (cc))
+is_machine why fault (inl room) (inr memory) = (let e = room.0 in absurd (cc))
+is_machine why fault (inr same) (inl device) = inl (same.1 ∙ device)
+is_machine why fault (inr same) (inr memory) = inr (same.1 ∙ memory)
+
+not_nothing : (fault : Fault) → IsOfMachine fault → fault ≢ NothingToClean
+not_nothing fault (inl device) nothing = absurd (cc)
+not_nothing fault (inr memory) nothing = absurd (cc)
+
+want_same : (why fault : Fault) → why ≢ NothingToClean → IsWantOfRoom why fault → fault ≡ why
+want_same why fault other (inl room) = absurd (other room.0)
+want_same why fault other (inr same) = same.1
 
 -- gone on, after a flush that was refused: for a full log, where some are left
 pub gone_on : {T : Type 0} {x y : T} (fault : Fault) (left : ℕ)
@@ -114,6 +135,37 @@ pub not_gone_on : {T : Type 0} {x : T} (fault reported : Fault) (left : ℕ)
 not_gone_on fault reported left (inl full) = (let e = full.2 in absurd (cc))
 not_gone_on fault reported left (inr other) = ((let e = other.1 in cc), other.0)
 
+-- ---- readings
+
+-- what holds of a store and of bytes that are those of its honest disk holds of what a read gives
+of_seen : {D : Type 0} (view : D → View) (x : State D) (holds : Settings → Store → List ℕ → Type 0) → IsTrue (view x.disk).is_honest → IsOfBytes view x holds → holds x.settings x.store (view x.disk).seen
+of_seen view x holds honest (file, shown, is) = subst (λ (f : List ℕ). holds x.settings x.store f) (shown honest) is
+
+module _ {D : Type 0} (view : D → View) (cur next : State D) (settings : next.settings ≡ cur.settings) (kept : Kept (view cur.disk) (view next.disk)) (store : next.store ≡ cur.store) (same : IsTrue (view cur.disk).is_honest → Same (view cur.disk) (view next.disk)) where
+  -- and so where only the disk was read
+  pub still_of_bytes : (holds : Settings → Store → List ℕ → Type 0) → IsOfBytes view cur holds → IsOfBytes view next holds
+  still_of_bytes holds (file, shown, is) = (
+    file,
+    λ honest. (let was = subst IsTrue kept.honest honest in shown was ∙ sym (same was).seen),
+    subst (λ (s : Settings). holds s next.store file) (sym settings) (subst (λ (st : Store). holds cur.settings st file) (sym store) is),
+  )
+
+  still_read : (r : PagesRead) → IsReadFor view cur r → IsReadFor view next r
+  still_read r (file, is, reading) = (
+    file,
+    record { whole = is.whole ∙ sym kept.size; honest = λ honest. (let was = subst IsTrue kept.honest honest in is.honest was ∙ sym (same was).seen) },
+    subst (λ (s : Settings). IsReading (record { settings = s; version = next.store.version }) (ends_of next.store) file r) (sym settings)
+        (subst (λ (st : Store). IsReading (record { settings = cur.settings; version = st.version }) (ends_of st) file r) (sym store) reading),
+  )
+
+  pub still_held : (o : Option PagesRead) → IfSome o (IsHeld view cur) → IfSome o (IsHeld view next)
+  still_held None h = tt
+  still_held (Some r) h = record {
+    read = still_read r h.read;
+    next = subst (λ (st : Store). st.head < r.limit) (sym store) h.next;
+    live = still_of_bytes (λ s st file. live_known s st file ≡ Some r.live) h.live;
+  }
+
 -- ---- so far
 
 -- so many cleans are done, and each was needed
@@ -124,6 +176,28 @@ pub record AreDone {D : Type 0} (view : D → View) (failures : D → ℕ) (old 
 module _ {D : Type 0} (view : D → View) (failures : D → ℕ) (lawful : (disk : D) → IsTrue (view disk).is_honest → Lawful (view disk)) (old : State D) where
   pub none_done : AreCleaned view failures old 0 old → AreDone view failures old 0 old
   none_done done = record { done = done; needed = λ honest. none_needed old.settings old.store (view old.disk).seen }
+
+  -- a refused clean after so many that were needed
+  stopped_by : (next : State D) (n : ℕ) (why fault : Fault) → (IsTrue (view old.disk).is_honest → AreNeeded old.settings old.store (view old.disk).seen n) → n < old.settings.segments → IsWantOfRoom why fault
+      → ((file : List ℕ) → (after_flush old.settings next.store file ≡ Err Full) ⊎ IsOfMachine fault)
+      → AreStopped view failures old next n why
+      → IsStoppedCleaning view failures old next fault
+  stopped_by next n why fault needed room want full_or r =
+      let (file, shown, is) = r.why in
+      record {
+        count = n;
+        needed = needed;
+        said = r.said;
+        played = r.played;
+        exact = r.exact;
+        tree = r.tree;
+        rest = r.rest;
+        turn = λ other. r.turn (want_other why fault want other);
+        device = λ device. r.device (want_device why fault want device);
+        step = Clean;
+        why = (file, shown, inr (refl, room, full_or file, why, want, is));
+        crash = r.crash;
+      }
 
   module _ (count : ℕ) (cur : State D) (are : AreDone view failures old count cur) (next : State D) where
     abbrev first : List ℕ
@@ -212,45 +286,103 @@ module _ {D : Type 0} (view : D → View) (failures : D → ℕ) (lawful : (disk
             turn = λ other. stays view failures lawful old (cleans count) done.said cur done.turn next rest unchanged (counted other) (λ honest. same honest other) sound;
             device = device;
             step = Flush;
-            why = (file, shown, inl (refl, why, last));
+            why = (file, shown, inl (refl, why, λ full. inl (last full)));
             crash = λ fine was. crash_on view failures lawful old (cleans count) done.said cur done.turn next Flush crash fine was;
           }
+
+    -- only the disk was read
+    pub read_done : IsOnlyRead view failures cur next → AreDone view failures old count next
+    read_done r = record { done = still_cleaned view failures lawful old count cur are.done next r; needed = are.needed }
+
+    -- a flush is refused, if the log is full and no clean may help, or for memory
+    pub flush_refused : (only : IsOnlyRead view failures cur next) (fault : Fault) → fault ≢ Device
+        → (file : List ℕ) → (IsTrue (view next.disk).is_honest → file ≡ (view next.disk).seen) → IsStepFault old.settings next.store file (failures old.disk) (failures next.disk) Flush fault
+        → (fault ≡ Full → (count ≡ old.settings.segments) ⊎ IsOverfull old.settings next.store file)
+        → IsStoppedCleaning view failures old next fault
+    flush_refused only fault other file shown why last =
+        let done = (read_done only).done in
+        record {
+          count = count;
+          needed = are.needed;
+          said = done.said;
+          played = done.turn.played;
+          exact = done.turn.exact;
+          tree = done.tree;
+          rest = (done.turn.settings, done.turn.kept);
+          turn = λ _. done.turn;
+          device = λ device. absurd (other device);
+          step = Flush;
+          why = (file, λ honest. shown (subst IsTrue (sym done.turn.kept.honest) honest) ∙ done.turn.bytes honest, inl (refl, why, last));
+          crash = λ fine was. crash_on view failures lawful old (cleans count) are.done.said cur are.done.turn next Flush
+              (λ _ settled. leaves_the_same (view cur.disk) (view next.disk) _ (lawful cur.disk settled.honest) (only.same settled.honest) settled (inl refl)) fine was;
+        }
 
     -- ---- cleans after a flush that finds the log full
 
     module _ (full : (other : List ℕ) → after_flush old.settings cur.store other ≡ Err Full) where
-      full_after : IsTrue (view old.disk).is_honest → IsFullAfter old.settings old.store first count
-      full_after honest =
-          let p : Played Global = plays (batching old.settings) old.settings old.store first (cleans count) in
-          subst (λ (x : Store). after_flush old.settings x p.bytes ≡ Err Full) (are.done.turn.exact honest).store (full p.bytes)
+      pub full_next : next.store ≡ cur.store → (file : List ℕ) → after_flush old.settings next.store file ≡ Err Full
+      full_next store file = subst (λ (x : Store). after_flush old.settings x file ≡ Err Full) (sym store) (full file)
 
-      needed_on : (more : ℕ) → more ≤ most_ahead old.settings → IsTrue (view old.disk).is_honest → AreNeeded old.settings old.store first (count + more)
-      needed_on more few honest = needed_more old.settings old.store first count more (are.needed honest) few (full_after honest)
-
-      pub more_done : (more : ℕ) → more ≤ most_ahead old.settings → AreCleaned view failures old (count + more) next → AreDone view failures old (count + more) next
-      more_done more few done = record { done = done; needed = λ honest. needed_on more few honest }
-
-      pub stopped_clean : (more : ℕ) (why fault : Fault) → more ≤ most_ahead old.settings → count + more < old.settings.segments → IsWantOfRoom why fault
-          → ((more ≡ 0) × (next.store ≡ cur.store)) ⊎ (why ≡ Device)
-          → AreStopped view failures old next (count + more) why
-          → IsStoppedCleaning view failures old next fault
-      stopped_clean more why fault few room want first_or r =
-          let (file, shown, is) = r.why in
-          record {
-            count = count + more;
-            needed = λ honest. needed_on more few honest;
-            said = r.said;
-            played = r.played;
-            exact = r.exact;
-            tree = r.tree;
-            rest = r.rest;
-            turn = λ other. r.turn (want_other why fault want other);
-            device = λ device. r.device (want_device why fault want device);
-            step = Clean;
-            why = (file, shown, inr (refl, room, full_or file first_or, why, want, is));
-            crash = r.crash;
-          }
+      -- there is no reading by which cleans may help
+      pub stopped_reading : (why fault : Fault) → count < old.settings.segments → IsWantOfRoom why fault → IsNoReading view failures cur next why → IsStoppedCleaning view failures old next fault
+      stopped_reading why fault room want none = ⊎_elim (λ read. by_reading read.0 read.1) (λ refused. by_refusal refused) none.why
         where
-          full_or : (file : List ℕ) → ((more ≡ 0) × (next.store ≡ cur.store)) ⊎ (why ≡ Device) → (after_flush old.settings next.store file ≡ Err Full) ⊎ (fault ≡ Device)
-          full_or file (inl none) = inl (subst (λ (x : Store). after_flush old.settings x file ≡ Err Full) (sym none.1) (full file))
-          full_or file (inr device) = inr (is_device why fault want device)
+          by_reading : IsOnlyRead view failures cur next → ((why ≡ Full) × IsOfBytes view next IsOverfull) ⊎ (why ≡ NoMemory) → IsStoppedCleaning view failures old next fault
+          by_reading only (inl (is, (file, shown, over))) =
+              let same : fault ≡ Full = want_same why fault (λ nothing. (let e = is in absurd (cc))) want ∙ is in
+              let settings = only.rest.0 ∙ are.done.turn.settings in
+              subst (λ (f : Fault). IsStoppedCleaning view failures old next f) (sym same)
+              (flush_refused only Full (λ device. absurd (cc)) file shown (inl (step_full old.settings next.store file (full_next only.store file)))
+              (λ _. inr (subst (λ (s : Settings). IsOverfull s next.store file) settings over)))
+          by_reading only (inr is) =
+              let same : fault ≡ NoMemory = want_same why fault (λ nothing. (let e = is in absurd (cc))) want ∙ is in
+              let file = (view next.disk).seen in
+              subst (λ (f : Fault). IsStoppedCleaning view failures old next f) (sym same)
+              (flush_refused only NoMemory (λ device. absurd (cc)) file (λ _. refl) (inr (inl (refl, due_when_full old.settings next.store file (full_next only.store file))))
+              (λ full. absurd (cc)))
+
+          by_refusal : IsRefusedClean view failures cur next why → IsStoppedCleaning view failures old next fault
+          by_refusal refused =
+              stopped_by next count why fault are.needed room want (λ file. inl (full_next refused.store file)) (one_stopped view failures lawful old count cur are.done next why refused)
+
+      module _ (roomy : IsOfBytes view cur IsRoomy) where
+        full_after : IsTrue (view old.disk).is_honest → IsFullAfter old.settings old.store first count
+        full_after honest =
+            let p : Played Global = plays (batching old.settings) old.settings old.store first (cleans count) in
+            let same = (are.done.turn.exact honest).store in
+            let here = of_seen view cur IsRoomy (subst IsTrue (sym are.done.turn.kept.honest) honest) roomy in (
+              subst (λ (x : Store). after_flush old.settings x p.bytes ≡ Err Full) same (full p.bytes),
+              subst (λ (x : Store). IsRoomy old.settings x p.bytes) same
+                  (subst (λ (f : List ℕ). IsRoomy old.settings cur.store f) (are.done.turn.bytes honest) (subst (λ (s : Settings). IsRoomy s cur.store (view cur.disk).seen) are.done.turn.settings here)),
+            )
+
+        needed_on : (more : ℕ) → more ≤ most_ahead old.settings → IsTrue (view old.disk).is_honest → AreNeeded old.settings old.store first (count + more)
+        needed_on more few honest = needed_more old.settings old.store first count more (are.needed honest) few (λ _. inl (full_after honest))
+
+        pub more_done : (more : ℕ) → more ≤ most_ahead old.settings → AreCleaned view failures old (count + more) next → AreDone view failures old (count + more) next
+        more_done more few done = record { done = done; needed = λ honest. needed_on more few honest }
+
+        pub stopped_clean : (more : ℕ) (why fault : Fault) → more ≤ most_ahead old.settings → count + more < old.settings.segments → IsWantOfRoom why fault
+            → ((more ≡ 0) × (next.store ≡ cur.store)) ⊎ IsOfMachine why
+            → AreStopped view failures old next (count + more) why
+            → IsStoppedCleaning view failures old next fault
+        stopped_clean more why fault few room want first_or r =
+            stopped_by next (count + more) why fault (λ honest. needed_on more few honest) room want
+            (λ file. ⊎_elim (λ none. inl (full_next none.1 file)) (λ machine. inr (is_machine why fault want machine)) first_or) r
+
+  -- ---- a row of early cleans
+
+  module _ (next : State D) (n : ℕ) (few : n ≤ most_ahead old.settings) (early : 0 < n → IsOfBytes view old IsEarly) where
+    early_needed : IsTrue (view old.disk).is_honest → AreNeeded old.settings old.store (view old.disk).seen n
+    early_needed honest =
+        let first = (view old.disk).seen in
+        subst (λ (k : ℕ). AreNeeded old.settings old.store first k) (zero-add n)
+        (needed_more old.settings old.store first 0 n (none_needed old.settings old.store first) few (λ some. inr (refl, of_seen view old IsEarly honest (early some))))
+
+    pub early_done : AreCleaned view failures old (0 + n) next → AreDone view failures old n next
+    early_done done = record { done = subst (λ (k : ℕ). AreCleaned view failures old k next) (zero-add n) done; needed = early_needed }
+
+    pub early_stopped : (fault : Fault) → n < old.settings.segments → IsOfMachine fault → AreStopped view failures old next (0 + n) fault → IsStoppedCleaning view failures old next fault
+    early_stopped fault room machine stopped =
+        stopped_by next n fault fault early_needed room (inr (not_nothing fault machine, refl)) (λ file. inr machine)
+        (subst (λ (k : ℕ). AreStopped view failures old next k fault) (zero-add n) stopped)

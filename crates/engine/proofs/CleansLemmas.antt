@@ -1,5 +1,5 @@
 -- Cleans in turn: what is kept from one to the next.
-use Rattle.std.specs.Prelude.{◌≡◌, ◌≢◌, ◌⊎◌, ℕ, zero, suc, ◌+◌, ◌<◌, Bool, IsTrue, true, false, List, [], ◌∷◌, ◌++◌, Result, Ok, Err, IfOk, IfErr, MatchResult}
+use Rattle.std.specs.Prelude.{◌≡◌, ◌≢◌, ◌⊎◌, ℕ, zero, suc, ◌+◌, ◌<◌, Bool, IsTrue, false, List, [], ◌∷◌, ◌++◌, Result, Ok, Err, IfOk, OnOk, IfErr, OnErr, MatchResult}
 use Rattle.std.proofs.Common.{refl, sym, ap, ◌∙◌, subst, arith}
 use Rattle.std.specs.declared.alloc.Global.{Global}
 use Rattle.keys.specs.declared.fault.Fault.{Fault}
@@ -96,7 +96,7 @@ module _ {D : Type 0} (view : D → View) (failures : D → ℕ) (lawful : (disk
   as_count old next n m same done = subst (λ (k : ℕ). AreCleaned view failures old k next) same done
 
   -- one that was refused, but not by its disk, as if it had only been read
-  only_read : (cur next : State D) (fault : Fault) → fault ≢ Device → IsRefusedClean view failures cur next fault → IsOnlyRead view failures cur next
+  pub only_read : (cur next : State D) (fault : Fault) → fault ≢ Device → IsRefusedClean view failures cur next fault → IsOnlyRead view failures cur next
   only_read cur next fault other r = record { rest = r.rest; store = r.store; counted = r.counted other; same = λ honest. r.same honest other; sound = r.sound }
 
   pub none_on : (cur : State D) → IsCleanedOn view failures cur 0 cur
@@ -128,6 +128,14 @@ if_ok (Err fault) P Q h step = tt
 pub if_err : {X : Type 0} (r : Result X Fault) (P Q : Fault → Type 0) → IfErr r P → ((fault : Fault) → P fault → Q fault) → IfErr r Q
 if_err (Ok x) P Q h step = tt
 if_err (Err fault) P Q h step = step fault h
+
+pub on_ok : {X : Type 0} (r : Result X Fault) (P Q : Type 0) → OnOk r P → (P → Q) → OnOk r Q
+on_ok (Ok x) P Q h step = step h
+on_ok (Err fault) P Q h step = tt
+
+pub err_and : {X : Type 0} (r : Result X Fault) (P : Fault → Type 0) (Q R : Type 0) → IfErr r P → OnErr r Q → R → IfErr r (λ fault. P fault × Q × R)
+err_and (Ok x) P Q R h on rest = tt
+err_and (Err fault) P Q R h on rest = (h, on, rest)
 
 -- after a clean that was refused, when so many had been done
 abbrev IsAfterSome : ℕ → Fault → Result ℕ Fault → Type 0

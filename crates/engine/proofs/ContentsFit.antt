@@ -1,8 +1,7 @@
 -- How many pairs a tree can have: no more than a reply can count.
-use Rattle.std.specs.Prelude.{◌≡◌, ◌≢◌, ℕ, suc, ◌+◌, ◌-◌, ◌*◌, ◌^◌, ◌≤◌, Bool, true, false, ◌&&◌, ◌||◌, cond, nat_le, List, [], ◌∷◌, length, Option, Some, None, IsSome}
-use Rattle.std.proofs.Common.{refl, sym, ap, ◌∙◌, arith, length-append, leb-true, Ordering, Less, Equal, Greater}
+use Rattle.std.specs.Prelude.{◌≡◌, ◌≢◌, ℕ, ◌+◌, ◌-◌, ◌*◌, ◌^◌, ◌≤◌, Bool, true, false, ◌||◌, cond, nat_le, List, [], ◌∷◌, length, Option, Some, None, IsSome}
+use Rattle.std.proofs.Common.{refl, sym, arith, length-append, leb-true, Ordering, Less, Equal, Greater}
 use Rattle.std.specs.List.{AllByRecursion, IsDistinct, list_any}
-use Rattle.std.specs.Map.{lookup}
 use Rattle.std.specs.Ordering.{nat_cmp, is_eq, eq_by_cmp}
 use Rattle.std.proofs.lemmas.Bool.{and_parts}
 use Rattle.std.proofs.lemmas.Cmp.{nat_cmp_total, eq_by_cmp_equiv}
@@ -17,7 +16,7 @@ use Rattle.index_page.specs.Page.{PageOfKind}
 use Rattle.index_page.specs.Page.PageOfKind.{Leaf}
 use Rattle.index_page.specs.Rules.{Fits, IsRunSized, IsShortValue}
 use Rattle.mapping.specs.Levels.{Placed, entries, joined, pids, levels_of, contents}
-use Rattle.mapping.specs.Proper.{Distinct, HasLeaves, IsProper}
+use Rattle.mapping.specs.Proper.{Distinct, HasLeaves}
 use Rattle.mapping.specs.Tree.{Tree, page_at}
 use Rattle.routing.proofs.SortLemmas.{same_number}
 use Rattle.climb_plan.proofs.Installing.{distinct_first}

@@ -5,7 +5,7 @@ use Rattle.std.specs.List.Sorted.{IsStrictlySortedBy}
 use Rattle.std.specs.Ordering.{is_eq}
 use Rattle.keys.specs.Order.{order, IsRising}
 use Rattle.keys.specs.OrderedMap.{value_at}
-use Rattle.keys.specs.Range.{is_below, is_within, in_range, rows}
+use Rattle.keys.specs.Range.{is_within, in_range, rows}
 use Rattle.keys.proofs.MapLemmas.{passes_same, order_itself}
 use Rattle.keys.proofs.RangeLemmas.{all_below}
 use Rattle.scan.proofs.Parts.{value_at-passing}

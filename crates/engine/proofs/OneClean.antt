@@ -1,6 +1,6 @@
 -- One clean by a reading of the log, as a step of a play.
-use Rattle.std.specs.Prelude.{◌≡◌, ◌≢◌, ◌⊎◌, ℕ, ◌≤◌, IsTrue, Bool, true, false, List, Result, Ok, Err}
-use Rattle.std.proofs.Common.{refl, sym, ap, ◌∙◌, subst, inl, inr, ⊎_elim}
+use Rattle.std.specs.Prelude.{◌≡◌, ◌≢◌, ◌⊎◌, ℕ, ◌≤◌, IsTrue, Bool, true, false, List, Ok}
+use Rattle.std.proofs.Common.{refl, sym, ◌∙◌, subst, ⊎_elim}
 use Rattle.keys.specs.declared.fault.Fault.{Fault}
 use Rattle.keys.specs.declared.fault.Fault.TheVariants.{Device}
 use Rattle.keys.specs.declared.settings.Settings.{Settings}
@@ -11,7 +11,7 @@ use Rattle.flush_log.specs.Ends.{ends_of}
 use Rattle.flush_log.specs.Segments.{disk_size}
 use Rattle.flush_log.specs.declared.slot.LogEnds.{LogEnds}
 use Rattle.flush_log.proofs.ViewLemmas.{weaker}
-use Rattle.recovery.specs.InStep.{IsInStep, IsStore, IsStoreOf}
+use Rattle.recovery.specs.InStep.{IsInStep}
 use Rattle.recovery.specs.Recovered.{IsReadOf}
 use Rattle.recovery.specs.StoreOfDisk.{store_of_disk}
 use Rattle.cleaner.specs.AfterClean.{after_clean}
@@ -20,7 +20,7 @@ use Rattle.cleaner.specs.PagesRead.{PagesRead, IsReadingOf}
 use Rattle.engine.specs.Cleans.{IsReadFor, IsOnlyRead, IsDoneClean, IsRefusedClean}
 use Rattle.engine.specs.State.{State, IsSound}
 use Rattle.engine.specs.Steps.Step.{Clean}
-use Rattle.engine.proofs.CleanDone.{cleaned-sound, refused-sound}
+use Rattle.engine.proofs.CleanDone.{refused-sound}
 use Rattle.engine.proofs.StepDone.{clean_done, clean_refused, clean_left}
 
 -- it was read for a store whose log has this format and these ends

@@ -1,5 +1,5 @@
 -- The tasks of a batch: the leaves that they hold are those that may be changed, and what is made of them comes to the answers of all.
-use Rattle.std.specs.Prelude.{◌≡◌, ◌≢◌, ℕ, ◌+◌, Bool, true, false, not, ◌++◌, map, flat_map, length, slice_get, List, [], ◌∷◌, Option, Some, None, Result, Ok, Err, IfOk, IsOkAnd, if◌then◌else◌}
+use Rattle.std.specs.Prelude.{◌≡◌, ◌≢◌, ℕ, Bool, true, false, ◌++◌, map, flat_map, length, slice_get, List, [], ◌∷◌, Option, Some, None, Result, Ok, Err, IfOk, IsOkAnd, if◌then◌else◌}
 use Rattle.std.proofs.Common.{refl, sym, ap, ◌∙◌, subst}
 use Rattle.std.specs.List.{All, AllByRecursion}
 use Rattle.std.specs.declared.alloc.Global.{Global}

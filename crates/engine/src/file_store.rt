@@ -225,7 +225,8 @@ fn store_of<D: DiskOfFile>(
 /// the file holds: no file was opened or made then. Then come `OpenFault::Locked` and a reason why the file can't be opened, as it was;
 /// then a file that holds no store and is not unfinished, or a damaged store, with the fault that `Store::recover` has of it, and
 /// `Fault::NoMemory` and a reason why a call failed. A file that was not to become a new store was not written then. One that was is empty
-/// or unfinished, and the next call makes the store.
+/// or unfinished, and the next call makes the store. But if the file could not be emptied after a failure, it may hold a part of the new
+/// store: remove it.
 pub fn open_or_create<R: AllocGlobal + Threads + Sync + Files>(
     rt: &R,
     crew: Crew,

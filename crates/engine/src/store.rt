@@ -25,6 +25,7 @@ mod numbers;
 mod play;
 mod reads;
 mod reopen;
+mod room;
 mod tidy;
 mod upgrade;
 

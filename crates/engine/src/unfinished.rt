@@ -69,12 +69,12 @@ fn has_only_zeros<D: Disk>(disk: &mut D) -> Result<bool, DiskFault>
     Ok(true)
 }
 
-/// Returns whether the disk holds nothing but what an attempt to make a store leaves if it is cut off: no bytes, zeros alone, or a valid
-/// settings block whose first byte is still 0, with anything after it. Such a file may become a store, and nothing that anybody stored is
-/// lost. The attempts are `Store::create`, `Store::copy_to` and `open_or_create`, on a file that was empty or had zeros.
+/// Returns whether the disk holds what an attempt to make a store leaves if it is cut off: no bytes, zeros alone, or a valid settings block
+/// whose first byte is still 0, with anything after it. The attempts are `Store::create`, `Store::copy_to` and `open_or_create`. Such a disk
+/// holds no store. If the attempt was made over an old store, the pairs of that store cannot be read any more.
 ///
-/// Only reads, 4,096 bytes at a time, and stops at the first piece that decides. So only a disk of zeros is read to its end. Fails with
-/// `DiskFault` if a read fails.
+/// Only reads: first 64 bytes, and then, if they do not decide, 4,096 bytes at a time up to the first piece that has a byte other than 0.
+/// So only a disk of zeros is read to its end. Fails with `DiskFault` if a read fails.
 pub fn is_unfinished<D: Disk>(disk: &mut D) -> Result<bool, DiskFault>
     ensures kept { Kept (D.view disk.old) (D.view disk.new) }
     ensures failed { CountsFailure result (D.failed disk.old) (D.failed disk.new) }

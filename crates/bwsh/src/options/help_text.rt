@@ -24,7 +24,7 @@ pub const TIDY: &str = "Pages with few pairs to merge before each flush, at most
 
 pub const DISK: &str = "File of the store; without it the store is in memory, and is lost at exit";
 
-pub const COPY_TO: &str = "Copies the store to this new or empty file after all lines";
+pub const COPY_TO: &str = "Copies the store to this new, empty or unfinished file after all lines";
 
 pub const CREATE: &str = "Creates the file of the store; what the file held is lost";
 
@@ -34,7 +34,8 @@ pub const EXPLAIN: &str = "Explains an error on a second line of standard error"
 
 pub const STAT: &str = "Prints statistics of the store at the end";
 
-pub const CLEAN_WHEN_FULL: &str = "If the log has no room for a flush, cleans it and flushes again";
+pub const CLEAN_WHEN_FULL: &str =
+    "Before a flush, cleans a nearly full log and compacts nearly empty pages";
 
 pub const STREAM: &str =
     "Answers each batch before it reads on; without it, all input is read first";

@@ -1,7 +1,9 @@
 //! Many cleans in turn, by one reading of the log.
-ghost use Rattle.std.specs.Prelude.{◌≡◌, ◌≢◌, ◌⊎◌, ℕ, ◌<◌, ◌≤◌, Ok, Err, IsTrue, IfOk, IfErr, MatchResult, true, false};
+ghost use Rattle.std.specs.Prelude.{◌≡◌, ◌≢◌, ◌⊎◌, ℕ, ◌<◌, ◌≤◌, None, Some, Ok, Err, IsTrue, IfOk, IfErr, MatchResult, true, false};
+ghost use Rattle.keys.specs.Bytes.{Bytes};
 ghost use Rattle.engine.specs.Cleans.{AreCleaned, AreStopped, IsReadFor, IsOnlyRead, IsDoneClean, IsRefusedClean, IsCleanedOn, IsStoppedOn};
 ghost use Rattle.engine.specs.Refusal.{is_crew};
+ghost use Rattle.engine.specs.Room.{live_known};
 ghost use Rattle.engine.specs.State.{IsSound};
 
 use crate::refusal::admit_crew;
@@ -45,6 +47,14 @@ impl<D: Disk> Store<D> {
         ensures read { IfOk result (λ reading. IsOnlyRead D.view D.failed self.old self.new
             × IsReadFor D.view self.new reading × (self.new.store.head < reading.limit)) }
         ensures refused { IfErr result (IsRefusedClean D.view D.failed self.old self.new) }
+        // How many bytes live. If the log is refused for what it holds, it is not sound.
+        ensures live { (file : Bytes) ×
+            (IsTrue (D.view self.old.disk).is_honest → file ≡ (D.view self.old.disk).seen) ×
+            MatchResult result
+            (λ reading. live_known self.old.settings self.old.store file ≡ Some reading.live)
+            (λ fault. (fault ≡ Fault.NothingToClean) ⊎ (fault ≡ Fault.NoMemory)
+            ⊎ (fault ≡ Fault.Device)
+            ⊎ (live_known self.old.settings self.old.store file ≡ None)) }
     {
         let format = Format {
             settings: self.settings,
@@ -96,23 +106,28 @@ impl<D: Disk> Store<D> {
         }
     }
 
-    // Cleans up to `most` segments, as long as the reading has them, and returns how many.
-    fn clean_all_read(&mut self, reading: &mut Reading, most: u64) -> Result<u64, Fault>
+    // Cleans up to `most` segments, as long as the reading has them, and returns how many. Fails with how many were cleaned before the clean
+    // that was refused, and its fault.
+    pub(super) fn clean_all_read(
+        &mut self,
+        reading: &mut Reading,
+        most: u64,
+    ) -> Result<u64, (u64, Fault)>
         requires fine { self.old.has_failed ≡ false }
         requires read { IsReadFor D.view self.old reading.old }
         requires next { self.old.store.head < reading.old.limit }
         requires some { 0 < most }
         ensures done { IfOk result (λ n. (0 < n) × (n ≤ most)
             × IsCleanedOn D.view D.failed self.old n self.new) }
-        ensures stopped { IfErr result (λ fault. (n : ℕ) × (n < most)
-            × (((n ≡ 0) × (self.new.store ≡ self.old.store)) ⊎ (fault ≡ Fault.Device))
-            × IsStoppedOn D.view D.failed self.old n fault self.new) }
+        ensures stopped { IfErr result (λ e. (e.0 < most)
+            × (e.0 ≡ 0 → self.new.store ≡ self.old.store)
+            × IsStoppedOn D.view D.failed self.old e.0 e.1 self.new) }
     {
         let mut done = 0;
         'each: loop {
             match self.clean_by_reading(reading) {
                 Ok(_head) => done += 1,
-                Err(fault) => return after_some(fault, done),
+                Err(fault) => return Err((done, fault)),
             }
             if done == most || !reading.has(self.log.head) {
                 return Ok(done);
@@ -137,7 +152,10 @@ impl<D: Disk> Store<D> {
             × IsStoppedOn D.view D.failed self.old n fault self.new) }
     {
         let mut reading = self.read_ahead(rt, crew, most)?;
-        self.clean_all_read(&mut reading, most)
+        match self.clean_all_read(&mut reading, most) {
+            Ok(cleaned) => Ok(cleaned),
+            Err(refused) => after_some(refused.1, refused.0),
+        }
     }
 
     /// Makes up to `most` segments at the log's beginning free, one clean after the other, and returns how many. The log is read once for

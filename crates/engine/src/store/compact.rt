@@ -1,7 +1,8 @@
 //! Compaction: builds the tree again from its pairs, with as few leaves as these need.
-ghost use Rattle.std.specs.Prelude.{◌≡◌, ◌≤◌, ◌<◌, ◌-◌, ◌^◌, ◌++◌, ◌∷◌, ◌&&◌, ℕ, List, [], Some, Err, IsTrue, IfOk, OnOk, IfErr, OnErr, true, false};
+ghost use Rattle.std.specs.Prelude.{◌≡◌, ◌⊎◌, ◌≤◌, ◌<◌, ◌+◌, ◌-◌, ◌*◌, ◌/◌, ◌^◌, ◌++◌, ◌∷◌, ◌&&◌, ℕ, List, [], length, None, Some, Err, IsTrue, IfOk, IfSome, OnOk, IfErr, OnErr, true, false};
 ghost use Rattle.std.specs.Map.{keys_of};
 ghost use Rattle.keys.specs.Bytes.{Bytes};
+ghost use Rattle.keys.specs.declared.fault.Fault.TheVariants.{NoMemory};
 ghost use Rattle.keys.specs.declared.settings.Settings.{Settings};
 ghost use Rattle.mapping.specs.FreshPids.{is_among};
 ghost use Rattle.mapping.specs.Levels.{contents, levels_of};
@@ -13,6 +14,7 @@ ghost use Rattle.mapping.specs.TreeInMemory.{AreAllHome, tree_of};
 ghost use Rattle.recovery.specs.InStep.{IsStore, IsStoreOf};
 ghost use Rattle.engine.specs.Compacted.{AreFreed, HasLeavesAt, IsCompactFault, IsCompacted, all_puts, compacted, is_logged, no_pairs, outdated_tree};
 ghost use Rattle.engine.specs.Refusal.{is_crew};
+ghost use Rattle.engine.specs.Room.{is_bloated, is_two_thirds_full};
 ghost use Rattle.engine.specs.SoundTree.{IsSoundInMemory};
 ghost use Rattle.engine.specs.Tidied.{counted_pages};
 
@@ -20,13 +22,14 @@ use crate::execute::execute;
 use crate::refusal::admit_crew;
 use crate::store::Store;
 use crate::store::copy::puts_of;
+use crate::store::flush::plan;
 use crate::store::tidy::count_pages;
 use climb_plan::laws::{
     the_log_states_stay_true, the_plan_holds_the_map_after_the_commands,
     the_plan_of_a_proper_store_is_proper, what_the_log_has_of_a_page_stays_true,
 };
 use crew::{Crew, NoGate};
-use flush_log::Disk;
+use flush_log::{Disk, Text, is_all_written};
 use index_page::Page;
 use keys::{Command, Fault, Pid, Settings};
 use mapping::laws::{the_contents_of_a_proper_tree_rise, the_first_tree_is_proper_and_empty};
@@ -203,7 +206,152 @@ fn compacted_tree(
     Ok(new)
 }
 
+// Whether there are fewer rows than `most`, and their keys and values have at most `room` bytes. It stops at the first row that is one
+// too many.
+fn are_few(rows: Rows<'_>, most: u64, room: u64) -> bool
+    ensures { IsTrue result → length rows.entry < most }
+{
+    let mut left = most;
+    let mut room = room;
+    for (key, value) in rows {
+        let bytes = (key.len() + value.len()) as u64;
+        if left == 0 || room < bytes {
+            return false;
+        }
+        left -= 1;
+        room -= bytes;
+    }
+    left > 0
+}
+
+// A number of pairs below which a tree of so many pages and levels is bloated.
+fn most_pairs(pages: u64, height: u32, fan: u32) -> u64
+    ensures { (n : ℕ) → n < result → 4 * n / fan + 4 * height < pages }
+{
+    let beyond = pages.saturating_sub(u64::from(height) * 4);
+    let entries = beyond.saturating_mul(u64::from(fan));
+    entries / 4
+}
+
+// What is answered if a compaction is refused: that there is none; but `Fault::NoMemory` if an allocation failed.
+fn no_compacted(fault: Fault) -> Result<Option<Tree<Global>>, Fault>
+    ensures none { IfOk result (λ o. o ≡ None) }
+    ensures err { IfErr result (λ fault. fault ≡ NoMemory) }
+{
+    match fault {
+        Fault::NoMemory => Err(Fault::NoMemory),
+        _ => Ok(None),
+    }
+}
+
 impl<D: Disk> Store<D> {
+    // Whether the tree has more pages than its pairs account for. It is never said of a tree whose pairs alone would fill the free segments.
+    fn is_bloated(&self) -> bool
+        ensures { IsTrue result → IsTrue (is_bloated self.now.settings self.now.store.tree) }
+    {
+        let pages = count_pages(&self.tree);
+        let most = most_pairs(pages, self.tree.height(), self.settings.fan);
+        let free = self.segments() - self.segments_in_use();
+        let room = free * u64::from(self.settings.seg_size);
+        are_few(Rows::with_prefix(self.alloc, &self.tree, b""), most, room)
+    }
+
+    // The compacted tree, if its flush finds room without a clean.
+    fn compacted_that_fits(
+        &self,
+        rt: &(impl Threads + Sync),
+        crew: Crew,
+    ) -> Result<Option<Tree<Global>>, Fault>
+        ensures fits { IfOk result (λ o. IfSome o (λ new. IsSoundInMemory self.now.settings new
+            × (tree_of new ≡ compacted self.now.settings self.now.store.tree)
+            × (new.root < 2 ^ 64))) }
+        ensures err { IfErr result (λ fault. fault ≡ NoMemory) }
+    {
+        // Only for the proof.
+        a_compacted_tree_keeps_the_store_in_step();
+        let new = match compacted_tree(rt, crew, self.alloc, &self.settings, &self.tree) {
+            Ok(new) => new,
+            Err(fault) => return no_compacted(fault),
+        };
+        let _of_64_bits = new.root();
+        if is_all_written(&new) {
+            return Ok(None);
+        }
+        let text = Text::Flush(self.version);
+        match plan(rt, crew, self.alloc, &self.settings, &new, self.log, text) {
+            Ok(_planned) => Ok(Some(new)),
+            Err(fault) => no_compacted(fault),
+        }
+    }
+
+    // Returns whether to count the pairs now. A small tree is counted at each flush, since that is cheap; of the flushes of a larger one, one
+    // in so many as it has 2,048 pages. It depends on what the store holds alone, as all that decides what is written must: not on the free
+    // page ids, which a reopened store has forgotten. The sequence numbers are scattered, since cleans, which count too, come in rows of
+    // equal length.
+    fn is_time_to_count(&self) -> bool {
+        let every = count_pages(&self.tree) / 2_048 + 1;
+        let scattered = self.log.sequence.wrapping_mul(0x9e37_79b9_7f4a_7c15) >> 32;
+        scattered % every == 0 || self.is_tight()
+    }
+
+    // Returns whether at least two thirds of the log are in use and the tree is bloated. It looks only if it is time to.
+    fn may_be_compacted(&self) -> bool
+        ensures { IsTrue result → IsTrue (is_two_thirds_full self.now.settings self.now.store)
+            × IsTrue (is_bloated self.now.settings self.now.store.tree) }
+    {
+        self.is_two_thirds_full() && self.is_time_to_count() && self.is_bloated()
+    }
+
+    // Compacts the tree if its flush finds room without a clean.
+    fn compact_if_it_fits(&mut self, rt: &(impl Threads + Sync), crew: Crew) -> Result<(), Fault>
+        ensures compacted { OnOk result ((self.new ≡ self.old)
+            ⊎ IsCompacted self.old.settings self.old.store self.new.store) }
+        ensures rest { (self.new.settings ≡ self.old.settings) × (self.new.disk ≡ self.old.disk)
+            × (self.new.has_failed ≡ self.old.has_failed) }
+        ensures err { IfErr result (λ fault. fault ≡ NoMemory) }
+        ensures unchanged { OnErr result (self.new ≡ self.old) }
+    {
+        // Only for the proof.
+        a_compacted_tree_keeps_the_store_in_step();
+        let fitting = self.compacted_that_fits(rt, crew)?;
+        let Some(new) = fitting else {
+            return Ok(());
+        };
+        self.tree = new;
+        Ok(())
+    }
+
+    /// Compacts the tree, as `compact` does, if at least two thirds of the log's segments are in use, the tree has more pages than its pairs
+    /// account for, and the flush of the compacted tree fits into the free segments. Else nothing changes. More pages than the pairs
+    /// account for are more than 4 for each `fan` pairs and 4 for each level. The store must not have failed, and the crew must be in
+    /// range.
+    ///
+    /// Fails only with `Fault::NoMemory`. Then nothing changes.
+    ///
+    /// If that many segments are in use, the pages are counted at each flush. So are the pairs if there are fewer than 2,048 pages; otherwise
+    /// they are counted more rarely, unless the log is tight.
+    pub fn compact_if_bloated(
+        &mut self,
+        rt: &(impl Threads + Sync),
+        crew: Crew,
+    ) -> Result<(), Fault>
+        requires fine { self.old.has_failed ≡ false }
+        requires crew { IsTrue (is_crew crew) }
+        ensures compacted { OnOk result ((self.new ≡ self.old)
+            ⊎ (IsTrue (is_two_thirds_full self.old.settings self.old.store)
+            × IsTrue (is_bloated self.old.settings self.old.store.tree)
+            × IsCompacted self.old.settings self.old.store self.new.store)) }
+        ensures rest { (self.new.settings ≡ self.old.settings) × (self.new.disk ≡ self.old.disk)
+            × (self.new.has_failed ≡ self.old.has_failed) }
+        ensures err { IfErr result (λ fault. fault ≡ NoMemory) }
+        ensures unchanged { OnErr result (self.new ≡ self.old) }
+    {
+        if self.may_be_compacted() {
+            return self.compact_if_it_fits(rt, crew);
+        }
+        Ok(())
+    }
+
     /// Builds the tree again from its pairs, as one batch that puts all of them into an empty store builds it: with as few leaves as the
     /// pairs need. Returns how many pages fewer the store has, or 0 if it has more. Call it if `tidy` leaves many more pages.
     ///

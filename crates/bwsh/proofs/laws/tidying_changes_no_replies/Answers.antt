@@ -1,5 +1,5 @@
 use Rattle.bwsh.proofs.RunLemmas.{after_order-untidied}
-use Rattle.bwsh.proofs.TidiedLemmas.{holds-tidied, log-tidied, replies-anywhere, tidied-cleaned, tidies}
+use Rattle.bwsh.proofs.TidiedLemmas.{holds-tidied, log-tidied, replies-anywhere, tidied-cleaned, compacts, tidies}
 use Rattle.bwsh.proofs.laws.tidying_changes_no_replies.Goals as goal
 
 pub returns : goal.returns
@@ -8,6 +8,7 @@ returns c = record {
   holds = holds-tidied;
   log = log-tidied;
   tidies = tidies;
+  compacts = compacts;
   cleans = tidied-cleaned;
   untidied = after_order-untidied;
 }

@@ -1,4 +1,5 @@
-use Rattle.std.proofs.Common.{◌≡◌, ◌≢◌, ◌⊎◌, ◌∙◌, ap, inl, inr, refl, Err}
+use Rattle.std.proofs.Common.{◌≡◌, ◌<◌, ◌∙◌, ap, inl, inr, refl, subst, sym, Ok, Err, Option, ◌∷◌, []}
+use Rattle.std.specs.Prelude.{IfSome}
 use Rattle.std.proofs.lemmas.Result.{err_from_is_err_and, on_ok_weaker}
 use Rattle.mapping.specs.Levels.{contents}
 use Rattle.mapping.specs.Tree.{Store}
@@ -6,22 +7,43 @@ use Rattle.keys.specs.declared.fault.Fault.TheVariants.{Full}
 use Rattle.keys.specs.declared.settings.Settings.{Settings}
 use Rattle.bwsh.specs.declared.batch_file.Order.TheVariants.{Flush}
 use Rattle.bwsh.specs.declared.session.SessionError.TheVariants as errors
-use Rattle.bwsh.proofs.RoomLemmas.{as_roomy, LeadsEach-first, Room-ends, Room-cleaned, Room-stops, some_mode}
+use Rattle.bwsh.specs.Session.{IsReadAhead}
+use Rattle.cleaner.specs.PagesRead.{PagesRead}
+use Rattle.bwsh.proofs.AheadLemmas.{cleans_some, fewer_here, fewer_most, fewer_some, reads_on}
+use Rattle.bwsh.proofs.RoomLemmas.{Early-cleaned, Early-stops, IsEnded, RunsFirst-stopped, Room-cleaned, Room-ends, Room-hopeless, Room-stops, as_roomy, calm_by, calm_later, roomy, roomy_by, some_mode, undue_by}
 use Rattle.bwsh.proofs.TidiedLemmas.{untidy}
 use Rattle.bwsh.proofs.running.flush_or_clean.Goals as goal
 use Rattle.bwsh.proofs.running.flush_or_clean.Goals.{then-left-eq0-via-then-left-eq0, then-left-eq0-via-else-left-eq0+then-not-is_full}
+
+pub returns-in_err-left-clause-runs : goal.returns-in_err-left-clause-runs
+returns-in_err-left-clause-runs g c mode room first by =
+    let store = c.args.store.now in
+    let disk = g.D.Disk.view store.disk in
+    let after = c.clean_early.new.store in
+    let p = err_from_is_err_and c.from_residual.result c.from_residual.ensures.1 in
+    rw (p.1, p.2) (as_roomy mode room disk.is_honest store.settings first disk.seen (g.O.Write.contents c.args.out.now) (g.O.Write.contents c.clean_early.new.out) (Err c.in_err-left.field-0.0) after.store
+    (g.D.Disk.view after.disk).seen
+    (Early-stops mode disk.is_honest store.settings first store.store disk.seen (g.O.Write.contents c.args.out.now) (roomy_by mode store.settings first store.store by) store.settings.segments refl
+    (g.O.Write.contents c.clean_early.new.out) after.store (g.D.Disk.view after.disk).seen c.in_err-left.field-0.0 (c.in_err-left.ensures.runs (roomy mode) first (roomy_by mode store.settings first store.store by))))
 
 pub room-init : goal.room-init
 room-init g c =
     let store = c.args.store.now in
     let disk = g.D.Disk.view store.disk in
+    let after = c.clean_early.new.store in
+    let cleaned = c.in_ok-left.ensures in
     record {
-      settings = refl;
-      honest = refl;
-      fine = c.requires.fine;
+      settings = cleaned.settings;
+      honest = cleaned.honest;
+      fine = cleaned.failed ∙ c.requires.fine;
       same = c.requires.fine;
-      holds = refl;
-      leads = LeadsEach-first disk.is_honest store.settings store.store disk.seen (g.O.Write.contents c.args.out.now) _ (ap (λ (s : Settings). s.segments) c.settings-left.ensures);
+      holds = cleaned.holds;
+      calm = cleaned.calm;
+      read = cleaned.read;
+      most = cleaned.most;
+      leads = λ mode first by.
+          Early-cleaned mode disk.is_honest store.settings first store.store disk.seen (g.O.Write.contents c.args.out.now) (roomy_by mode store.settings first store.store by) store.settings.segments refl
+          (g.O.Write.contents c.clean_early.new.out) after.store (g.D.Disk.view after.disk).seen c.in_ok-left.left (cleaned.runs (roomy mode) first (roomy_by mode store.settings first store.store by));
     }
 
 pub returns-then-left-eq0-clause-runs : goal.returns-then-left-eq0-clause-runs
@@ -31,13 +53,14 @@ returns-then-left-eq0-clause-runs g c mode room first by =
     let at = c.room in
     let now = g.D.Disk.view at.store.disk in
     let tried = c.run_step-done.new.store in
-    let why : (at.left ≡ 0) ⊎ (c.run_step-done.result ≢ Err (errors.Fault Full)) = elim c.then-left-eq0.branch [
+    let calm = calm_by g.D.Disk.view at.store at.left disk.is_honest at.invariant.honest store.settings at.invariant.settings at.invariant.calm in
+    let why : IsEnded at.left disk.is_honest store.settings at.store.store now.seen c.run_step-done.result = elim c.then-left-eq0.branch [
       | then-left-eq0-via-then-left-eq0 w ↦ inl w.if-left-eq0.true
-      | then-left-eq0-via-else-left-eq0+then-not-is_full w ↦ inr (w.is_full.ensures.other w.if-not-is_full.true)
+      | then-left-eq0-via-else-left-eq0+then-not-is_full w ↦ inr (inl (w.is_full.ensures.other w.if-not-is_full.true, calm))
     ] in
     as_roomy mode room disk.is_honest store.settings first disk.seen (g.O.Write.contents c.args.out.now) (g.O.Write.contents c.run_step-done.new.out) c.run_step-done.result tried.store
     (g.D.Disk.view tried.disk).seen
-    (Room-ends mode disk.is_honest store.settings first disk.seen (g.O.Write.contents c.args.out.now) by.batches by.unasked at.left at.store.store now.seen (g.O.Write.contents at.out)
+    (Room-ends mode disk.is_honest store.settings first disk.seen (g.O.Write.contents c.args.out.now) by.tidying (roomy_by mode store.settings first store.store by).asked at.left at.store.store now.seen (g.O.Write.contents at.out)
     (at.invariant.leads mode first by)
     now.is_honest at.invariant.honest at.store.settings at.invariant.settings (g.O.Write.contents c.run_step-done.new.out) c.run_step-done.result tried.store (g.D.Disk.view tried.disk).seen
     (c.run_step-done.ensures.runs (untidy mode) Flush refl) why)
@@ -46,8 +69,8 @@ pub returns-then-left-eq0-clause-holds : goal.returns-then-left-eq0-clause-holds
 returns-then-left-eq0-clause-holds g c =
     on_ok_weaker c.run_step-done.result (λ leaves. leaves.holds ∙ c.room.invariant.holds) (c.run_step-done.ensures.runs some_mode Flush refl).3
 
-pub returns-in_err-left-clause-runs : goal.returns-in_err-left-clause-runs
-returns-in_err-left-clause-runs g c mode room first by =
+pub returns-in_err-more-clause-runs : goal.returns-in_err-more-clause-runs
+returns-in_err-more-clause-runs g c mode room first by =
     let store = c.args.store.now in
     let disk = g.D.Disk.view store.disk in
     let at = c.room in
@@ -58,17 +81,26 @@ returns-in_err-left-clause-runs g c mode room first by =
     let full = c.is_full.ensures.full c.if-not-is_full.false in
     let kept = flushed.kept (inl full) in
     let after = c.clean_ahead.new.store in
-    let p = err_from_is_err_and c.from_residual.result c.from_residual.ensures.1 in
-    rw (p.1, p.2) (as_roomy mode room disk.is_honest store.settings first disk.seen (g.O.Write.contents c.args.out.now) (g.O.Write.contents c.clean_ahead.new.out) (Err c.in_err-left.field-0.0) after.store
+    let p = err_from_is_err_and c.from_residual-in_err-more.result c.from_residual-in_err-more.ensures.1 in
+    rw (p.1, p.2) (as_roomy mode room disk.is_honest store.settings first disk.seen (g.O.Write.contents c.args.out.now) (g.O.Write.contents c.clean_ahead.new.out) (Err c.in_err-more.field-0.0) after.store
     (g.D.Disk.view after.disk).seen
-    (Room-stops mode disk.is_honest store.settings first disk.seen (g.O.Write.contents c.args.out.now) by.batches by.unasked at.left at.store.store now.seen (g.O.Write.contents at.out)
+    (Room-stops mode disk.is_honest store.settings first disk.seen (g.O.Write.contents c.args.out.now) by.tidying (roomy_by mode store.settings first store.store by).asked at.left at.store.store now.seen (g.O.Write.contents at.out)
     (at.invariant.leads mode first by)
     now.is_honest at.invariant.honest at.store.settings at.invariant.settings (g.O.Write.contents c.run_step-done.new.out) c.run_step-done.result tried.store shows.seen
     (flushed.runs (untidy mode) Flush refl) full kept.0 kept.2 shows.is_honest flushed.honest tried.settings flushed.settings
-    (g.O.Write.contents c.clean_ahead.new.out) _ after.store (g.D.Disk.view after.disk).seen (c.in_err-left.ensures.runs mode) _ refl))
+    (g.O.Write.contents c.clean_ahead.new.out) (Err c.in_err-more.field-0.0) after.store (g.D.Disk.view after.disk).seen (c.in_err-more.ensures.runs (roomy mode)) c.in_err-more.field-0.0 refl))
 
-pub room-preserved-in_ok-left-3 : goal.room-preserved-in_ok-left-3
-room-preserved-in_ok-left-3 g c =
+pub clean_ahead-requires-clause-read : goal.clean_ahead-requires-clause-read
+clean_ahead-requires-clause-read g c κs within =
+    let at = c.room in
+    let tried = c.run_step-done.new.store in
+    let flushed = c.run_step-done.ensures in
+    let kept = flushed.kept (inl (c.is_full.ensures.full c.if-not-is_full.false)) in
+    subst (λ (k : Option PagesRead). IfSome k (IsReadAhead g.D.Disk.view tried)) (sym c.take.ensures.value)
+    (reads_on g.D.Disk.view at.store tried flushed.settings flushed.honest flushed.size kept.0 kept.2 at.kept at.invariant.read)
+
+pub room-preserved-in-Some : goal.room-preserved-in-Some
+room-preserved-in-Some g c =
     let store = c.args.store.now in
     let disk = g.D.Disk.view store.disk in
     let at = c.room in
@@ -79,17 +111,149 @@ room-preserved-in_ok-left-3 g c =
     let full = c.is_full.ensures.full c.if-not-is_full.false in
     let kept = flushed.kept (inl full) in
     let after = c.clean_ahead.new.store in
-    let cleaned = c.in_ok-left.ensures in
+    let cleaned = c.in_ok-more.ensures in
+    let fewer : c.in-Some.more < at.left = fewer_some c.in_ok-more.field-0 c.in-Some.more at.left c.in-Some.is cleaned.fewer in
+    let settings : after.settings ≡ store.settings = cleaned.settings ∙ (flushed.settings ∙ at.invariant.settings) in
     record {
-      settings = cleaned.settings ∙ (flushed.settings ∙ at.invariant.settings);
+      settings = settings;
       honest = cleaned.honest ∙ (flushed.honest ∙ at.invariant.honest);
       fine = cleaned.failed ∙ (kept.1 ∙ at.invariant.fine);
       same = at.invariant.same;
       holds = cleaned.holds ∙ (ap (λ (s : Store). contents s.tree) kept.0 ∙ at.invariant.holds);
+      calm = calm_later g.D.Disk.view after c.in-Some.more (fewer_here c.in-Some.more at.left store.settings.segments after.settings.segments fewer at.invariant.most (ap (λ (s : Settings). s.segments) settings));
+      read = subst (λ (k : Option PagesRead). IfSome k (IsReadAhead g.D.Disk.view after)) (sym c.take.ensures.after) tt;
+      most = fewer_most c.in-Some.more at.left store.settings.segments fewer at.invariant.most;
       leads = λ mode first by.
-          Room-cleaned mode disk.is_honest store.settings first disk.seen (g.O.Write.contents c.args.out.now) by.batches by.unasked at.left at.store.store now.seen (g.O.Write.contents at.out)
+          Room-cleaned mode disk.is_honest store.settings first disk.seen (g.O.Write.contents c.args.out.now) by.tidying (roomy_by mode store.settings first store.store by).asked at.left at.store.store now.seen (g.O.Write.contents at.out)
           (at.invariant.leads mode first by)
           now.is_honest at.invariant.honest at.store.settings at.invariant.settings (g.O.Write.contents c.run_step-done.new.out) c.run_step-done.result tried.store shows.seen
           (flushed.runs (untidy mode) Flush refl) full kept.0 kept.2 shows.is_honest flushed.honest tried.settings flushed.settings
-          (g.O.Write.contents c.clean_ahead.new.out) _ after.store (g.D.Disk.view after.disk).seen (cleaned.runs mode) _ refl;
+          (g.O.Write.contents c.clean_ahead.new.out) (Ok c.in-Some.more) after.store (g.D.Disk.view after.disk).seen
+          (cleans_some at.left (roomy mode) shows.is_honest tried.settings tried.store shows.seen (g.O.Write.contents c.run_step-done.new.out) (g.O.Write.contents c.clean_ahead.new.out) c.in_ok-more.field-0 c.in-Some.more
+          c.in-Some.is after.store (g.D.Disk.view after.disk).seen (cleaned.runs (roomy mode))) c.in-Some.more refl;
     }
+
+pub room-preserved-in-Some-2 : goal.room-preserved-in-Some-2
+room-preserved-in-Some-2 g c =
+    let store = c.args.store.now in
+    let disk = g.D.Disk.view store.disk in
+    let at = c.room in
+    let now = g.D.Disk.view at.store.disk in
+    let tried = c.run_step-done.new.store in
+    let shows = g.D.Disk.view tried.disk in
+    let flushed = c.run_step-done.ensures in
+    let full = c.is_full.ensures.full c.if-not-is_full.false in
+    let kept = flushed.kept (inl full) in
+    let after = c.clean_ahead.new.store in
+    let cleaned = c.in_ok-more.ensures in
+    let fewer : c.in-Some.more < at.left = fewer_some c.in_ok-more.field-0 c.in-Some.more at.left c.in-Some.is cleaned.fewer in
+    let settings : after.settings ≡ store.settings = cleaned.settings ∙ (flushed.settings ∙ at.invariant.settings) in
+    record {
+      settings = settings;
+      honest = cleaned.honest ∙ (flushed.honest ∙ at.invariant.honest);
+      fine = cleaned.failed ∙ (kept.1 ∙ at.invariant.fine);
+      same = at.invariant.same;
+      holds = cleaned.holds ∙ (ap (λ (s : Store). contents s.tree) kept.0 ∙ at.invariant.holds);
+      calm = calm_later g.D.Disk.view after c.in-Some.more (fewer_here c.in-Some.more at.left store.settings.segments after.settings.segments fewer at.invariant.most (ap (λ (s : Settings). s.segments) settings));
+      read = subst (λ (k : Option PagesRead). IfSome k (IsReadAhead g.D.Disk.view after)) (sym c.take.ensures.after) tt;
+      most = fewer_most c.in-Some.more at.left store.settings.segments fewer at.invariant.most;
+      leads = λ mode first by.
+          Room-cleaned mode disk.is_honest store.settings first disk.seen (g.O.Write.contents c.args.out.now) by.tidying (roomy_by mode store.settings first store.store by).asked at.left at.store.store now.seen (g.O.Write.contents at.out)
+          (at.invariant.leads mode first by)
+          now.is_honest at.invariant.honest at.store.settings at.invariant.settings (g.O.Write.contents c.run_step-done.new.out) c.run_step-done.result tried.store shows.seen
+          (flushed.runs (untidy mode) Flush refl) full kept.0 kept.2 shows.is_honest flushed.honest tried.settings flushed.settings
+          (g.O.Write.contents c.clean_ahead.new.out) (Ok c.in-Some.more) after.store (g.D.Disk.view after.disk).seen
+          (cleans_some at.left (roomy mode) shows.is_honest tried.settings tried.store shows.seen (g.O.Write.contents c.run_step-done.new.out) (g.O.Write.contents c.clean_ahead.new.out) c.in_ok-more.field-0 c.in-Some.more
+          c.in-Some.is after.store (g.D.Disk.view after.disk).seen (cleaned.runs (roomy mode))) c.in-Some.more refl;
+    }
+
+pub room-preserved-in-Some-3 : goal.room-preserved-in-Some-3
+room-preserved-in-Some-3 g c =
+    let store = c.args.store.now in
+    let disk = g.D.Disk.view store.disk in
+    let at = c.room in
+    let now = g.D.Disk.view at.store.disk in
+    let tried = c.run_step-done.new.store in
+    let shows = g.D.Disk.view tried.disk in
+    let flushed = c.run_step-done.ensures in
+    let full = c.is_full.ensures.full c.if-not-is_full.false in
+    let kept = flushed.kept (inl full) in
+    let after = c.clean_ahead.new.store in
+    let cleaned = c.in_ok-more.ensures in
+    let fewer : c.in-Some.more < at.left = fewer_some c.in_ok-more.field-0 c.in-Some.more at.left c.in-Some.is cleaned.fewer in
+    let settings : after.settings ≡ store.settings = cleaned.settings ∙ (flushed.settings ∙ at.invariant.settings) in
+    record {
+      settings = settings;
+      honest = cleaned.honest ∙ (flushed.honest ∙ at.invariant.honest);
+      fine = cleaned.failed ∙ (kept.1 ∙ at.invariant.fine);
+      same = at.invariant.same;
+      holds = cleaned.holds ∙ (ap (λ (s : Store). contents s.tree) kept.0 ∙ at.invariant.holds);
+      calm = calm_later g.D.Disk.view after c.in-Some.more (fewer_here c.in-Some.more at.left store.settings.segments after.settings.segments fewer at.invariant.most (ap (λ (s : Settings). s.segments) settings));
+      read = subst (λ (k : Option PagesRead). IfSome k (IsReadAhead g.D.Disk.view after)) (sym c.take.ensures.after) tt;
+      most = fewer_most c.in-Some.more at.left store.settings.segments fewer at.invariant.most;
+      leads = λ mode first by.
+          Room-cleaned mode disk.is_honest store.settings first disk.seen (g.O.Write.contents c.args.out.now) by.tidying (roomy_by mode store.settings first store.store by).asked at.left at.store.store now.seen (g.O.Write.contents at.out)
+          (at.invariant.leads mode first by)
+          now.is_honest at.invariant.honest at.store.settings at.invariant.settings (g.O.Write.contents c.run_step-done.new.out) c.run_step-done.result tried.store shows.seen
+          (flushed.runs (untidy mode) Flush refl) full kept.0 kept.2 shows.is_honest flushed.honest tried.settings flushed.settings
+          (g.O.Write.contents c.clean_ahead.new.out) (Ok c.in-Some.more) after.store (g.D.Disk.view after.disk).seen
+          (cleans_some at.left (roomy mode) shows.is_honest tried.settings tried.store shows.seen (g.O.Write.contents c.run_step-done.new.out) (g.O.Write.contents c.clean_ahead.new.out) c.in_ok-more.field-0 c.in-Some.more
+          c.in-Some.is after.store (g.D.Disk.view after.disk).seen (cleaned.runs (roomy mode))) c.in-Some.more refl;
+    }
+
+pub room-preserved : goal.room-preserved
+room-preserved g c =
+    let store = c.args.store.now in
+    let disk = g.D.Disk.view store.disk in
+    let at = c.room in
+    let now = g.D.Disk.view at.store.disk in
+    let tried = c.run_step-done.new.store in
+    let shows = g.D.Disk.view tried.disk in
+    let flushed = c.run_step-done.ensures in
+    let full = c.is_full.ensures.full c.if-not-is_full.false in
+    let kept = flushed.kept (inl full) in
+    let after = c.clean_ahead.new.store in
+    let cleaned = c.in_ok-more.ensures in
+    let fewer : c.in-Some.more < at.left = fewer_some c.in_ok-more.field-0 c.in-Some.more at.left c.in-Some.is cleaned.fewer in
+    let settings : after.settings ≡ store.settings = cleaned.settings ∙ (flushed.settings ∙ at.invariant.settings) in
+    record {
+      settings = settings;
+      honest = cleaned.honest ∙ (flushed.honest ∙ at.invariant.honest);
+      fine = cleaned.failed ∙ (kept.1 ∙ at.invariant.fine);
+      same = at.invariant.same;
+      holds = cleaned.holds ∙ (ap (λ (s : Store). contents s.tree) kept.0 ∙ at.invariant.holds);
+      calm = calm_later g.D.Disk.view after c.in-Some.more (fewer_here c.in-Some.more at.left store.settings.segments after.settings.segments fewer at.invariant.most (ap (λ (s : Settings). s.segments) settings));
+      read = subst (λ (k : Option PagesRead). IfSome k (IsReadAhead g.D.Disk.view after)) (sym c.take.ensures.after) tt;
+      most = fewer_most c.in-Some.more at.left store.settings.segments fewer at.invariant.most;
+      leads = λ mode first by.
+          Room-cleaned mode disk.is_honest store.settings first disk.seen (g.O.Write.contents c.args.out.now) by.tidying (roomy_by mode store.settings first store.store by).asked at.left at.store.store now.seen (g.O.Write.contents at.out)
+          (at.invariant.leads mode first by)
+          now.is_honest at.invariant.honest at.store.settings at.invariant.settings (g.O.Write.contents c.run_step-done.new.out) c.run_step-done.result tried.store shows.seen
+          (flushed.runs (untidy mode) Flush refl) full kept.0 kept.2 shows.is_honest flushed.honest tried.settings flushed.settings
+          (g.O.Write.contents c.clean_ahead.new.out) (Ok c.in-Some.more) after.store (g.D.Disk.view after.disk).seen
+          (cleans_some at.left (roomy mode) shows.is_honest tried.settings tried.store shows.seen (g.O.Write.contents c.run_step-done.new.out) (g.O.Write.contents c.clean_ahead.new.out) c.in_ok-more.field-0 c.in-Some.more
+          c.in-Some.is after.store (g.D.Disk.view after.disk).seen (cleaned.runs (roomy mode))) c.in-Some.more refl;
+    }
+
+pub returns-in-None-clause-runs : goal.returns-in-None-clause-runs
+returns-in-None-clause-runs g c mode room first by =
+    let store = c.args.store.now in
+    let disk = g.D.Disk.view store.disk in
+    let at = c.room in
+    let now = g.D.Disk.view at.store.disk in
+    let tried = c.run_step-done.new.store in
+    let shows = g.D.Disk.view tried.disk in
+    let flushed = c.run_step-done.ensures in
+    let full = c.is_full.ensures.full c.if-not-is_full.false in
+    let kept = flushed.kept (inl full) in
+    let after = c.clean_ahead.new.store in
+    let (undue, nothing) = c.in_ok-more.ensures.undue c.in-None.is in
+    as_roomy mode room disk.is_honest store.settings first disk.seen (g.O.Write.contents c.args.out.now) (g.O.Write.contents c.clean_ahead.new.out) c.run_step-done.result after.store
+    (g.D.Disk.view after.disk).seen
+    (rw nothing (RunsFirst-stopped (roomy mode) disk.is_honest store.settings first disk.seen (Flush ∷ []) (g.O.Write.contents c.args.out.now) (g.O.Write.contents c.run_step-done.new.out) c.run_step-done.result
+    tried.store after.store shows.seen (g.D.Disk.view after.disk).seen (errors.Fault Full) full
+    (Room-hopeless mode disk.is_honest store.settings first disk.seen (g.O.Write.contents c.args.out.now) by.tidying (roomy_by mode store.settings first store.store by).asked at.left at.store.store now.seen (g.O.Write.contents at.out)
+    (at.invariant.leads mode first by)
+    now.is_honest at.invariant.honest at.store.settings at.invariant.settings (g.O.Write.contents c.run_step-done.new.out) c.run_step-done.result tried.store shows.seen
+    (flushed.runs (untidy mode) Flush refl) full kept.0 kept.2 shows.is_honest flushed.honest tried.settings flushed.settings
+    tried.settings refl tried.store refl (undue_by g.D.Disk.view tried undue))))

@@ -2,7 +2,7 @@ use Rattle.std.proofs.Common.{◌≡◌, ◌⊎◌, ◌∙◌, ap, inl, inr, ref
 use Rattle.mapping.specs.Levels.{contents}
 use Rattle.mapping.specs.Tree.{Store}
 use Rattle.bwsh.proofs.RoomLemmas.{some_mode}
-use Rattle.bwsh.proofs.RowLemmas.{LeadsRow-first, Row-ends, Row-cleaned, Row-refused, as_no_room, fewer_after, fewer_left, fewer_on, unless_refused}
+use Rattle.bwsh.proofs.RowLemmas.{LeadsRow-first, Row-ends, Row-cleaned, Row-refused, as_no_room, fewer_after, fewer_left, fewer_on, ready_in_row, row_left, unless_refused}
 use Rattle.bwsh.proofs.running.run_row.Goals as goal
 use Rattle.bwsh.proofs.running.run_row.Goals.{then-due-eq0-via-then-due-eq0, then-due-eq0-via-else-due-eq0+then-more-eq0}
 
@@ -15,7 +15,7 @@ returns-then-due-eq0-clause-runs g c mode under by =
       | then-due-eq0-via-then-due-eq0 w ↦ inl w.if-due-eq0.true
       | then-due-eq0-via-else-due-eq0+then-more-eq0 w ↦ inr w.if-more-eq0.true
     ] in
-    Row-ends c.args.most c.args.row by.batches mode by.unasked disk.is_honest store.settings under disk.seen (g.O.Write.contents c.args.out.now) at.more at.due at.store.store
+    Row-ends c.args.most c.args.row by.tidying mode by.asked disk.is_honest store.settings under disk.seen (g.O.Write.contents c.args.out.now) at.more at.due at.store.store
     (g.D.Disk.view at.store.disk).seen (g.O.Write.contents at.out) (at.invariant.leads mode under by) none
 
 pub returns-then-due-eq0-clause-fewer : goal.returns-then-due-eq0-clause-fewer
@@ -34,10 +34,10 @@ returns-in-Err-clause-runs g c mode under by =
     let at = c.cleans in
     let now = g.D.Disk.view at.store.disk in
     let after = c.run_clean.new.store in
-    Row-refused c.args.most c.args.row by.batches mode by.unasked disk.is_honest store.settings under disk.seen (g.O.Write.contents c.args.out.now) at.more at.due at.store.store now.seen (g.O.Write.contents at.out)
-    (at.invariant.leads mode under by) c.if-due-eq0.false c.if-more-eq0.false now.is_honest at.invariant.honest at.store.settings at.invariant.settings (g.O.Write.contents c.run_clean.new.out) _
+    Row-refused c.args.most c.args.row by.tidying mode by.asked disk.is_honest store.settings under disk.seen (g.O.Write.contents c.args.out.now) at.more at.due at.store.store now.seen (g.O.Write.contents at.out)
+    (at.invariant.leads mode under by) c.if-more-eq0.false now.seen (λ h. refl) now.is_honest at.invariant.honest at.store.settings at.invariant.settings (g.O.Write.contents c.run_clean.new.out) _
     after.store (g.D.Disk.view after.disk).seen (c.in-Err.ensures.runs mode) c.in-Err.refused refl c.cleans_after_refusal.result c.cleans_after_refusal.ensures
-    at.store.has_failed after.has_failed (λ none. c.in-Err.ensures.kept (as_no_room c.in-Err.refused none))
+    at.store.has_failed after.has_failed (λ none. c.in-Err.ensures.kept (as_no_room c.in-Err.refused none)) (λ other seen these ahead can. ready_in_row at.due c.if-due-eq0.false _ _ _ seen can)
 
 pub returns-in-Err-clause-failed : goal.returns-in-Err-clause-failed
 returns-in-Err-clause-failed g c =
@@ -71,9 +71,10 @@ cleans-preserved g c =
       same = at.invariant.same;
       holds = (cleaned.runs some_mode).3.holds ∙ at.invariant.holds;
       leads = λ mode under by.
-          Row-cleaned c.args.most c.args.row by.batches mode by.unasked disk.is_honest store.settings under disk.seen (g.O.Write.contents c.args.out.now) at.more at.due at.store.store now.seen (g.O.Write.contents at.out)
-          (at.invariant.leads mode under by) c.if-due-eq0.false c.if-more-eq0.false now.is_honest at.invariant.honest at.store.settings at.invariant.settings (g.O.Write.contents c.run_clean.new.out) _
-          after.store (g.D.Disk.view after.disk).seen (cleaned.runs mode) c.in_default.field-0 refl;
+          Row-cleaned c.args.most c.args.row by.tidying mode by.asked disk.is_honest store.settings under disk.seen (g.O.Write.contents c.args.out.now) at.more at.due at.store.store now.seen (g.O.Write.contents at.out)
+          (at.invariant.leads mode under by) c.if-more-eq0.false now.seen (λ h. refl) now.is_honest at.invariant.honest at.store.settings at.invariant.settings (g.O.Write.contents c.run_clean.new.out) _
+          after.store (g.D.Disk.view after.disk).seen (cleaned.runs mode) (λ seen these ahead can. ready_in_row at.due c.if-due-eq0.false _ _ _ seen can)
+          (row_left at.due store.settings c.if-due-eq0.false) c.in_default.field-0 refl;
       fewer = fewer_on at.more c.args.most at.due c.args.row at.invariant.fewer c.if-more-eq0.false;
     }
 
@@ -89,6 +90,6 @@ cleans-init g c =
       same = c.requires.fine;
       holds = refl;
       leads = λ mode under by.
-          LeadsRow-first c.args.most c.args.row by.batches mode disk.is_honest store.settings under store.store disk.seen (g.O.Write.contents c.args.out.now) by.leaves;
+          LeadsRow-first c.args.most c.args.row by.tidying mode disk.is_honest store.settings under store.store disk.seen (g.O.Write.contents c.args.out.now) by.leaves;
       fewer = inr (refl, refl);
     }

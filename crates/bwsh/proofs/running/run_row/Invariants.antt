@@ -17,8 +17,8 @@ invariant-cleans g l = record {
   read : IfSome l.reading (IsReadFor g.D.Disk.view l.store);
   same : l.fn.store.has_failed ≡ false;
   holds : contents l.store.store.tree ≡ contents l.fn.store.store.tree;
-  leads : (mode : Mode) (under : Store) (by : TidiesTo mode.tidy l.fn.store.settings under l.fn.store.store)
-      → LeadsRow l.fn.most l.fn.row by.batches mode (g.D.Disk.view l.fn.store.disk).is_honest l.fn.store.settings under (g.D.Disk.view l.fn.store.disk).seen
+  leads : (mode : Mode) (under : Store) (by : TidiesTo mode l.fn.store.settings under l.fn.store.store)
+      → LeadsRow l.fn.most l.fn.row by.tidying mode (g.D.Disk.view l.fn.store.disk).is_honest l.fn.store.settings under (g.D.Disk.view l.fn.store.disk).seen
       (g.O.Write.contents l.fn.out) l.more l.due l.store.store (g.D.Disk.view l.store.disk).seen (g.O.Write.contents l.out);
   fewer : (l.more < l.fn.most) ⊎ ((l.more ≡ l.fn.most) × (l.due ≡ l.fn.row));
 }

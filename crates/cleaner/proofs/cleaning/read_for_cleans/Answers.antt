@@ -1,7 +1,8 @@
-use Rattle.std.proofs.Common.{◌≡◌, ◌≢◌, ◌+◌, ◌-◌, ◌<◌, ◌∙◌, ⊎_elim, ℕ, min, arith, inl, inr, sym, ap}
+use Rattle.std.proofs.Common.{◌≡◌, ◌≢◌, ◌+◌, ◌-◌, ◌<◌, ◌∙◌, ⊎_elim, ℕ, min, arith, inl, inr, refl, sym, ap}
 use Rattle.flush_log.specs.Segments.{last_segment}
 use Rattle.flush_log.specs.declared.slot.LogEnds.{LogEnds}
-use Rattle.recovery.proofs.ReadBytes.{first_read, read_before, err_on}
+use Rattle.recovery.proofs.ReadBytes.{first_read, read_before, err_on, handed_on}
+use Rattle.cleaner.proofs.LiveLemmas.{new-live, no-live}
 use Rattle.cleaner.proofs.NextReading.{new-reading, new-limit, new-fault}
 use Rattle.cleaner.proofs.PlanLemmas.{nothing-refused, clean-fault, log-refused, more_in_use}
 use Rattle.cleaner.proofs.cleaning.read_for_cleans.Goals as goal
@@ -64,4 +65,35 @@ returns-clause-err g c =
       now,
       read_before (view c.args.disk.now) (view c.read_log.new.disk) now c.in_ok-pages.ensures.kept c.in_ok-pages.ensures.same bytes,
       λ st same version. new-fault f t now more (failed c.args.disk.now) (failed c.read_log.new.disk) found read st same version _ c.new.result (c.new.ensures f found c.requires.checked gathered),
+    )
+
+pub returns-then-ends-last-clause-live : goal.returns-then-ends-last-clause-live
+returns-then-ends-last-clause-live g c =
+    let (file, is) = first_read (g.D.Disk.view c.args.disk.now) (g.met.D.Disk.lawful c.args.disk.now) in
+    (file, is, inl refl)
+
+pub returns-in_err-pages-clause-live : goal.returns-in_err-pages-clause-live
+returns-in_err-pages-clause-live g c =
+    let view = g.D.Disk.view in
+    let f = c.args.format.now in
+    let t = c.args.ends.now in
+    let (file, is) = first_read (view c.args.disk.now) (g.met.D.Disk.lawful c.args.disk.now) in
+    let (now, bytes, front, state) = c.in_err-pages.ensures.read file is in (
+      now,
+      read_before (view c.args.disk.now) (view c.read_log.new.disk) now c.in_err-pages.ensures.kept c.in_err-pages.ensures.same bytes,
+      handed_on c.from_residual.result _ _ c.in_err-pages.field-0.0 c.from_residual.ensures.1
+          (⊎_elim (λ wrong. inr (inr (no-live f t now c.in_err-pages.field-0.0 wrong))) (λ late. inr (inl late)) state),
+    )
+
+pub returns-clause-live : goal.returns-clause-live
+returns-clause-live g c =
+    let view = g.D.Disk.view in
+    let failed = g.D.Disk.failed in
+    let f = c.args.format.now in
+    let t = c.args.ends.now in
+    let (file, is) = first_read (view c.args.disk.now) (g.met.D.Disk.lawful c.args.disk.now) in
+    let (now, bytes, front, (found, read, gathered)) = c.in_ok-pages.ensures.read file is in (
+      now,
+      read_before (view c.args.disk.now) (view c.read_log.new.disk) now c.in_ok-pages.ensures.kept c.in_ok-pages.ensures.same bytes,
+      new-live f t now found read (failed c.args.disk.now) (failed c.read_log.new.disk) _ _ c.new.result (c.new.ensures f found c.requires.checked gathered),
     )

@@ -1,4 +1,4 @@
-use Rattle.std.proofs.Common.{ℕ, ◌≤◌, ◌-◌, ◌^◌, length, arith}
+use Rattle.std.proofs.Common.{◌≤◌, ◌-◌, ◌^◌, length, arith}
 use Rattle.mapping.specs.TreeInMemory.{tree_of}
 use Rattle.engine.proofs.ContentsFit.{contents_fit}
 use Rattle.engine.proofs.execute.pairs_can_be_counted.Goals as goal

@@ -1,6 +1,5 @@
 use Rattle.std.proofs.Common.{ap, map}
-use Rattle.climb_plan.specs.Installing.{AreAway}
-use Rattle.engine.specs.Tasks.{task_held, taken_in, taken_of}
+use Rattle.engine.specs.Tasks.{task_held}
 use Rattle.engine.proofs.TaskLemmas.{away_first, away_left, put_left}
 use Rattle.engine.proofs.leaves.put_back.Goals as goal
 

@@ -1,6 +1,6 @@
-use Rattle.std.proofs.Common.{◌≡◌, ◌∙◌, ◌⊎◌, ◌<◌, inl, inr, refl, sym, subst, ⊎_elim, arith}
+use Rattle.std.proofs.Common.{◌∙◌, ◌<◌, refl, sym, subst, arith}
 use borrow.Author.Tests.{ltb-true}
-use Rattle.engine.proofs.CleansLemmas.{none_on, one_on, refused_on, stopped_on, some_done, some_stopped}
+use Rattle.engine.proofs.CleansLemmas.{none_on, one_on, stopped_on}
 use Rattle.engine.proofs.store.Store.clean_all_read.Goals as goal
 
 pub each-init : goal.each-init
@@ -13,24 +13,14 @@ each-init g c = record {
   on = none_on g.D.Disk.view g.D.Disk.failed g.met.D.Disk.lawful c.args.self.now;
 }
 
-pub returns-in-Err-clause-done : goal.returns-in-Err-clause-done
-returns-in-Err-clause-done g c =
-    let at = c.each in
-    let more = at.invariant.few in
-    some_done c.after_some.result at.done c.in-Err.fault _ c.after_some.ensures
-    (λ some other. (some, omega (arith, more), refused_on g.D.Disk.view g.D.Disk.failed g.met.D.Disk.lawful c.args.self.now at.done at.self at.invariant.on c.clean_by_reading.new.self c.in-Err.fault other c.in-Err.ensures.refused))
-
 pub returns-in-Err-clause-stopped : goal.returns-in-Err-clause-stopped
 returns-in-Err-clause-stopped g c =
     let at = c.each in
-    let refused = c.in-Err.ensures.refused in
-    some_stopped c.after_some.result at.done c.in-Err.fault _ c.after_some.ensures
-    (λ why. (
-      at.done,
+    let refused = c.in-Err.ensures.refused in (
       at.invariant.few,
-      ⊎_elim (λ none. inl (none, refused.store ∙ at.invariant.same none)) (λ device. inr device) why,
+      λ none. refused.store ∙ at.invariant.same none,
       stopped_on g.D.Disk.view g.D.Disk.failed g.met.D.Disk.lawful c.args.self.now at.done at.self at.invariant.on c.clean_by_reading.new.self c.in-Err.fault refused,
-    ))
+    )
 
 pub returns-then-done-most-clause-done : goal.returns-then-done-most-clause-done
 returns-then-done-most-clause-done g c =

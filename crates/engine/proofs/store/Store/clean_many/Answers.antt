@@ -1,4 +1,4 @@
-use Rattle.std.proofs.Common.{◌≡◌, ◌∙◌, ◌+◌, ℕ, zero-add, inl, inr, refl, subst, ⊎_elim, arith}
+use Rattle.std.proofs.Common.{ℕ, zero-add, inl, inr, subst, ⊎_elim, arith}
 use Rattle.engine.specs.Cleans.{AreCleaned, AreStopped}
 use Rattle.engine.specs.State.{IsSound}
 use Rattle.engine.proofs.CleansLemmas.{none_cleaned, if_ok, if_err, either}

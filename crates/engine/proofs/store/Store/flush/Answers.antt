@@ -2,7 +2,6 @@ use Rattle.std.proofs.Common.{◌≡◌, true, false, [], OnOk, IfErr, inl, refl
 use Rattle.std.proofs.lemmas.Result.{err_from_is_err_and}
 use Rattle.keys.specs.declared.fault.Fault.TheVariants.{Device}
 use Rattle.keys.specs.declared.version.Version.{Version}
-use Rattle.mapping.specs.TreeInMemory.{tree_of}
 use Rattle.flush_log.specs.FlushText.{HasFrames, flush_text}
 use Rattle.flush_log.specs.declared.text.Text.TheVariants as texts
 use Rattle.flush_log.proofs.SameLemmas.{leaves_itself}

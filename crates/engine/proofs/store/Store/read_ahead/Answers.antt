@@ -1,4 +1,4 @@
-use Rattle.std.proofs.Common.{◌≡◌, ◌∙◌, ◌≢◌, true, false, inl, inr, refl, sym, ap, subst, arith}
+use Rattle.std.proofs.Common.{◌≡◌, ⊎_elim, false, inl, inr, refl, sym, subst, arith}
 use Rattle.flush_log.specs.AfterFlush.{slot_of}
 use Rattle.flush_log.proofs.SameLemmas.{leaves_the_same}
 use Rattle.flush_log.proofs.SlotLemmas.{ends-are}
@@ -55,3 +55,16 @@ returns-in-Err-clause-refused g c = rw (← c.self.view_is) (
     (λ settled step. leaves_the_same (view disk) (view c.read_for_cleans.new.disk) _ (g.met.D.Disk.lawful disk settled.honest) (c.read_for_cleans.ensures.same settled.honest) settled (inl refl))
     c.is_of_disk-self-inside.result c.in-Err.fault Unit c.is_of_disk-self-inside.ensures
     (file, read, reported st refl refl) (λ honest. inl (c.read_for_cleans.ensures.same honest)) c.in-Err.ensures.uncounted)
+
+-- ---- how many bytes live
+
+pub returns-in-Ok-clause-live : goal.returns-in-Ok-clause-live
+returns-in-Ok-clause-live g c = rw (← c.self.view_is) (let (file, read, known) = c.in-Ok.ensures.live in (file, read.honest, known))
+
+pub returns-in-Err-clause-live : goal.returns-in-Err-clause-live
+returns-in-Err-clause-live g c = rw (← c.self.view_is) (
+    let (file, read, why) = c.in-Err.ensures.live in (
+      file,
+      read.honest,
+      ⊎_elim (λ nothing. inl nothing) (λ other. inr (⊎_elim (λ late. ⊎_elim (λ memory. inl memory) (λ device. inr (inl device.0)) late) (λ none. inr (inr none)) other)) why,
+    ))

@@ -1,4 +1,4 @@
-use Rattle.std.proofs.Common.{◌≡◌, ◌<◌, ◌-◌, ℕ, arith}
+use Rattle.std.proofs.Common.{◌≡◌, ◌<◌, ◌-◌, arith}
 use Rattle.mapping.specs.TreeInMemory.{tree_of}
 use Rattle.routing.proofs.DescentLemmas.{same_pred}
 use Rattle.engine.proofs.WayOfOne.{below_pred, at_root, has_child, not_missing, at_child, leaf_at_end}

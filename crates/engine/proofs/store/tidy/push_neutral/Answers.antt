@@ -1,4 +1,4 @@
-use Rattle.std.proofs.Common.{◌≡◌, ◌∙◌, rules, List, [], ◌∷◌, ◌++◌, ap}
+use Rattle.std.proofs.Common.{◌≡◌, ◌∙◌, rules, [], ◌∷◌, ◌++◌, ap}
 use Rattle.std.specs.Option.{option_copied}
 use Rattle.keys.specs.declared.command.Command.TheVariants.{Put, Del}
 use Rattle.engine.proofs.NeutralLemmas.{neutral_after_put, neutral_after_put_del}

@@ -1,0 +1,10 @@
+use Rattle.std.proofs.Common.{◌≡◌, ◌+◌, ◌-◌, ◌^◌, ◌≤◌, min}
+use Rattle.cleaner.proofs.LiveLemmas.{sizes}
+use Rattle.cleaner.proofs.reading.live_bytes.Given as goal
+
+-- what was added up and what is left is all of it
+abbrev pub invariant-loop-entry : goal.invariant-loop-entry
+invariant-loop-entry l = record {
+  fits : l.live ≤ 2 ^ 64 - 1;
+  all : min (l.live + sizes l.entry-iterator) (2 ^ 64 - 1) ≡ min (sizes l.by_pid.entries) (2 ^ 64 - 1);
+}

@@ -1,0 +1,9 @@
+use Rattle.std.proofs.Common.{arith}
+use Rattle.engine.proofs.CleansLemmas.{none_on}
+use Rattle.engine.proofs.store.Store.clean_early.Goals as goal
+
+pub read_and_clean-requires-clause-due : goal.read_and_clean-requires-clause-due
+read_and_clean-requires-clause-due g c = λ κs within. c.may_clean_early.ensures c.if-may_clean_early.true
+
+pub returns-clause-done : goal.returns-clause-done
+returns-clause-done g c = (omega arith, none_on g.D.Disk.view g.D.Disk.failed g.met.D.Disk.lawful c.args.self.now, λ some. absurd (omega (arith, some)), tt)
