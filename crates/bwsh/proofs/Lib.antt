@@ -1,3 +1,4 @@
+mod AheadLemmas
 mod AnswerLemmas
 mod AskedLemmas
 mod BytesLemmas

@@ -19,6 +19,7 @@ mod CopyDone
 mod CopyLemmas
 mod CreateLemmas
 mod Crossing
+mod EarlyLemmas
 mod EndedRoutes
 mod Executed
 mod FileStoreLemmas
@@ -46,9 +47,11 @@ mod PointsLemmas
 mod ReadBatch
 mod Readied
 mod RefusedCalls
+mod RoomLemmas
 mod Routed
 mod RunRoutes
 mod SeenLeaves
+mod SnapshotLemmas
 mod StepDone
 mod StepsLemmas
 mod TaskLemmas

@@ -16,6 +16,8 @@ pub mod Opened
 pub mod Pending
 pub mod Plays
 pub mod Refusal
+pub mod Room
+pub mod Snapshots
 pub mod SoundTree
 pub mod State
 pub mod Steps

@@ -20,7 +20,8 @@ mod unfinished;
 
 pub use crate::file_store::{OpenFault, open_or_create};
 pub use crate::ordered_store::{
-    OrderedStore, put_then_get, put_then_get_in_memory, put_twice_then_get,
+    OrderedStore, SnapshotDisk, SnapshotStore, put_then_get, put_then_get_in_memory,
+    put_twice_then_get,
 };
 pub use crate::step::{Answer, Step};
 pub use crate::store::Store;

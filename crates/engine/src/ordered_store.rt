@@ -1,12 +1,13 @@
 //! What every store promises, said of an ordered map and of a disk alone: no clause here names a page, a log or a byte's place.
 //! `docs/CLAIM.md` explains it.
-ghost use Rattle.std.specs.Prelude.{◌≡◌, ◌≢◌, ◌⊎◌, Bool, true, false, List, [], Option, Some, None, Ok, Err, IsTrue, IfOk, OnOk, OnErr, IfErr};
+ghost use Rattle.std.specs.Prelude.{◌≡◌, ◌≢◌, ◌⊎◌, Bool, true, false, List, [], map, Option, Some, None, Ok, Err, IsTrue, IfOk, OnOk, OnErr, IfErr};
 ghost use Rattle.std.specs.Option.{option_copied};
 ghost use Rattle.std.specs.Thread.{IsSync};
 ghost use Rattle.std.specs.declared.alloc.Global as global;
 ghost use Rattle.keys.specs.Bytes.{Bytes, Pairs};
 ghost use Rattle.keys.specs.Order.{IsRising};
 ghost use Rattle.keys.specs.OrderedMap.{value_at};
+ghost use Rattle.keys.specs.Range.{rows};
 ghost use Rattle.keys.specs.Step.{replies_to, map_after_all};
 ghost use Rattle.keys.specs.declared.command.Command as commanded;
 ghost use Rattle.keys.specs.declared.fault.Fault.TheVariants.{NoMemory, Device, Failed};
@@ -17,8 +18,10 @@ ghost use Rattle.engine.specs.Claim.{Held, FailsByDevice, IsLeftByCreate, Recove
 
 mod by_pages;
 mod callers;
+mod snapshots;
 
 pub use crate::ordered_store::callers::{put_then_get, put_then_get_in_memory, put_twice_then_get};
+pub use crate::ordered_store::snapshots::{SnapshotDisk, SnapshotStore};
 use crew::Crew;
 use flush_log::Disk;
 use keys::{Command, Fault, Reply, Settings};
@@ -115,6 +118,13 @@ pub trait OrderedStore<D: Disk> {
     /// Returns the value of a key, or nothing if the store has no pair with this key. A failed store answers, too.
     fn get(&self, key: &[u8]) -> Option<&[u8]>
         ensures { option_copied result ≡ value_at key.now (contents self.now) };
+
+    /// Returns the first `limit` pairs whose keys are `lo` or above, and below `hi` if it is given, in the order of their keys. A failed store
+    /// answers, too. Fails with `Fault::NoMemory`.
+    fn range(&self, lo: &[u8], hi: Option<&[u8]>, limit: u32) -> Result<Vec<(&[u8], &[u8])>, Fault>
+        ensures rows { IfOk result (λ found. map (λ row. (row.0.now, row.1.now)) found.items
+            ≡ rows lo.now (option_copied hi.entry) limit (contents self.now)) }
+        ensures refused { IfErr result (λ fault. fault ≡ NoMemory) };
 
     /// Executes the commands in their order, and returns a reply to each. The disk is not called.
     ///

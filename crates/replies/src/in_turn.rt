@@ -99,6 +99,20 @@ impl<'a> LentMap<'a> {
         }
     }
 
+    /// Returns a copy of the pairs. Fails with `AllocError` if memory runs out.
+    pub fn to_rows(&self, alloc: Global) -> Result<RowList<Global>, AllocError>
+        ensures rows { IfOk result (λ rows. rows ≡ self.now) }
+        ensures rising { IsRising self.now }
+    {
+        let mut rows = RowList::empty(alloc);
+        // Only for the proof: the contract of `len` states that the keys are sorted.
+        let _rising = self.pairs.len();
+        for (key, value) in &self.pairs {
+            rows.push(key.as_bytes(), value.bytes)?;
+        }
+        Ok(rows)
+    }
+
     fn get(&self, alloc: Global, key: &'a [u8]) -> Result<Reply<Global>, AllocError>
         ensures { IfOk result (λ reply. reply ≡ found (value_at key.now self.now)) }
     {

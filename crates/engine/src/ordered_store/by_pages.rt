@@ -65,6 +65,15 @@ impl<D: Disk> OrderedStore<D> for Store<D> {
         self.get(key)
     }
 
+    fn range(
+        &self,
+        lo: &[u8],
+        hi: Option<&[u8]>,
+        limit: u32,
+    ) -> Result<Vec<(&[u8], &[u8])>, Fault> {
+        self.list_range(lo, hi, limit)
+    }
+
     fn batch<R: Threads + Sync>(
         &mut self,
         rt: &R,

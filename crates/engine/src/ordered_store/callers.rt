@@ -13,8 +13,8 @@ use std::thread::Threads;
 /// Creates a store on a disk, executes the batch `puts`, and flushes. Then the machine crashes: `crash` turns the disk into any disk that a crash
 /// may leave of it. Opens the store again from this disk, and returns the replies to the batch `gets`.
 ///
-/// If every call succeeds, the replies are those of an ordered map on which `puts` and then `gets` were executed. Fails with the first
-/// fault of a call.
+/// If the disk is honest and every call succeeds, the replies are those of an ordered map on which `puts` and then `gets` were executed.
+/// Fails with the first fault of a call.
 pub fn put_then_get<
     D: Disk + Drop,
     R: Threads + Sync,
@@ -44,8 +44,8 @@ pub fn put_then_get<
     again.batch(rt, crew, gets)
 }
 
-/// Calls `put_then_get` on a disk in memory, whose crashes are proved to be crashes. `fill` says what a crash leaves of each range that was written
-/// but not synced.
+/// Calls `put_then_get` on a disk in memory, which is honest, and whose crashes are proved to be crashes. `fill` says what a crash leaves of
+/// each range that was written but not synced.
 pub fn put_then_get_in_memory<R: Threads + Sync, S: OrderedStore<CrashDisk<Global>> + Drop>(
     rt: &R,
     alloc: Global,
@@ -69,8 +69,8 @@ pub fn put_then_get_in_memory<R: Threads + Sync, S: OrderedStore<CrashDisk<Globa
 /// of the second flush: the disk may then fail, and `crash` turns it into any disk that a crash may leave of it. Opens the store again from
 /// this disk. Returns whether the second flush succeeded, and the replies to the batch `gets`.
 ///
-/// The replies are those of an ordered map on which both batches were executed, or, unless the second flush succeeded, `first` alone.
-/// Fails with the first fault of a call other than the second flush.
+/// If the disk is honest, the replies are those of an ordered map on which both batches were executed, or, unless the second flush
+/// succeeded, `first` alone. Fails with the first fault of a call other than the second flush.
 pub fn put_twice_then_get<
     D: Disk + Drop,
     R: Threads + Sync,

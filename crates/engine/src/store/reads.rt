@@ -1,9 +1,10 @@
 //! Reads of the store by reference: a key, a range, a prefix.
-ghost use Rattle.std.specs.Prelude.{◌≡◌, Some, IsOk, IfOk};
+ghost use Rattle.std.specs.Prelude.{◌≡◌, map, Some, IsOk, IfOk, IfErr};
 ghost use Rattle.std.specs.Option.{option_copied};
 ghost use Rattle.keys.specs.Bytes.{Bytes};
 ghost use Rattle.keys.specs.OrderedMap.{value_at};
 ghost use Rattle.keys.specs.Range.{rows};
+ghost use Rattle.keys.specs.declared.fault.Fault.TheVariants.{NoMemory};
 ghost use Rattle.delta_chain.specs.Layers.{entries_of};
 ghost use Rattle.index_page.specs.Page.{Page};
 ghost use Rattle.index_page.specs.Page.PageOfKind.{Leaf};
@@ -21,7 +22,7 @@ use flush_log::Disk;
 use keys::{Fault, Pid, Value};
 use mapping::Tree;
 use scan::{Rows, RowsBack, value_in};
-use std::alloc::Global;
+use std::alloc::{AllocError, Global};
 
 impl<D: Disk> Store<D> {
     /// The value at the key, if there is one, lent out of its page. It costs one way down and a search in the leaf, and takes no
@@ -44,6 +45,20 @@ impl<D: Disk> Store<D> {
         Ok(Rows::new(self.alloc, &self.tree, lo, hi, limit))
     }
 
+    // The pairs of `range` in a list. It is refused only for lack of memory.
+    pub(crate) fn list_range(
+        &self,
+        lo: &[u8],
+        hi: Option<&[u8]>,
+        limit: u32,
+    ) -> Result<Vec<(&[u8], &[u8])>, Fault>
+        ensures rows { IfOk result (λ found. map (λ row. (row.0.now, row.1.now)) found.items
+            ≡ rows lo.now (option_copied hi.entry) limit (contents self.now.store.tree)) }
+        ensures refused { IfErr result (λ fault. fault ≡ NoMemory) }
+    {
+        Ok(listed(self.alloc, self.range(lo, hi, limit)?)?)
+    }
+
     /// The last `limit` pairs whose keys are `lo` or above, and below `hi` where it is given, from the greatest key down. They are
     /// lent as those of `range` are, and the bounds are only looked at in this call. It costs one way down, and one more where `lo`
     /// isn't empty. A store that has failed answers too.
@@ -61,6 +76,14 @@ impl<D: Disk> Store<D> {
     {
         Rows::with_prefix(self.alloc, &self.tree, bytes)
     }
+}
+
+// The rows in a list.
+fn listed<'a>(alloc: Global, rows: Rows<'a>) -> Result<Vec<(&'a [u8], &'a [u8])>, AllocError>
+    ensures { IfOk result (λ list. map (λ row. (row.0.now, row.1.now)) list.items
+        ≡ rows.entry) }
+{
+    rows.collect(alloc)
 }
 
 // The value that the tree has at the key.
