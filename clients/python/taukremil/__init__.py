@@ -9,7 +9,7 @@ Only flushed batches are durable. A `with` block flushes at its end, except afte
 A batch is executed completely or not at all. The module runs the program `bwsh` and talks to it over pipes.
 """
 
-from .commands import MOST_ROWS, Add, Command, Del, Get, Put, Reply, Row, Scan, Wipe
+from .commands import MOST_ROWS, Add, Command, Del, Get, Put, Reply, Row, Scan, Wipe, prefix_range
 from .errors import Killed, Lost, Refused, StoreError
 from .header import Settings, Stat
 from .program import PATIENCE
@@ -35,6 +35,7 @@ __all__ = [
     "Store",
     "StoreError",
     "Wipe",
+    "prefix_range",
 ]
 
 for _error in (StoreError, Refused, Killed, Lost):

@@ -21,10 +21,14 @@ NextLine = Callable[[], bytes]  # returns a line of the answer without its line 
 PLAIN = bytes(range(0x21, 0x7F)).replace(b"%", b"")
 
 
-def _encode(data: bytes, most: int, what: str = "key") -> bytes:
-    """Encodes `data` unchanged if all bytes are plain, else with each byte as %XX."""
+def _check_bytes(data: bytes) -> None:
     if not isinstance(data, (bytes, bytearray)):
         raise TypeError(f"keys and values must be bytes, not {type(data).__name__}")
+
+
+def _encode(data: bytes, most: int, what: str = "key") -> bytes:
+    """Encodes `data` unchanged if all bytes are plain, else with each byte as %XX."""
+    _check_bytes(data)
     if len(data) > most:
         raise ValueError(f"the {what} has {len(data)} bytes, and this store takes at most {most}")
     is_plain = data and not data.translate(None, PLAIN)
@@ -32,15 +36,26 @@ def _encode(data: bytes, most: int, what: str = "key") -> bytes:
 
 
 def _encode_range(lo: bytes, hi: bytes | None, most: int) -> bytes:
+    start = _encode(lo, most, "lower bound")
     if hi is None:
-        end = b"*"
-    else:
-        end = b"%2A" if hi == b"*" else _encode(hi, most, "upper bound")
-    return b"%b %b" % (_encode(lo, most, "lower bound"), end)
+        return start + b" *"
+    return b"%b %b" % (start, b"%2A" if hi == b"*" else _encode(hi, most, "upper bound"))
 
 
 def _encode_pair(word: bytes, key: bytes, value: bytes, settings: Settings) -> bytes:
     return b"%b %b %b\n" % (word, _encode(key, settings.max_key), _encode(value, settings.max_value, "value"))
+
+
+def prefix_range(prefix: bytes) -> tuple[bytes, bytes | None]:
+    """Returns the bounds of the keys that begin with `prefix`, as for `Scan(*prefix_range(b"user/"))`."""
+    _check_bytes(prefix)
+    start = prefix.rstrip(b"\xff")
+    return prefix, start[:-1] + bytes([start[-1] + 1]) if start else None
+
+
+def next_key(key: bytes, max_key: int) -> bytes | None:
+    """Returns the least key above `key` among those of at most `max_key` bytes, or None if there is none."""
+    return key + b"\0" if len(key) < max_key else prefix_range(key)[1]
 
 
 def _integer(number: int) -> int:

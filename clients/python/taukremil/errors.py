@@ -5,7 +5,9 @@ from __future__ import annotations
 import signal
 
 NO_MEMORY, DEVICE = 6, 9  # faults after which a flush may be durable
-LOCKED = "Another program has locked the file"  # in the program's explanation of fault 9
+# In the program's explanations of fault 9.
+LOCKED = "Another program has locked the file"
+EXISTS = "entity already exists"
 IF_NOT_FLUSHING = ", unless a flush was in progress"
 
 
@@ -48,6 +50,10 @@ class Refused(StoreError):
     def is_locked(self) -> bool:
         """Returns whether another program has locked the file."""
         return self.number == DEVICE and LOCKED in self.why
+
+    def has_found_file(self) -> bool:
+        """Returns whether a copy was not made because the file at its path is neither empty nor unfinished."""
+        return self.number == DEVICE and EXISTS in self.why
 
 
 class Killed(StoreError):

@@ -3,12 +3,13 @@
 from __future__ import annotations
 
 import struct
-from dataclasses import dataclass
+from dataclasses import dataclass, fields
 from pathlib import Path
 
 SIZE = 256  # bytes
 BLOCK = struct.Struct(">8sHHHHII")  # the settings block: a fixed word and the settings
 WORD = b"BWBATCH1"
+STORE_BYTE = WORD[:1]  # of a new store it is written last
 SLOT = struct.Struct(">B7xQQQ")  # gate, sequence number, head, tail
 SLOTS_AT = (128, 192)
 
@@ -25,6 +26,7 @@ class Settings:
     segments: int
 
 
+SETTINGS = tuple(field.name for field in fields(Settings))
 LARGEST = Settings(64, 16, 255, 1_024, 1_048_576, 65_536)
 
 
@@ -56,6 +58,14 @@ def read_settings(path: Path) -> Settings:
     except (OSError, struct.error):
         return LARGEST
     return Settings(*numbers) if word == WORD else LARGEST
+
+
+def first_byte(path: Path) -> bytes:
+    """Returns the first byte of the file `path`, or no byte if the file is missing, empty or unreadable."""
+    try:
+        return _read(path)[:1] if path.is_file() else b""
+    except OSError:
+        return b""
 
 
 def read_stat(path: Path) -> Stat:

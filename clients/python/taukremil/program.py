@@ -23,6 +23,18 @@ class Unexpected(Exception):
         super().__init__(f"unexpected answer from the program: {line[:100]!r}")
 
 
+def run_once(command: list[str]) -> tuple[int, list[str]]:
+    """Runs a program without input, and returns its status, negative for a signal, and its messages."""
+    ran = subprocess.run(
+        command, stdin=subprocess.DEVNULL, stdout=subprocess.DEVNULL, stderr=subprocess.PIPE, start_new_session=True
+    )
+    return ran.returncode, _messages(ran.stderr)
+
+
+def _messages(said: bytes) -> list[str]:
+    return said.decode(errors="replace").splitlines()
+
+
 class Program:
     def __init__(self, command: list[str]) -> None:
         # A full pipe for standard error would block the program. In a session of its own, the program does not get a
@@ -94,14 +106,16 @@ class Program:
         """Closes the pipes and returns the program's status, negative for a signal, and its messages."""
         for pipe in self._pipes:
             pipe.close()
-        try:
-            self.process.wait(PATIENCE)
-        except subprocess.TimeoutExpired:
-            self.process.kill()
-        status = self.process.wait()
         with self._stderr as said:
+            try:
+                self.process.wait(PATIENCE)
+            except subprocess.TimeoutExpired:
+                pass
+            finally:
+                self.process.kill()  # has no effect if the program has ended
+                status = self.process.wait()
             said.seek(0)
-            return status, said.read().decode(errors="replace").splitlines()
+            return status, _messages(said.read())
 
     def kill(self) -> None:
         self.process.kill()

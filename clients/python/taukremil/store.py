@@ -7,23 +7,25 @@ import shutil
 import threading
 import time
 import weakref
-from collections.abc import Callable, Iterable
-from dataclasses import dataclass
+from collections.abc import Callable, Iterable, Iterator
+from contextlib import suppress
+from dataclasses import asdict, dataclass
 from pathlib import Path
 from types import TracebackType
 from typing import Any, Literal, TypeVar, Union, overload
 
 from .commands import MOST_COMMANDS, MOST_ROWS, Add, Command, Del, Get, NextLine, Put, Row, Scan, Wipe
-from .commands import encode, encode_batch, encode_pairs, may_write, parse_numbers
-from .creation import create_if_missing
+from .commands import encode, encode_batch, encode_pairs, may_write, next_key, parse_numbers, prefix_range
+from .copying import create_if_missing, sync_folder, write_copy
 from .errors import Lost, Refused, StoreError, error_of
-from .header import LARGEST, Settings, Stat, read_settings, read_stat
+from .header import LARGEST, SETTINGS, Settings, Stat, read_settings, read_stat
 from .loading import Loading
 from .program import Ended, Program, Unexpected
 
-OPTIONS = ("fan", "chain", "max_key", "max_value", "seg_size", "segments", "workers", "grain", "tidy")
+OPTIONS = (*SETTINGS, "workers", "grain", "tidy")
 SEGMENTS = 4_096  # of a new store
 LOAD_SIZE = 5_000  # pairs of a batch
+PAGE_SIZE = 1_000  # pairs that an iteration reads at a time
 PAUSE = 0.05  # seconds between tries to lock the file
 EMPTY_SCAN = Scan(limit=0)  # its answer shows that the program has opened its file
 
@@ -44,6 +46,12 @@ def _program_path(program: str | os.PathLike[str]) -> str:
     name = os.fspath(program)
     found = name if os.path.dirname(name) else shutil.which(name)
     return str(Path(found).absolute()) if found else name
+
+
+def _check_names(settings: dict[str, int], known: tuple[str, ...]) -> None:
+    unknown = settings.keys() - set(known)
+    if unknown:
+        raise TypeError(f"unknown setting {min(unknown)}; the settings are {', '.join(known)}")
 
 
 class Store:
@@ -72,21 +80,19 @@ class Store:
         """Starts `program`, a path or a name in PATH, on the store in the file `path`.
 
         If `create` is True, creates a new store and overwrites the file. If it is "missing", creates a store only if
-        there is no file or an empty one. If another process has locked the file, tries again for `wait` seconds.
+        there is no file, an empty one, or one that an interrupted creation left. If another process has locked the
+        file, tries again for `wait` seconds.
         The settings are options of the program: `fan`, `chain`, `max_key` (bytes), `max_value` (bytes), `seg_size`
         (bytes) and `segments` (4,096 by default) for a new store, and `workers`, `grain` and `tidy` for any store.
         Raises OSError if the program cannot be started.
         """
-        unknown = settings.keys() - set(OPTIONS)
-        if unknown:
-            raise TypeError(f"unknown setting {min(unknown)}; the settings are {', '.join(OPTIONS)}")
+        _check_names(settings, OPTIONS)
         if isinstance(create, str) and create != "missing":
             raise ValueError(f'create must be True, False or "missing", not {create!r}')
         self.path = Path(path).absolute()
         self._wait = wait
-        self._command = [_program_path(program), "--stream", "--clean-when-full", "--explain"]
-        self._command += [f"--{name.replace('_', '-')}={number}" for name, number in settings.items()]
-        self._for_new = ["--create"] if "segments" in settings else ["--create", f"--segments={SEGMENTS}"]
+        self._program_path = _program_path(program)
+        self._options = settings
         self._settings = LARGEST
         self._lock = threading.RLock()
         self._program: Program | None = None
@@ -108,6 +114,16 @@ class Store:
                 self.flush()
         finally:
             self.close()
+
+    def __iter__(self) -> Iterator[Row]:
+        """Yields all pairs in key order, and reads 1,000 at a time. Batches between these reads may change the rest."""
+        lo: bytes | None = b""
+        while lo is not None:
+            page = self.scan(lo, None, PAGE_SIZE)
+            yield from page
+            lo = next_key(page[-1][0], self._settings.max_key) if len(page) == PAGE_SIZE else None
+
+    __contains__ = None  # by default, `key in store` would compare the key with all pairs
 
     def __repr__(self) -> str:
         program, lost = self._program, self._lost  # another thread may clear the attributes
@@ -224,20 +240,17 @@ class Store:
         """Returns the first `limit` pairs with lo <= key < hi (None: no bound), in key order."""
         return self._run_one(Scan(lo, hi, limit))
 
+    def prefix(self, prefix: bytes, limit: int = MOST_ROWS) -> list[Row]:
+        """Returns the first `limit` pairs whose keys begin with `prefix`, in key order."""
+        return self.scan(*prefix_range(prefix), limit)
+
     def wipe(self, lo: bytes = b"", hi: bytes | None = None) -> int:
         """Deletes all keys with lo <= key < hi (None: no bound), and returns how many."""
         return self._run_one(Wipe(lo, hi))
 
     def flush(self) -> int:
         """Makes all batches so far durable, and returns the commit's sequence number. Cleans the log if it is full."""
-
-        def sequence(line: NextLine) -> int:
-            answer = line()
-            while answer.startswith(b"cleaned "):
-                answer = line()
-            return self._record_commit(answer, b"flushed")
-
-        return self._query(b"flush\n", sequence)
+        return self._run_alone(self._flush)
 
     def clean(self) -> int:
         """Frees the first segment of the log, and returns the number of the new first segment. Does not flush."""
@@ -254,6 +267,18 @@ class Store:
     def stat(self) -> Stat:
         """Returns the state of the log, which it reads from the file's header."""
         return self._run_alone(self._read_stat)  # not during a flush
+
+    def copy_to(self, path: str | os.PathLike[str], **settings: int) -> None:
+        """Flushes, and copies the store to the file `path`, which must be missing, empty or unfinished.
+
+        The copy has the settings of this store, except the given ones (`fan`, `chain`, `max_key`, `max_value`,
+        `seg_size` and `segments`), and version 1 of the log. The program is ended for the copy, and then started again.
+        If another process locks the file in between, tries again for as long as `wait` says, and then raises `Refused`.
+        After an error of the copy itself nothing is lost, and the store can be used. After an error of the flush, see
+        `Store`.
+        """
+        _check_names(settings, SETTINGS)
+        self._run_alone(lambda: self._copy_to(Path(path).absolute(), settings))
 
     def reopen(self) -> None:
         """Ends the program without a flush, and starts it again with the last flushed store. Ends the state `Lost`."""
@@ -286,8 +311,36 @@ class Store:
         if self._lost:
             raise Lost(self._lost.unflushed, self._lost.reason, self._lost.unless)
 
+    def _flush(self) -> int:
+        def sequence(line: NextLine) -> int:
+            answer = line()
+            while answer.startswith(b"cleaned "):
+                answer = line()
+            return self._record_commit(answer, b"flushed")
+
+        return self._talk(self._running_program(), lambda program: (_ask(program, b"flush\n", sequence), 0))
+
+    def _copy_to(self, path: Path, settings: dict[str, int]) -> None:
+        self._running_program()
+        if path.exists() and path.samefile(self.path):
+            raise ValueError("a store cannot be copied to its own file")
+        if self._unflushed:
+            self._flush()
+        options = {**self._options, **asdict(self._settings), **settings}
+        self._end_program()
+        try:
+            self._retry(lambda: write_copy(self._command([f"--disk={self.path}"], options), path))
+        except BaseException:
+            with suppress(StoreError):  # the next call starts the program if this fails
+                self._start_once()
+            raise
+        self._start()
+
     def _end(self) -> None:
         self._is_closed = True
+        self._end_program()
+
+    def _end_program(self) -> None:
         program = self._program
         self._drop_program()
         if program:
@@ -310,31 +363,44 @@ class Store:
             program.abandon()
 
     def _open(self, create: bool | Literal["missing"]) -> None:
-        if create == "missing":
-            create_if_missing(self.path, self._create)
-        self._start(self._for_new if create is True else [])
+        for_new = {"segments": SEGMENTS, **self._options}
 
-    def _create(self, path: Path) -> None:
-        self._start_on(path, self._for_new)
-        self._end()
-        self._is_closed = False
+        def open_once() -> None:
+            if create == "missing":
+                create_if_missing(self._command([], for_new), self.path)
+                self._start_once()
+            elif create:
+                self._start_once(["--create"], for_new)
+                sync_folder(self.path)
+            else:
+                self._start_once()
 
-    def _start(self, more: list[str] | None = None) -> Program:
-        """Starts the program, and tries again while another process has locked the file."""
+        self._retry(open_once)
+
+    def _retry(self, call: Callable[[], T]) -> T:
+        """Runs `call` until no other process has locked the file, but no longer than `wait` says."""
         end = time.monotonic() + self._wait
         while True:
             try:
-                return self._start_on(self.path, more or [])
+                return call()
             except Refused as refused:
                 if not refused.is_locked() or time.monotonic() >= end:
                     raise
             time.sleep(PAUSE)
 
-    def _start_on(self, path: Path, more: list[str]) -> Program:
-        program = self._program = Program([*self._command, f"--disk={path}", *more])
+    def _start(self) -> Program:
+        return self._retry(self._start_once)
+
+    def _start_once(self, more: list[str] | None = None, options: dict[str, int] | None = None) -> Program:
+        words = ["--stream", "--clean-when-full", f"--disk={self.path}", *(more or [])]
+        program = self._program = Program(self._command(words, options or self._options))
         self._talk(program, lambda program: (_ask(program, EMPTY_SCAN.text() + b"go\n", EMPTY_SCAN.reply), 0))
-        self._settings = read_settings(path)
+        self._settings = read_settings(self.path)
         return program
+
+    def _command(self, words: list[str], options: dict[str, int]) -> list[str]:
+        numbers = [f"--{name.replace('_', '-')}={number}" for name, number in options.items()]
+        return [self._program_path, "--explain", *words, *numbers]
 
     def _running_program(self) -> Program:
         if self._is_closed:
