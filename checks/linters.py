@@ -6,7 +6,7 @@ from pathlib import Path
 
 from tools.cases import Case, Outcome
 
-CHECKED = ["build", "check", "checks", "tools", "bench", "clients/python", "examples"]
+CHECKED = ["build", "check", "checks", "tools", "bench", "clients/python", "examples", "server"]
 COMMANDS = {"ruff": ["ruff", "check", "--no-cache", *CHECKED], "mypy": ["mypy", "--no-incremental", "--cache-dir=/dev/null"]}
 
 

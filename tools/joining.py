@@ -1,12 +1,14 @@
 """Joins several programs to one, which runs the one by whose name it is called. Each build reads the whole engine, so one build takes less time than
-seven."""
+eight."""
 
 import re
 from pathlib import Path
 
 # Only `main` may use the runtime directly; a module's function takes one with these traits.
-BOUNDS = "std::rt::Runtime + AllocGlobal + std::thread::Threads + std::sync::Wait + Sync + Send + Copy + 'static"
+BOUNDS = "std::rt::Runtime + AllocGlobal + std::thread::Threads + std::sync::Wait + std::net::Net + Sync + Send + Copy + 'static"
+ENDINGS = {"ExitCode": "Ok({call})", "Result<ExitCode>": "{call}", "Result<()>": "{call}.map(|()| ExitCode::SUCCESS)"}
 LIST = "Lib.antt"  # lists a folder's modules
+MODULES = re.compile(r"crate::(?!proofs::|specs::)")
 SIGNATURE = re.compile(r"^fn main\(rt: HostRuntime\) -> (\S+) \{$", re.MULTILINE)
 MAIN = """//! Runs one of several programs: the one by whose name this program is called.
 #![tactic(auto)]
@@ -39,8 +41,13 @@ def module_of(name: str, source: str, crate: str) -> tuple[str, str]:
         raise JoinError(f"{name}: no line 'fn main(rt: HostRuntime) -> TYPE {{'")
     signature = f"pub fn main<R: {BOUNDS}>(rt: R, mut input: std::rt::Stdin) -> {found[1]}\nwhere\n    R::File: engine::LockFile + Send,\n{{"
     text = source[: found.start()] + signature + source[found.end() :]
-    ending = f"Ok({name}::main(rt, rt.stdin()))" if found[1] == "ExitCode" else f"{name}::main(rt, rt.stdin()).map(|()| ExitCode::SUCCESS)"
-    return text.replace("rt.stdin()", "input").replace(f"Rattle.{name}.", f"Rattle.{crate}."), f'        b"{name}" => {ending},'
+    ending = ENDINGS[found[1]].format(call=f"{name}::main(rt, rt.stdin())")
+    return inside(text.replace("rt.stdin()", "input"), name, crate), f'        b"{name}" => {ending},'
+
+
+def inside(source: str, name: str, crate: str) -> str:
+    """Returns the source of a program as part of a module of its name."""
+    return MODULES.sub(f"crate::{name}::", source).replace(f"Rattle.{name}.", f"Rattle.{crate}.")
 
 
 def join_programs(folders: dict[str, Path], crate: Path) -> None:
@@ -51,6 +58,10 @@ def join_programs(folders: dict[str, Path], crate: Path) -> None:
         module, arm = module_of(name, (folder / "src/main.rt.in").read_text(), crate.name)
         (crate / f"src/{name}.rt").write_text(module)
         arms.append(arm)
+        for source in set((folder / "src").rglob("*.in")) - {folder / "src/main.rt.in"}:
+            made = crate / "src" / name / source.relative_to(folder / "src").with_suffix("")
+            made.parent.mkdir(parents=True, exist_ok=True)
+            made.write_text(inside(source.read_text(), name, crate.name))
         for source in [*folder.glob("specs/*.in"), *folder.glob("proofs/*.in")]:
             made = crate / source.relative_to(folder).with_suffix("")
             if made in lists and made.name != LIST:
