@@ -1,5 +1,6 @@
 #!/usr/bin/env python3
-"""Measures flushes before and after the log is full, by the length of the log. README.md describes the measurement."""
+"""Measures flushes before and after the log is full, and what it takes to find that a log is full of live data, by the length of the log. README.md
+describes the measurements."""
 
 import argparse
 import random
@@ -16,7 +17,7 @@ sys.path[:0] = [str(TOP), str(TOP / "clients/python")]
 
 from bench.plot import full_logs
 from bench.tables import print_table
-from taukremil import Put, Store
+from taukremil import Put, Refused, Store
 from tools.processes import PROGRAM, exit_if_missing
 
 SEGMENT = 1_048_576
@@ -24,6 +25,7 @@ VALUE = 1_000  # bytes
 BATCH = 1_000  # puts, each followed by a flush
 SETTINGS = {"fan": 16, "chain": 4, "max_key": 8, "max_value": VALUE, "seg_size": SEGMENT}
 FIRST, LAST = 20, 40  # flushes whose median is reported
+MOST = 50_000  # commands of a batch
 
 
 @dataclass(frozen=True)
@@ -66,6 +68,47 @@ def measure(program: Path, segments: int, pairs: int, folder: Path) -> Measured:
     return Measured(segments, statistics.median(new), statistics.mean(full), max(full), read)
 
 
+FULL = 10  # the fault
+
+
+def loaded(store: Store, first: int, count: int) -> bool:
+    """Puts so many pairs from `first` on, and flushes. Returns whether the log had room."""
+    chance = random.Random(first)
+    store.load((b"%07d" % key, chance.randbytes(VALUE)) for key in range(first, first + count))
+    try:
+        store.flush()
+    except Refused as refused:
+        if refused.number != FULL:
+            raise
+        store.reopen()
+        return False
+    return True
+
+
+def measure_refusal(program: Path, segments: int, folder: Path) -> tuple[int, float]:
+    """Fills a log with pairs, puts a new value into every page, and flushes. Returns the pairs, and the seconds until the flush is refused."""
+    path, count = folder / f"live-{segments}.store", 32 * segments
+    with Store(path, create=True, program=program, segments=segments, **SETTINGS) as store:
+        pairs = 0
+        while loaded(store, pairs, count):
+            pairs += count
+        keys = range(0, pairs, SETTINGS["fan"] // 2)
+        for first in range(0, len(keys), MOST):
+            store.batch([Put(b"%07d" % key, bytes(VALUE)) for key in keys[first : first + MOST]])
+        start = time.perf_counter()
+        try:
+            store.flush()
+        except Refused as refused:
+            if refused.number != FULL:
+                raise
+            seconds = time.perf_counter() - start
+        else:
+            raise ValueError(f"{segments} segments had room")
+        store.reopen()
+    path.unlink()
+    return pairs, seconds
+
+
 def row(pairs: int, measured: Measured) -> list[str]:
     times = measured.segments * SEGMENT / (pairs * (VALUE + 7))
     figures = [measured.first * 1_000, measured.full * 1_000, measured.longest * 1_000, measured.read / SEGMENT]
@@ -73,6 +116,7 @@ def row(pairs: int, measured: Measured) -> list[str]:
 
 
 HEAD = ["log", "new: ms a batch", "full: ms a batch", "longest ms", "MiB read a batch", "rate kept"]
+REFUSAL_HEAD = ["log full of live data", "pairs", "s until a flush is refused"]
 
 
 def measure_all(program: Path, lengths: Sequence[int], pairs: int, folder: Path) -> list[Measured]:
@@ -83,19 +127,33 @@ def measure_all(program: Path, lengths: Sequence[int], pairs: int, folder: Path)
     return found
 
 
+def measure_refusals(program: Path, lengths: Sequence[int], folder: Path) -> list[list[str]]:
+    found = []
+    for segments in lengths:
+        print(f"{program.name}: {segments} MiB of live data", file=sys.stderr, flush=True)
+        pairs, seconds = measure_refusal(program, segments, folder)
+        found.append([f"{segments} MiB", f"{pairs:,}", f"{seconds:.2f}"])
+    return found
+
+
 def main() -> None:
     parser = argparse.ArgumentParser(description=__doc__)
     parser.add_argument("--program", type=Path, action="append", help="a program to measure; may be repeated, to compare versions")
     parser.add_argument("--pairs", type=int, default=10_000)
-    parser.add_argument("--segments", type=int, nargs="+", default=[32, 64, 160, 512], metavar="MIB")
+    parser.add_argument("--segments", type=int, nargs="*", default=[20, 32, 64, 160, 512], metavar="MIB")
+    parser.add_argument("--live", type=int, nargs="*", default=[11, 64, 256], metavar="MIB", help="logs that are filled with live data")
     parser.add_argument("--svg", type=Path, help="draw the batches in full logs into this file")
     options = parser.parse_args()
     curves = {}
     for program in options.program or [PROGRAM]:
         exit_if_missing(program)
         with tempfile.TemporaryDirectory() as folder:
-            found = measure_all(program.resolve(), options.segments, options.pairs, Path(folder))
-        print_table(HEAD, (row(options.pairs, measured) for measured in found))
+            found = measure_all(program.resolve(), options.segments, options.pairs, Path(folder)) if options.segments else []
+            refusals = measure_refusals(program.resolve(), options.live, Path(folder))
+        if found:
+            print_table(HEAD, (row(options.pairs, measured) for measured in found))
+        if refusals:
+            print_table(REFUSAL_HEAD, refusals)
         curves[program.name] = [(measured.segments, measured.full * 1_000) for measured in found]
     if options.svg:
         options.svg.write_text(full_logs(curves))

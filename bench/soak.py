@@ -18,6 +18,7 @@ from pathlib import Path
 sys.path.insert(0, str(Path(__file__).resolve().parent.parent))
 
 from tools.processes import MEMORY_FOLDER
+from tools.soak.services import PLANTS as SERVICE_PLANTS
 from tools.soak.services import ServiceSoak
 from tools.soak.sessions import PLANTS, Difference, Soak
 
@@ -49,10 +50,14 @@ def arguments() -> argparse.Namespace:
     parser.add_argument("--last", type=int, metavar="N", help="the number of the last store (default: no limit)")
     parser.add_argument("--seconds", type=float, help="run for this many seconds (default: until Ctrl-C)")
     parser.add_argument("--store", type=Path, default=MEMORY_FOLDER, metavar="FOLDER", help="parent folder of the store's files")
-    plants = "plants a fault that has to be found: a line of the answers is lost, a bit of the log flips, syncs are lost"
+    plants = "plants a fault that has to be found: a line of the answers is lost, a bit of the log flips, syncs are lost;"
+    plants += " with --services: flushes are lost, the log is never cleaned, a killed copy is an empty store, or cannot be replaced"
     parser.add_argument("--services", action="store_true", help="run queues, full logs, kills and copies")
-    parser.add_argument("--plant", choices=PLANTS, help=plants)
-    return parser.parse_args()
+    parser.add_argument("--plant", choices=[*PLANTS, *SERVICE_PLANTS], help=plants)
+    options = parser.parse_args()
+    if options.plant and options.plant not in (SERVICE_PLANTS if options.services else PLANTS):
+        parser.error(f"--plant {options.plant} does not go with {'' if options.services else 'sessions without '}--services")
+    return options
 
 
 def main() -> None:
@@ -60,9 +65,8 @@ def main() -> None:
     print(f"seed {options.seed}", flush=True)
     folder = Path(tempfile.mkdtemp(prefix="soak-", dir=options.store if options.store.is_dir() else None))
     program = options.program.resolve()
-    soak: Soak | ServiceSoak = Soak(program, options.seed, folder, options.plant)
-    if options.services:
-        soak = ServiceSoak(program, options.seed, folder)
+    kind: type[Soak] | type[ServiceSoak] = ServiceSoak if options.services else Soak
+    soak: Soak | ServiceSoak = kind(program, options.seed, folder, options.plant)
     try:
         print(run_stores(soak, options))
     except Difference as difference:

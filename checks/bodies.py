@@ -4,8 +4,8 @@
 
 Each file `bodies/CRATE/NAME.edit` changes the body of one function, and describes the change in its first line. `file:` names the source; each
 `old:` is a text that occurs there once, and `new:` replaces it. `function:` is the function's name as the prover prints it. `refused:` is the goal
-or clause at which the prover must refuse the function, and `accepted:` marks a control, which it must accept. Only the changed functions and their
-callees are checked.
+or clause at which the prover must refuse the function, and `accepted:` marks a control, which it must accept. Only the changed functions are
+checked: the gate has proved the others, and their proofs are left out.
 """
 
 import os
@@ -24,6 +24,12 @@ from tools import kit
 TOP = Path(__file__).resolve().parent.parent
 EDITS = Path(__file__).resolve().parent / "bodies"
 PARTS = ("src", "specs", "proofs")
+PROOF_FILES = ("Answers.antt", "Invariants.antt")
+HOLE = """use Rattle.{crate}.proofs.{path}.Statement.{{statement}}
+
+pub {name}_spec : {{M : Type 1}} → statement M
+{name}_spec = ?
+"""
 # An error at a proof step that cites a name which the edit removed.
 OF_FORM = re.compile(r"has no field|is not in scope|has no `|was not admitted|depends on")
 
@@ -111,10 +117,22 @@ def fits(edit: Edit, group: list[Edit]) -> bool:
     return edit.function not in {other.function for other in group}
 
 
-def run_check(workspace: kit.Workspace, crate: str, folder: Path, kept: Path, functions: list[str]) -> tuple[int, str, float]:
+def leave_out_proofs(folder: Path, crate: str, kept: set[str]) -> None:
+    """Replaces each function's proof files by a hole, but for these functions."""
+    proofs = folder / "proofs"
+    for function in sorted({file.parent for name in PROOF_FILES for file in proofs.rglob(name)}):
+        path = ".".join(function.relative_to(proofs).parts)
+        if path.replace(".", "::") in kept:
+            continue
+        for name in PROOF_FILES:
+            (function / name).unlink(missing_ok=True)
+        (function / "Proof.antt").write_text(HOLE.format(crate=crate, path=path, name=function.name))
+
+
+def run_check(workspace: kit.Workspace, crate: str, folder: Path, functions: list[str]) -> tuple[int, str, float]:
     """Returns the prover's exit status, output and processor seconds."""
     names = [word for function in functions for word in ("--only", function)]
-    words: list[str | Path] = [kit.RATTLE, "check", *workspace.check_words(crate), "--incremental", kept, *names]
+    words: list[str | Path] = [kit.RATTLE, "check", *workspace.check_words(crate), *names]
     pipe, errors, nothing = subprocess.PIPE, subprocess.STDOUT, subprocess.DEVNULL
     with subprocess.Popen(words, cwd=folder, stdin=nothing, stdout=pipe, stderr=errors, text=True, errors="replace") as prover:
         printed = prover.stdout.read() if prover.stdout else ""
@@ -152,21 +170,21 @@ def refusals_of(edit: Edit, line: str, printed: str) -> list[str]:
     return goals
 
 
-def check_group(workspace: kit.Workspace, group: list[Edit], kept: Path) -> list[Verdict]:
-    crate = group[0].crate
+def check_group(workspace: kit.Workspace, group: list[Edit]) -> list[Verdict]:
+    crate, functions = group[0].crate, [edit.function for edit in group]
     with tempfile.TemporaryDirectory(prefix="bodies-") as room:
         folder = Path(room)
         for part in PARTS:
             if (workspace.top / "crates" / crate / part).is_dir():
                 shutil.copytree(workspace.top / "crates" / crate / part, folder / part)
+        leave_out_proofs(folder, crate, set(functions))
         wrong = {edit.label: edit.apply(folder) for edit in group}
-        status, printed, seconds = run_check(workspace, crate, folder, kept, [edit.function for edit in group])
+        status, printed, seconds = run_check(workspace, crate, folder, functions)
     return [Verdict(edit, wrong[edit.label] or error_of(edit, status, printed), group[0].label, seconds) for edit in group]
 
 
 def check_crate(workspace: kit.Workspace, edits: list[Edit]) -> list[Verdict]:
-    with tempfile.TemporaryDirectory(prefix="bodies-kept-") as kept:
-        return [verdict for group in groups_of(edits) for verdict in check_group(workspace, group, Path(kept))]
+    return [verdict for group in groups_of(edits) for verdict in check_group(workspace, group)]
 
 
 def chosen(edits: list[Edit], names: list[str]) -> list[Edit]:

@@ -11,13 +11,17 @@ from tools.cases import SMALL_STORE, Case, Outcome, Programs
 from tools.processes import TOP, new_folder
 
 CLIENTS = TOP / "clients"
-TESTS = ("Replies", "Lasting", "Faults", "Kills", "Losses", "Checks", "Opening", "Loads", "Types", "Pipes")
+TESTS = {
+    "calls": ("Replies", "Lasting", "Faults", "Checks", "Types", "Pipes"),
+    "losses": ("Kills", "Losses"),
+    "opening": ("Opening", "Copies", "Ranges", "Loads"),
+}
 PATIENCE = 300  # seconds
 SESSIONS = 40  # of the shell example, which fill the log more than once
 
 
 def run_tests(programs: Programs, name: str) -> Outcome:
-    command = [sys.executable, "-B", "-W", "error", "-m", "unittest", f"test_taukremil.{name}"]
+    command = [sys.executable, "-B", "-W", "error", "-m", "unittest", name]
     environment = {**os.environ, "BWSH": str(programs.store)}
     ran = subprocess.run(command, cwd=CLIENTS / "python", env=environment, capture_output=True, timeout=PATIENCE)
     report = ran.stderr.decode(errors="replace").strip()
@@ -57,7 +61,11 @@ def run_shell(programs: Programs) -> Outcome:
 
 def cases(programs: Programs) -> list[Case]:
     return [
-        *[Case(f"the Python client: {name.lower()}", run_tests, (programs, name)) for name in TESTS],
+        *[
+            Case(f"the Python client: {name.lower()}", run_tests, (programs, f"test_{module}.{name}"))
+            for module, names in TESTS.items()
+            for name in names
+        ],
         Case("the Python client is installed without a network", run_install, (programs,)),
         Case("the example in shell", run_shell, (programs,)),
     ]

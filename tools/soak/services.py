@@ -1,23 +1,27 @@
 """Runs random services: queues, full logs, kills and copies on stores in files, each compared with a model."""
 
+import itertools
 import random
 import subprocess
 import time
 from collections import Counter
 from collections.abc import Callable, Iterator
+from dataclasses import dataclass
 from pathlib import Path
 
-from tools.answers import token
-from tools.model import OrderedMap
-from tools.processes import NO_VARIABLES, PATIENCE, Command, Dialog
+from tools.answers import READ_ALL, token
+from tools.failures import DEVICE
+from tools.model import FULL, OrderedMap
+from tools.processes import NO_VARIABLES, PATIENCE, Command, PipedProgram
 from tools.soak.sessions import Difference
 
-COUNTED = ["stores", "batches", "commands", "flushes", "cleans", "restarts", "kills", "full logs", "copies", "copies cut off"]
-READ_ALL = b"scan % * 4294967295\nverify\n"
-FULL = b"fault 10 Full\n"
+COUNTED = ["stores", "batches", "commands", "flushes", "cleans", "compactions", "restarts", "kills", "full logs"]
+COUNTED += ["copies", "copies cut off", "copied over", "stores cut off"]
+MAX_KEY, MAX_VALUE = 8, 100
 NO_STORE = b"fault 12 NotAStore\n"
-LARGEST = 4_096  # segments; a fuller store is given up
+PLANTS = ("flush", "room", "copy", "leftover")
 PLANTED = 5  # sessions before a planted fault
+DONE, KILLED, FULL_LOG = "done", "killed", "full"  # how a session ended
 Pairs = dict[bytes, bytes]
 
 
@@ -76,11 +80,27 @@ class Service:
         return drawn
 
 
-class ServiceSoak:
-    """With `loses_flushes`, the file is put back after a session, so that a difference must be found."""
+@dataclass(frozen=True)
+class Step:
+    """A batch of a session, and a flush after it if `is_flushing`."""
 
-    def __init__(self, program: Path, seed: int, folder: Path, loses_flushes: bool = False) -> None:
-        self.program, self.seed, self.folder, self.loses_flushes = program, seed, folder, loses_flushes
+    lines: list[bytes]
+    answers: list[bytes]
+    is_flushing: bool
+    pairs: Pairs  # after the batch
+    is_touched: bool  # whether the flush must write
+
+    def text(self) -> bytes:
+        return b"".join([*self.lines, b"flush\n" if self.is_flushing else b"go\n"])
+
+
+class ServiceSoak:
+    """`plant` is a fault that must be found: the flushes of a session are lost, no session cleans the log, a copy that is cut off is an empty store,
+    or a file that an unfinished copy left has a byte of something else."""
+
+    def __init__(self, program: Path, seed: int, folder: Path, plant: str | None = None) -> None:
+        self.program, self.seed, self.folder, self.plant = program, seed, folder, plant
+        self.path, self.copied = folder / "service", folder / "copy"
         self.counts: Counter[str] = Counter()
         self.number, self.chance = 0, random.Random()
         self.flushed: Pairs = {}
@@ -90,143 +110,241 @@ class ServiceSoak:
 
     def begin(self) -> None:
         chance = self.chance
-        fan = chance.choice([4, 8, 16, 16, 32, 64])
-        self.pages = [f"--fan={fan}", f"--chain={chance.choice([1, 4, 4, 8, 16])}", "--max-key=8", "--max-value=128"]
-        self.pages.append(f"--seg-size={chance.choice([16_384, 32_768, 65_536])}")
-        self.segments = chance.choice([3, 4, 8, 20, 40])
-        self.words = ["--clean-when-full", *[f"--tidy={chance.choice([1, 8, 64, 1_000])}"] * chance.choice([0, 0, 1])]
-        self.path = self.folder / "service"
+        self.service = Service(chance)
+        self.fan, self.chain = chance.choice([4, 8, 16, 16, 32, 64]), chance.choice([1, 4, 4, 8, 16])
+        longest = 33 + MAX_KEY + self.fan * (3 + MAX_KEY + 2 + MAX_VALUE)
+        self.seg_size = chance.choice([size for size in (2_048, 4_096, 16_384, 65_536) if size >= longest])
+        self.pages = [f"--fan={self.fan}", f"--chain={self.chain}", f"--max-key={MAX_KEY}", f"--max-value={MAX_VALUE}", f"--seg-size={self.seg_size}"]
+        self.segments = chance.choice([3, 4, 8, 20, 40, 100])
+        self.tidying = [f"--tidy={chance.choice([1, 8, 64, 1_000])}"] * chance.choice([0, 0, 1])
         self.path.unlink(missing_ok=True)
+        self.copied.unlink(missing_ok=True)
+        if chance.random() < 0.3:
+            self.cut_creation()
         self.make(self.path, "--create")
-        self.pairs, self.flushed = OrderedMap(), {}
+        self.pairs, self.flushed, self.page_count = OrderedMap(), {}, 1
+        self.sequence: int | None = 1  # None if it is unknown
+        self.head: int | None = 0
 
     def settings(self) -> list[str]:
         return [*self.pages, f"--segments={self.segments}"]
 
-    def make(self, path: Path, *words: str) -> None:
-        ended = subprocess.run([self.program, "--disk", path, *words, *self.settings()], input=b"", capture_output=True, env=NO_VARIABLES, timeout=PATIENCE)
-        if ended.returncode or ended.stderr:
-            raise Difference(f"{' '.join(words)} ended with {ended.returncode}, {ended.stderr!r}")
+    def run_on(self, path: Path, *words: object, text: bytes = b"") -> subprocess.CompletedProcess[bytes]:
+        command: Command = [self.program, "--disk", path, *map(str, words)]
+        return subprocess.run(command, input=text, capture_output=True, env=NO_VARIABLES, timeout=PATIENCE)
 
-    def read(self, path: Path) -> tuple[bytes, list[bytes]]:
-        """Returns the error, or the rows of the store."""
-        ended = subprocess.run([self.program, "--disk", path], input=READ_ALL, capture_output=True, env=NO_VARIABLES, timeout=PATIENCE)
+    def make(self, path: Path, *words: object) -> None:
+        ended = self.run_on(path, *words, *self.settings())
+        if ended.returncode or ended.stderr:
+            raise Difference(f"{' '.join(map(str, words))} ended with {ended.returncode}, {ended.stderr!r}")
+
+    def read(self, path: Path) -> tuple[bytes, list[bytes], int]:
+        """Returns the error, or the rows and the number of pages of the store."""
+        ended = self.run_on(path, text=READ_ALL)
         *rows, report = ended.stdout.splitlines() or [b""]
-        if not ended.stderr and not report.startswith(b"ok "):
-            raise Difference(f"a session on {path.name} printed {report!r}")
-        return ended.stderr, rows
+        words = report.split()
+        if not ended.stderr and (words[:1] != [b"ok"] or int(words[3]) != len(rows) - 1):
+            raise Difference(f"a session on {path.name} printed {report!r}, after {len(rows)} lines")
+        return ended.stderr, rows, 0 if ended.stderr else int(words[1])
 
     def recover(self, *possible: Pairs) -> None:
         """Compares the file with the states that it may hold, and goes on with the one that it holds."""
-        error, rows = self.read(self.path)
+        error, rows, pages = self.read(self.path)
         for pairs in possible:
             if not error and rows == rows_of(pairs):
-                self.pairs, self.flushed = OrderedMap(pairs), dict(pairs)
+                self.counts["compactions"] += 2 * pages < self.page_count and not self.tidying
+                self.pairs, self.flushed, self.page_count = OrderedMap(pairs), dict(pairs), pages
                 return
         states = " or ".join(f"{len(pairs)} pairs" for pairs in possible)
         raise Difference(f"the file has {error or rows[:1]!r}, where {states} were expected")
 
-    def expect(self, session: Dialog, expected: list[bytes]) -> None:
+    # ---- Sessions.
+
+    def draw(self) -> Step:
+        lines, answers = self.service.draw(self.pairs)
+        is_flushing, is_touched = self.chance.random() < 0.7, self.pairs.is_touched
+        self.pairs.is_touched &= not is_flushing
+        self.counts["batches"] += 1
+        self.counts["commands"] += len(lines)
+        return Step(lines, answers, is_flushing, dict(self.pairs.pairs), is_touched)
+
+    def expect(self, session: PipedProgram, expected: list[bytes]) -> None:
         for answer in expected:
             line = session.read_line()
             if line != answer + b"\n":
                 raise Difference(f"the answer was {line!r}, where {answer!r} was expected")
 
-    def flush(self, session: Dialog) -> bool:
-        """Returns whether the flush was answered; otherwise the log was full, and the session has ended."""
-        line = session.read_line()
-        while line.startswith(b"cleaned "):
-            self.counts["cleans"] += 1
+    def read_cleans(self, session: PipedProgram) -> bytes:
+        """Reads the line of each clean before a flush, and returns the next one."""
+        for cleans in itertools.count():
             line = session.read_line()
+            if not line.startswith(b"cleaned "):
+                return line
+            head = int(line.split()[1])
+            if cleans == self.segments or head != (head - 1 if self.head is None else self.head) + 1:
+                raise Difference(f"after {cleans} cleans before one flush, and head {self.head}, the answer was {line!r}")
+            self.head, self.sequence = head, None if self.sequence is None else self.sequence + 1
+            self.counts["cleans"] += 1
+        raise AssertionError
+
+    def flush(self, session: PipedProgram, step: Step) -> bool:
+        """Returns whether the flush was answered; otherwise the log was full, and the session has ended."""
+        line = self.read_cleans(session)
         if line.startswith(b"flushed "):
+            number = int(line.split()[1])
+            if self.sequence is not None and number - self.sequence not in ([1] if step.is_touched else [0, 1]):
+                raise Difference(f"after sequence number {self.sequence} a flush was answered with {line!r}")
             self.counts["flushes"] += 1
-            self.flushed = dict(self.pairs.pairs)
+            self.sequence, self.flushed = number, step.pairs
             return True
         status, _, errors = session.finish()
         if line or (status, errors) != (4, FULL):
             raise Difference(f"a flush was answered with {line!r}, status {status}, {errors!r}")
         return False
 
-    def run_session(self, service: Service) -> bool:
-        """Returns whether the store can go on."""
-        before = self.path.read_bytes()
-        session = Dialog(self.program, "--disk", self.path, *self.words)
-        for _ in range(self.chance.choice([1, 5, 30, 100])):
-            lines, answers = service.draw(self.pairs)
-            is_flushing = self.chance.random() < 0.7
-            self.counts["batches"] += 1
-            self.counts["commands"] += len(lines)
-            session.send(b"".join([*lines, b"flush\n" if is_flushing else b"go\n"]))
-            if self.chance.random() < 0.02:
-                return self.kill(session, is_flushing)
-            self.expect(session, answers)
-            if is_flushing and not self.flush(session):
-                return self.widen()
-        status, out, errors = session.finish()
-        if status or out or errors:
-            raise Difference(f"the session ended with {status}, {out!r}, {errors!r}")
-        self.counts["restarts"] += 1
-        if self.loses_flushes and self.counts["restarts"] > PLANTED:
-            self.path.write_bytes(before)
-        self.recover(self.flushed)
+    def run_session(self) -> bool:
+        """Returns whether the store can go on. Some sessions don't clean, and some read all their lines first."""
+        before, is_cleaning = self.path.read_bytes(), self.chance.random() < 0.85
+        is_stream = self.chance.random() < 0.75
+        words = ["--clean-when-full"] * (is_cleaning and self.plant != "room") + self.tidying + ["--stream"] * is_stream
+        session = PipedProgram([self.program, "--disk", self.path, *words])
+        count = self.chance.choice([1, 5, 30, 100] if is_stream else [1, 1, 5])
+        end = self.run_stream(session, count) if is_stream else self.run_file(session, count)
+        if end == FULL_LOG:
+            self.counts["full logs"] += 1
+            self.recover(self.flushed)
+            return not is_cleaning or self.widen()
+        if end == DONE:
+            status, out, errors = session.finish()
+            if status or out or errors:
+                raise Difference(f"the session ended with {status}, {out!r}, {errors!r}")
+            self.counts["restarts"] += 1
+            if self.plant == "flush" and self.counts["restarts"] > PLANTED:
+                self.path.write_bytes(before)
+            self.recover(self.flushed)
         return True
 
-    def kill(self, session: Dialog, is_flushing: bool) -> bool:
+    def run_stream(self, session: PipedProgram, count: int) -> str:
+        for _ in range(count):
+            step = self.draw()
+            session.send(step.text())
+            if self.chance.random() < 0.02:
+                return self.kill(session, [step])
+            self.expect(session, step.answers)
+            if step.is_flushing and not self.flush(session, step):
+                return FULL_LOG
+        return DONE
+
+    def run_file(self, session: PipedProgram, count: int) -> str:
+        """Sends all lines first. Nothing is run before the input ends."""
+        steps = [self.draw() for _ in range(count)]
+        session.send(b"".join(step.text() for step in steps))
+        session.input.close()
+        if self.chance.random() < 0.1:
+            return self.kill(session, steps)
+        for step in steps:
+            self.expect(session, step.answers)
+            if step.is_flushing and not self.flush(session, step):
+                return FULL_LOG
+        return DONE
+
+    def kill(self, session: PipedProgram, steps: list[Step]) -> str:
         time.sleep(self.chance.random() * self.chance.choice([0, 0.001, 0.01]))
         session.kill()
         self.counts["kills"] += 1
-        self.recover(self.flushed, *[dict(self.pairs.pairs)] * is_flushing)
-        return True
+        self.sequence = self.head = None
+        self.recover(self.flushed, *[step.pairs for step in steps if step.is_flushing])
+        return KILLED
+
+    # ---- Full logs.
+
+    def is_large(self) -> bool:
+        """Returns whether the log has twice the room that the service needs at most. A tree of more than 4 pages for each `fan` pairs is compacted, and
+        a queue puts and deletes each key of a page once."""
+        service = self.service
+        pairs, entry = service.live + service.most, service.value + 13  # a key has 8 bytes, and two lengths and a flag have 5
+        changes = 2 * self.fan
+        if service.draw == service.updates:
+            changes = self.chain * min(self.fan, 1 + 2 * service.most * self.fan // service.live)
+        page = 25 * (1 + self.chain) + (self.fan + changes) * entry
+        used_of_segment = self.seg_size - 25 - self.fan * entry
+        return self.segments >= 8 and 2 * (4 * pairs // self.fan + 4) * page <= self.segments * used_of_segment
 
     def widen(self) -> bool:
-        """Copies the store into a log that is twice as long, as docs/OPERATING.md advises."""
-        self.counts["full logs"] += 1
-        self.recover(self.flushed)
+        """Copies the store into a log that is twice as long, as docs/OPERATING.md advises. A log that is large enough is never full, whatever the
+        service did before."""
+        if self.is_large():
+            raise Difference(f"{self.segments} segments are full, with {len(self.flushed)} pairs and {self.page_count} pages")
         self.segments *= 2
-        return self.segments <= LARGEST and self.copy(0.3)
-
-    def copy(self, killed: float) -> bool:
-        """Goes on with a copy of the store. Sometimes an earlier copy is killed."""
-        copy = self.folder / "copy"
-        if self.chance.random() < killed:
-            self.cut_copy(copy)
-        self.make(self.path, "--copy-to", str(copy))
-        self.counts["copies"] += 1
-        copy.replace(self.path)
-        self.recover(self.flushed)
+        self.copy(0.3)
         return True
 
-    def cut_copy(self, copy: Path) -> None:
-        command: Command = [self.program, "--disk", self.path, "--copy-to", copy, *self.settings()]
+    # ---- Copies and new stores, and what a kill leaves of them.
+
+    def copy(self, killed: float) -> None:
+        """Goes on with a copy of the store. Sometimes an earlier copy is killed."""
+        if self.chance.random() < killed:
+            self.cut_copy()
+        self.make(self.path, "--copy-to", self.copied)
+        self.counts["copies"] += 1
+        self.copied.replace(self.path)
+        self.sequence = self.head = None
+        self.page_count = 0
+        self.recover(self.flushed)
+
+    def cut_off(self, *words: object) -> None:
+        command: Command = [self.program, *map(str, words), *self.settings()]
         with subprocess.Popen(command, stdin=subprocess.DEVNULL, stderr=subprocess.DEVNULL, env=NO_VARIABLES) as child:
             time.sleep(self.chance.random() * self.chance.choice([0.003, 0.01, 0.05]))
             child.kill()
-        self.counts["copies cut off"] += 1
-        if copy.exists():
-            self.compare_cut_copy(copy)
-            copy.unlink()
 
-    def compare_cut_copy(self, copy: Path) -> None:
-        """The copy must be whole, or no store."""
-        if copy.stat().st_size == 0:
+    def is_whole(self, path: Path, pairs: Pairs) -> bool:
+        """Returns whether the file that was cut off is a store of these pairs. If it isn't, it must be no store."""
+        if not path.exists() or path.stat().st_size == 0:
+            return False
+        error, rows, _ = self.read(path)
+        if error != NO_STORE and (error or rows != rows_of(pairs)):
+            raise Difference(f"{path.name}, which was cut off, has {error or rows[:1]!r}")
+        return not error
+
+    def cut_creation(self) -> None:
+        self.cut_off("--disk", self.path, "--create")
+        self.counts["stores cut off"] += 1
+        self.is_whole(self.path, {})
+
+    def cut_copy(self) -> None:
+        """Kills a copy. If it is complete, the next copy must not overwrite it; otherwise the next copy must take its place."""
+        self.cut_off("--disk", self.path, "--copy-to", self.copied)
+        self.counts["copies cut off"] += 1
+        self.spoil_copy()
+        if self.is_whole(self.copied, self.flushed):
+            before = self.copied.read_bytes()
+            ended = self.run_on(self.path, "--copy-to", self.copied, *self.settings())
+            if (ended.returncode, ended.stderr) != (4, DEVICE) or self.copied.read_bytes() != before:
+                raise Difference(f"a copy over a complete one ended with {ended.returncode}, {ended.stderr!r}")
+            self.copied.unlink()
+        self.counts["copied over"] += self.copied.exists()
+
+    def spoil_copy(self) -> None:
+        if not self.copied.exists() or self.copied.read_bytes()[:1] == b"B":
             return
-        error, rows = self.read(copy)
-        if error != NO_STORE and (error or rows != rows_of(self.flushed)):
-            raise Difference(f"a copy that was cut off has {error or rows[:1]!r}")
+        if self.plant == "copy":
+            self.make(self.copied, "--create")
+        elif self.plant == "leftover":
+            self.copied.write_bytes(self.copied.read_bytes() + b"x")
 
     def run_store(self, number: int) -> Iterator[None]:
         """Yields after each session. Each store has its own seed, so it can be run alone; the moments of kills depend on the clock."""
         self.number, self.chance = number, random.Random(f"services {self.seed} {number}")
         self.begin()
-        service = Service(self.chance)
         self.counts["stores"] += 1
         for _ in range(self.chance.choice([2, 10, 40])):
-            if not self.run_session(service):
+            if not self.run_session():
                 return
             if self.chance.random() < 0.05:
                 self.copy(0.5)
             yield
 
     def report(self, difference: Difference) -> None:
-        print(f"store {self.number}: `--seed {self.seed} --first {self.number}` begins with it; its settings:", *self.settings(), *self.words)
+        print(f"store {self.number}: `--seed {self.seed} --first {self.number}` begins with it; its settings:", *self.settings(), *self.tidying)
         print(f"{self.folder} has its file\nFAILED: {difference}", flush=True)
