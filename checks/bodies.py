@@ -5,7 +5,7 @@
 Each file `bodies/CRATE/NAME.edit` changes the body of one function, and describes the change in its first line. `file:` names the source; each
 `old:` is a text that occurs there once, and `new:` replaces it. `function:` is the function's name as the prover prints it. `refused:` is the goal
 or clause at which the prover must refuse the function, and `accepted:` marks a control, which it must accept. Only the changed functions are
-checked: the gate has proved the others, and their proofs are left out.
+checked: the gate has proved the others, and holes stand for their answers. So a control must be of a function that calls none of these.
 """
 
 import os
