@@ -106,7 +106,8 @@ impl Settings {
     /// Settings for a store of this many pairs, with keys of at most `key` bytes and values of at most `value`: pages of 64 entries, at
     /// most four runs in a leaf, and a log that has room for a base and four runs of each leaf, and for one more text. So a log that is
     /// full has room again once its segments are cleaned, in whatever batches the pairs are put again. Of a store whose keys only move on,
-    /// as those of a queue, all pairs count that are ever put, since a leaf that deletes have emptied stays in the log.
+    /// as those of a queue, all pairs count that are ever put, unless `flush_cleaning`, `compact` or `tidy` takes the leaves that deletes
+    /// have emptied.
     ///
     /// A key or a value out of range is `Fault::BadSettings`, and so are more pairs than 65,536 segments of 1 MiB have room for, which names
     /// `segments`.
