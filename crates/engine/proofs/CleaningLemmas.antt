@@ -1,5 +1,5 @@
 -- A flush that cleans: which rows of cleans were needed, and how it ends.
-use Rattle.std.specs.Prelude.{◌≡◌, ◌≢◌, ◌⊎◌, ℕ, ◌+◌, ◌<◌, ◌≤◌, Bool, IsTrue, true, false, if◌then◌else◌, List, [], ◌∷◌, ◌++◌, Option, Some, None, Result, Ok, Err, IfSome}
+use Rattle.std.specs.Prelude.{◌≡◌, ◌≢◌, ◌⊎◌, ℕ, ◌+◌, ◌<◌, ◌≤◌, Bool, IsTrue, true, false, if◌then◌else◌, List, [], ◌∷◌, ◌++◌, Option, Some, None, Result, Ok, Err, IfSome, IfOk, IfErr}
 use Rattle.std.proofs.Common.{refl, sym, ap, ◌∙◌, subst, inl, inr, ⊎_elim, arith, zero-add}
 use Rattle.std.proofs.lemmas.Bool.{cases_lt}
 use Rattle.std.specs.declared.alloc.Global.{Global}
@@ -21,7 +21,7 @@ use Rattle.recovery.proofs.KeptStore.{flushed-tree}
 use Rattle.recovery.proofs.ReadBytes.{kept_then}
 use Rattle.recovery.proofs.StoreLemmas.{ok-then}
 use Rattle.cleaner.specs.PagesRead.{PagesRead, IsReading}
-use Rattle.engine.specs.Cleaning.{most_ahead, IsRoomy, IsOverfull, IsEarly, IsFullAfter, BeginsRow, AreNeeded, IsFlushedCleaning, IsWantOfRoom, IsOfMachine, IsStoppedCleaning, IsOfBytes, IsHeld, IsNoReading}
+use Rattle.engine.specs.Cleaning.{most_ahead, IsRoomy, IsOverfull, IsEarly, IsFullAfter, BeginsRow, AreNeeded, IsFlushedCleaning, IsWantOfRoom, IsOfMachine, IsStart, IsStoppedCleaning, IsOfBytes, IsHeld, IsNoReading}
 use Rattle.engine.specs.Cleans.{cleans, AreCleaned, AreStopped, IsReadFor, IsOnlyRead, IsRefusedClean}
 use Rattle.engine.specs.Plays.{IsStepDone, IsStepFault, IsLeftInStep, answer_of}
 use Rattle.engine.specs.Room.{live_known}
@@ -386,3 +386,16 @@ module _ {D : Type 0} (view : D → View) (failures : D → ℕ) (lawful : (disk
     early_stopped fault room machine stopped =
         stopped_by next n fault fault early_needed room (inr (not_nothing fault machine, refl)) (λ file. inr machine)
         (subst (λ (k : ℕ). AreStopped view failures old next k fault) (zero-add n) stopped)
+
+-- ---- what the store holds
+
+-- it stays where the store was compacted
+pub start_holds : {D : Type 0} (old start : State D) → IsStart old start → contents start.store.tree ≡ contents old.store.tree
+start_holds {D = D} old start (inl same) = ap (λ (x : State D). contents x.store.tree) same
+start_holds old start (inr (due, full, bloated, compacted, settings, disk, failed)) = compacted.holds
+
+-- and where it was then cleaned and flushed, whatever was answered
+pub cleaning_holds : {D : Type 0} (view : D → View) (failures : D → ℕ) (old start now : State D) (r : Result ℕ Fault) → IsStart old start
+    → IfOk r (λ _. IsFlushedCleaning view failures start now) → IfErr r (IsStoppedCleaning view failures start now) → contents now.store.tree ≡ contents old.store.tree
+cleaning_holds view failures old start now (Ok n) is flushed stopped = flushed.holds ∙ start_holds old start is
+cleaning_holds view failures old start now (Err fault) is flushed stopped = ap contents stopped.tree ∙ start_holds old start is

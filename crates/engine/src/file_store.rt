@@ -217,9 +217,9 @@ fn store_of<D: DiskOfFile>(
 /// Opens the store of the file at this path, and holds the file for itself as long as the store or its disk is there.
 ///
 /// If there is no file, or the file is empty or unfinished as `is_unfinished` says, makes a new store there under these settings: the
-/// file gets the length that they need, with zeros in the place of what it held, and is synced. So a file goes on that a crash left while a
-/// new store or a copy was made. Any other file is synced, and the store that it holds is recovered, with its own settings, as
-/// `Store::open` says. A file that is only read is opened by `FileDisk::open_shared` and `Store::open`.
+/// file gets the length that they need, with zeros in the place of what it held, and is synced; its folder is not. So a file goes on that a
+/// crash left while a new store or a copy was made. Any other file is synced, and the store that it holds is recovered, with its own
+/// settings, as `Store::open` says. A file that is only read is opened by `FileDisk::open_shared` and `Store::open`.
 ///
 /// A crew out of range is `Fault::BadCrew`, and then the first field of the settings that is out of range `Fault::BadSettings`, whatever
 /// the file holds: no file was opened or made then. Then come `OpenFault::Locked` and a reason why the file can't be opened, as it was;

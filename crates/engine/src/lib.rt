@@ -5,6 +5,7 @@
 
 mod execute;
 mod execute_one;
+mod explain;
 mod file_store;
 mod hidden_disk;
 pub mod laws;
@@ -18,6 +19,7 @@ pub mod step_laws;
 mod store;
 mod unfinished;
 
+pub use crate::explain::{ExplainedFault, ExplainedOpenFault, file_remedy, meaning, remedy};
 pub use crate::file_store::{OpenFault, open_or_create};
 pub use crate::ordered_store::{
     OrderedStore, SnapshotDisk, SnapshotStore, put_then_get, put_then_get_in_memory,

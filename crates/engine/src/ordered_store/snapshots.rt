@@ -156,8 +156,8 @@ fn is_within(lo: &[u8], hi: Option<&[u8]>, key: &[u8]) -> bool
     !compare(key, lo).is_lt() && is_before(hi, key)
 }
 
-/// A disk in memory, which keeps each snapshot that a `SnapshotStore` flushes to it. A kept snapshot is durable. The disk has no bytes: calls
-/// that read or write any fail.
+/// A disk in memory, which keeps each snapshot that a `SnapshotStore` flushes to it. A kept snapshot is durable. Only contracts see its bytes:
+/// calls that read or write any fail.
 #[derive(Drop)]
 pub struct SnapshotDisk {
     // Oldest first.
@@ -256,7 +256,8 @@ impl Disk for SnapshotDisk {
     }
 }
 
-/// A store on a `SnapshotDisk`, for tests of programs that use `OrderedStore`. It copies all pairs in each batch and flush.
+/// A store on a `SnapshotDisk`, for tests of programs that use `OrderedStore`. It copies all pairs in each batch and flush, and the disk keeps
+/// the copy of each flush. `clean` and `upgrade` always fail (`NothingToClean`, `AlreadyUpgraded`).
 #[derive(Drop)]
 pub struct SnapshotStore {
     alloc: Global,

@@ -161,10 +161,10 @@ impl<D: Disk> Store<D> {
     /// Makes up to `most` segments at the log's beginning free, one clean after the other, and returns how many. The log is read once for
     /// all of them, where each call of `clean` reads it. Each clean is a commit of its own, with the bytes that `clean` writes.
     ///
-    /// It ends early if the log is in one segment, or if a later clean is refused, as by `Fault::Full` or `Fault::NoMemory`; the store is
-    /// then as after the cleans that were done. The faults are those of the first clean, as `clean` has them. If a call of the disk fails in
-    /// a later one, that is `Fault::Device`, too: the store has failed, and the disk stands for the same pages still. If `most` is 0,
-    /// nothing is done.
+    /// It ends early if the log is in one segment, or if a later clean is refused, as by `Fault::Full` or `Fault::NoMemory` (so the number may
+    /// depend on memory); the store is then as after the cleans that were done. The faults are those of the first clean, as `clean` has them.
+    /// If a call of the disk fails in a later one, that is `Fault::Device`, too: the store has failed, and the disk stands for the same pages
+    /// still. If `most` is 0, nothing is done.
     pub fn clean_many(
         &mut self,
         rt: &(impl Threads + Sync),

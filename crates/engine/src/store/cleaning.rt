@@ -2,6 +2,7 @@
 ghost use Rattle.std.specs.Prelude.{◌≡◌, ◌≢◌, ◌⊎◌, ℕ, ◌<◌, ◌≤◌, [], None, Ok, Err, IsTrue, IfOk, OnOk, IfErr, IfSome, MatchResult, true, false};
 ghost use Rattle.flush_log.specs.FlushText.{flush_text};
 ghost use Rattle.keys.specs.declared.fault.Fault.TheVariants.{NoMemory};
+ghost use Rattle.mapping.specs.Levels.{contents};
 ghost use Rattle.engine.specs.Cleaning.{IsEarly, IsFlushedCleaning, IsHeld, IsNoReading, IsOfBytes, IsOfMachine, IsRoomy, IsStart, IsStoppedCleaning, IsWantOfRoom, most_ahead};
 ghost use Rattle.engine.specs.Cleans.{IsCleanedOn, IsOnlyRead, IsRefusedClean, IsStoppedOn};
 ghost use Rattle.engine.specs.Refusal.{is_crew};
@@ -316,8 +317,7 @@ impl<D: Disk> Store<D> {
 
     /// Writes what the log lacks, as `flush` does, and returns the sequence number. If there is something to write, it makes room first:
     ///
-    /// 1. If at least two thirds of the segments are in use, and the tree has many more pages than its pairs account for, the tree is
-    ///    compacted (`compact_if_bloated`).
+    /// 1. If at least two thirds of the segments are in use, `compact_if_bloated` may compact the tree.
     /// 2. If fewer than three of at least 16 segments are free, the log is read once. If enough bytes are dead (`is_worth_cleaning`), and not
     ///    too many live (`is_overfull`), up to an eighth of the segments are cleaned by this reading. If the reading or a clean is refused
     ///    here, the call goes on with the flush, unless an allocation or a call of the disk failed.
@@ -327,12 +327,12 @@ impl<D: Disk> Store<D> {
     ///
     /// Fails with `Fault::Failed` if the store has failed, then with `Fault::BadCrew` if the crew is out of range. Fails with `Fault::Full`
     /// if what lives needs a larger log. Else it fails with the faults of `flush` and of `clean`. After an `Err` the store holds what it
-    /// held, and the cleans before it are done. After `Fault::Device` the store has failed, and the disk holds the store before the flush
-    /// or the store in memory. An allocation that fails always ends the call with `Fault::NoMemory`, so the bytes that a successful call
-    /// writes depend on no allocation. If the call is repeated then, it may clean other segments than it would have.
+    /// held, maybe compacted, and the cleans before it are done. After `Fault::Device` the store has failed, and the disk holds the store
+    /// before the flush or the store in memory. An allocation that fails always ends the call with `Fault::NoMemory`, so the bytes that a
+    /// successful call writes depend on no allocation. If the call is repeated then, it may clean other segments than it would have.
     ///
-    /// A log that is full of live data is read once before `Fault::Full`. At worst, the call reads 12 times as many bytes as the log has, or
-    /// 15 times as many if the log has fewer than 16 segments.
+    /// If too much lives by the first reading (`is_overfull`), the log is read once before `Fault::Full`. At worst, the call reads 12 times
+    /// as many bytes as the log has, or 15 times as many if the log has fewer than 16 segments.
     pub fn flush_cleaning(&mut self, rt: &(impl Threads + Sync), crew: Crew) -> Result<u64, Fault>
         // Of the store, or of that compacted: some cleans and a flush, as a play of them does, whatever the disk does.
         ensures number { IfOk result (λ n. n ≡ self.new.store.sequence) }
@@ -347,6 +347,9 @@ impl<D: Disk> Store<D> {
         ensures refused { self.old.has_failed ≡ false → IsTrue (is_crew crew) →
             IfErr result (λ fault. (start : State D) × IsStart self.old start
             × IsStoppedCleaning D.view D.failed start self.new fault) }
+
+        // What the store holds stays, whatever is answered.
+        ensures holds { contents self.new.store.tree ≡ contents self.old.store.tree }
 
         // The store was sound, and is so again.
         ensures sound { IsSound D.view self.old × IsSound D.view self.new }

@@ -322,9 +322,8 @@ impl<D: Disk> Store<D> {
     }
 
     /// Compacts the tree, as `compact` does, if at least two thirds of the log's segments are in use, the tree has more pages than its pairs
-    /// account for, and the flush of the compacted tree fits into the free segments. Else nothing changes. More pages than the pairs
-    /// account for are more than 4 for each `fan` pairs and 4 for each level. The store must not have failed, and the crew must be in
-    /// range.
+    /// account for, and the flush of the compacted tree fits into the free segments. Else nothing changes. A tree has more pages than its
+    /// pairs account for if it has more than `4 * pairs / fan + 4 * height`. The store must not have failed, and the crew must be in range.
     ///
     /// Fails only with `Fault::NoMemory`. Then nothing changes.
     ///

@@ -60,9 +60,9 @@ fn with_images(bytes: u64, images: &[Image]) -> u64
 
 impl<D: Disk> Store<D> {
     /// Returns whether the log has 16 segments or more, of which fewer than three are free. A flush leaves at least one free. A clean may need
-    /// two, and seldom more, since it also copies what pages of the first segment have in other segments. So `flush_cleaning` cleans a tight
-    /// log, even if the flush would fit. A smaller log is never tight: there a row of cleans is a single one, after which few segments are
-    /// still free, so a call that is repeated after `Fault::NoMemory` would clean a second segment, and leave other bytes.
+    /// two, and seldom more, since it also copies what pages of the first segment have in other segments. So `flush_cleaning` may clean a
+    /// tight log, even if the flush would fit. A smaller log is never tight: there a row of cleans is a single one, after which few segments
+    /// are still free, so a call that is repeated after `Fault::NoMemory` would clean a second segment, and leave other bytes.
     pub fn is_tight(&self) -> bool
         ensures { result ≡ is_tight self.now.settings self.now.store }
     {
@@ -89,7 +89,7 @@ impl<D: Disk> Store<D> {
     /// Returns whether the bytes that live, by this reading of the store's log, and the bytes that a flush would write are more than the log
     /// can have when cleans are to make room. A flush leaves one segment free. The end of a segment, where the next frame did not fit, stays
     /// unused: it is taken to have 32 bytes for each entry of a page (`fan`), but at most an eighth of the segment. Cleans copy frames as they
-    /// are, so they make no room then, or hardly any at a high cost. It makes the frames, as that flush would.
+    /// are, so they make no room then, or hardly any at a high cost. This call makes the frames, as that flush would.
     ///
     /// Fails only with `Fault::NoMemory`. Nothing changes.
     pub fn is_overfull(

@@ -1,0 +1,105 @@
+//! Faults in words: what a fault means, and what to do about it.
+use crate::file_store::OpenFault;
+use keys::Fault;
+use std::io::ErrorKind;
+use std::{fmt, io};
+
+/// Returns what a fault means, in a sentence.
+pub fn meaning(fault: &Fault) -> &'static str {
+    match fault {
+        Fault::BadSettings(_) => "A setting is out of range.",
+        Fault::KeyTooLong(_) => "A key is longer than the store allows.",
+        Fault::ValueTooLong(_) => "A value is longer than the store allows.",
+        Fault::BatchTooLong => "The batch has more than 65535 commands.",
+        Fault::BadCrew => "The number of workers or the grain is out of range.",
+        Fault::NoMemory => "There was not enough memory.",
+        Fault::Failed => "The disk failed in an earlier call.",
+        Fault::Device => "A call of the disk failed.",
+        Fault::Full => "The log has no room for this.",
+        Fault::NothingToClean => "The log is in one segment, so there is nothing to clean.",
+        Fault::NotAStore
+        | Fault::NoSlot
+        | Fault::BadSegment(_)
+        | Fault::BadFrame(_, _)
+        | Fault::BadStructure(_) => {
+            "The file holds no store, or a damaged one, and was left as it was."
+        }
+        Fault::Spent => "It needs more levels or larger numbers than a store can have.",
+        Fault::DiskTooSmall => "The disk is too small for the segments.",
+        Fault::AlreadyUpgraded => "The log has version 2 already.",
+    }
+}
+
+/// Returns what to do about a fault, in a sentence, or an empty text if nothing helps.
+pub fn remedy(fault: &Fault) -> &'static str {
+    match fault {
+        Fault::BadSettings(_) =>
+            "A segment has to hold a full page of the longest keys and values.",
+        Fault::BadCrew => "There are 1 to 64 workers, and the grain is 1 to 65535.",
+        Fault::BatchTooLong => "Divide it.",
+        Fault::NoMemory => "Smaller batches need less.",
+        Fault::Failed | Fault::Device => {
+            "Open the store again: it is that of the last flush, or of the one that failed."
+        }
+        Fault::Full => {
+            "Clean the log. If too much data lives, copy the store to a disk with more segments."
+        }
+        _ => "",
+    }
+}
+
+/// Returns what to do if a file cannot be used for this reason, or an empty text.
+pub fn file_remedy(reason: &io::Error) -> &'static str {
+    match reason.kind() {
+        ErrorKind::ReadOnlyFilesystem => "A session can only read the store there.",
+        ErrorKind::WouldBlock => "Another program has locked the file. Wait until it ends.",
+        ErrorKind::StorageFull => "Free some space on its device.",
+        ErrorKind::IsADirectory => "A store has to be a file.",
+        _ => "",
+    }
+}
+
+/// A fault in words.
+#[derive(Drop)]
+pub struct ExplainedFault<'a>(pub &'a Fault);
+
+impl<'a> fmt::Display for ExplainedFault<'a> {
+    fn fmt<W: fmt::Write>(&self, f: &mut fmt::Formatter<W>) -> fmt::Result {
+        f.write_str(meaning(self.0))?;
+        let remedy = remedy(self.0);
+        if remedy.is_empty() {
+            return Ok(());
+        }
+        write!(f, " {remedy}")
+    }
+}
+
+/// Why the store of the file at `path` isn't opened, in words.
+#[derive(Drop)]
+pub struct ExplainedOpenFault<'a> {
+    pub path: &'a str,
+    pub fault: &'a OpenFault,
+}
+
+impl<'a> fmt::Display for ExplainedOpenFault<'a> {
+    fn fmt<W: fmt::Write>(&self, f: &mut fmt::Formatter<W>) -> fmt::Result {
+        let path = self.path;
+        match self.fault {
+            OpenFault::Locked => {
+                write!(
+                    f,
+                    "{path}: Another program has locked the file. Wait until it ends."
+                )
+            }
+            OpenFault::File(reason) => {
+                let remedy = file_remedy(reason);
+                let space = if remedy.is_empty() { "" } else { " " };
+                write!(f, "{path}: {reason}.{space}{remedy}")
+            }
+            OpenFault::Store(fault) => {
+                let explained = ExplainedFault(fault);
+                write!(f, "{path}: {explained}")
+            }
+        }
+    }
+}
