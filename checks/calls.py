@@ -231,19 +231,20 @@ def fail_third(programs: Programs, library: Path, call: str) -> Outcome:
     return Outcome()
 
 
-def cut_file(programs: Programs, library: Path) -> Outcome:
-    """A read past the end of a truncated file must be a fault."""
+def cut_file(programs: Programs, library: Path, words: tuple[str, ...]) -> Outcome:
+    """A read past the end of a truncated file must be a fault, which answers the clean and ends the stream, and is explained by its own reason."""
     with failing_store(programs, library) as store:
         changes = b"".join(b"put a 0123456789abcdef\nflush\n" for _ in range(9))
         store.make(changes, b"new\nflushed 2\n" + b"".join(b"replaced\nflushed %d\n" % number for number in range(3, 11)))
-        dialog = Dialog(programs.store, f"--disk={store.file}")
+        dialog = Dialog(programs.store, f"--disk={store.file}", *words)
         dialog.send(b"verify\n")
         first = dialog.read_line()
         with store.file.open("rb+") as file:
             file.truncate(7)
         dialog.send(b"clean\n")
         ended = dialog.finish()
-        return Outcome(None if (first, ended) == (b"ok 1 1 1\n", (4, b"", DEVICE)) else f"{first!r}, and then {ended}")
+        err = DEVICE + f"{store.file}: failed to fill whole buffer.\n".encode() * bool(words)
+        return Outcome(None if (first, ended) == (b"ok 1 1 1\n", (4, DEVICE, err)) else f"{first!r}, and then {ended}")
 
 
 # Whether the store is new, lines, and syncs: two when the store is made, one when it is opened, and three for a flush or an upgrade that writes.
@@ -338,6 +339,24 @@ def is_free(file: Path) -> bool:
         return True
 
 
+def hold_while_reading(programs: Programs, library: Path) -> Outcome:
+    """A session that writes nothing shares its file until it has read the store. Each read of the file takes half a second."""
+    with failing_store(programs, library) as store:
+        store.make(b"put a 1\nflush\n", b"new\nflushed 2\n")
+        environment, pipe = replace(NONE, wait=500).environment(library, store.file), subprocess.PIPE
+        command: Command = [store.program, f"--disk={store.file}", "--wait=60"]
+        with subprocess.Popen(command, stdin=pipe, stdout=pipe, stderr=pipe, env=environment) as child:
+            pipe_of(child.stdin).write(b"get a\n")
+            pipe_of(child.stdin).close()
+            held, end = 0, time.monotonic() + PATIENCE / 4
+            while child.poll() is None and time.monotonic() < end:
+                held += not is_free(store.file)
+                time.sleep(0.02)
+            ended = pipe_of(child.stdout).read(), pipe_of(child.stderr).read(), child.wait(PATIENCE)
+    is_right = held >= 3 and ended == (b"value 1\n", b"", 0)
+    return Outcome(None if is_right else f"held {held} times, and the session ended with {ended}", measured=f"{held} times")
+
+
 def full_pipe() -> tuple[int, int]:
     reader, writer = os.pipe()
     os.set_blocking(writer, False)
@@ -381,9 +400,11 @@ def cases(programs: Programs, library: Path) -> list[Case]:
             for fails, text, out, err in ON_OLD_FILE
         ),
         *(Case(f"the third {call} is interrupted or fails", fail_third, (*arguments, call)) for call in ("read", "write")),
-        Case("a file is cut while a session holds it", cut_file, arguments),
+        Case("a file is cut while a session holds it", cut_file, (*arguments, ())),
+        Case("a file is cut while a session holds it, --explain", cut_file, (*arguments, ("--explain",))),
         Case("how many syncs a session makes", count_syncs, arguments),
         Case("how many threads a session starts", count_threads, arguments),
         Case("a file is held or shared", lock, arguments),
+        Case("a file is shared while it is read", hold_while_reading, arguments),
         Case("a file is closed before a fault is written", close_first, arguments),
     ]

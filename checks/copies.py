@@ -9,6 +9,7 @@ from pathlib import Path
 
 from tools.cases import SMALL_STORE, Case, Outcome, Programs, differs
 from tools.failures import DEVICE, NO_MEMORY, REFUSED, FailingCalls, refusing
+from tools.log.reading import read_store
 from tools.processes import NO_VARIABLES, PATIENCE, Command, Dialog, Limits, new_folder, run
 
 LANES = 4  # cases, each with a share of the allocations
@@ -227,8 +228,6 @@ def write_to_copy(programs: Programs) -> Outcome:
 # Options, input, exit status, output and errors.
 END_EARLY = [
     ((), b"put a 1\nclean\nput b 2\n", 4, b"new\n", b"fault 11 NothingToClean\n"),
-    (("--stream",), b"put a 1\nclean\nput b 2\n", 4, b"new\n", b"fault 11 NothingToClean\n"),
-    (("--stream",), b"put a 1\nflush\nput b 2\nfrob\nput c 3\n", 3, b"new\nflushed 2\n", b"line 4: unknown command\n"),
     (("--disk", "/no/such/store"), b"get a\n", 4, b"", DEVICE),
 ]
 
@@ -239,6 +238,22 @@ def end_early(programs: Programs, words: tuple[str, ...], text: bytes, status: i
         copy = Path(folder) / "copy"
         wrong = differs(run([programs.store, *words], text), status, out, err)
         return Outcome(wrong or differs(run([programs.store, *words, "--copy-to", copy], text), status, out, err) or is_empty(copy))
+
+
+# Input, output, and the pairs of the copy.
+GO_ON = [
+    (b"put a 1\nclean\nput b 2\n", b"new\nfault 11 NothingToClean\nnew\n", [(b"a", b"1"), (b"b", b"2")]),
+    (b"put a 1\nflush\nput b 2\nfrob\nput c 3\n", b"new\nflushed 2\nline 4: unknown command\n", [(b"a", b"1")]),
+]
+
+
+def copy_after_refusals(programs: Programs, text: bytes, out: bytes, pairs: list[tuple[bytes, bytes]]) -> Outcome:
+    """A stream goes on after a fault and after a bad line, and copies what it leaves."""
+    with new_folder() as folder:
+        copy = Path(folder) / "copy"
+        wrong = differs(run([programs.store, "--stream", "--copy-to", copy], text), 0, out)
+        found = read_store(copy.read_bytes()).pairs
+        return Outcome(wrong or (None if found == pairs else f"the copy holds {found}"))
 
 
 def refuse_before_copy(programs: Programs) -> Outcome:
@@ -464,6 +479,7 @@ def cases(programs: Programs, refusing: Path, failing: Path) -> list[Case]:
             for stream, words, begins in REDIRECTED
         ),
         Case("no copy in a file that another fills meanwhile", write_to_copy, arguments),
+        *(Case(f"a copy after what a stream goes on after, {number}", copy_after_refusals, (programs, *row)) for number, row in enumerate(GO_ON)),
         *(Case(f"no copy after {row[4].decode().strip()}, {' '.join(row[0])}", end_early, (programs, *row)) for row in END_EARLY),
         Case("no file of a copy before all is admitted", refuse_before_copy, arguments),
         *(Case(f"a copy is refused: {row[2].decode().strip()} of {len(row[0])} bytes", refuse_copy, (programs, *row)) for row in REFUSED_COPIES),

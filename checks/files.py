@@ -10,7 +10,7 @@ from pathlib import Path
 
 from tools.answers import READ_ALL, answer_to_read_all, rows_of
 from tools.cases import Case, Outcome, Programs, differs
-from tools.processes import Limits, RunResult, new_folder, run, stalled, start
+from tools.processes import Limits, RunResult, new_folder, pipe_of, run, stalled, start
 
 FAULT = "fault 9 Device"
 NOBODY = 65534  # a user that owns no file
@@ -93,16 +93,15 @@ def run_together_often(programs: Programs, group: int) -> Outcome:
 MUCH = b"get x\ngo\n" * 60_000  # more replies than a pipe holds
 
 
-def run_beside(programs: Programs, text: bytes, is_shared: bool) -> Outcome:
-    sessions = {READ_ALL: is_shared, b"put b 2\nflush\n": False, b"clean\n": False, b"upgrade\n": False}
+def run_beside(programs: Programs) -> Outcome:
+    """A session that writes locks its file until it ends."""
     with new_folder() as folder:
         path = Path(folder) / "file"
         make(programs, path, b"put a 1\nflush\n")
-        with stalled([programs.store, "--disk", path], text + MUCH):
+        with stalled([programs.store, "--disk", path], b"flush\n" + MUCH):
             before = path.read_bytes()
-            for session, is_let in sessions.items():
-                ran = run([programs.store, "--disk", path], session)
-                wrong = differs(ran, 0, answer_to_read_all([(b"a", b"1")], 1, 1)) if is_let else differs(ran, 4, b"", f"{FAULT}\n".encode())
+            for session in (READ_ALL, b"put b 2\nflush\n", b"clean\n", b"upgrade\n"):
+                wrong = differs(run([programs.store, "--disk", path], session), 4, b"", f"{FAULT}\n".encode())
                 if wrong:
                     return Outcome(f"beside it {session!r}: {wrong}")
             wrong = differs(run([programs.store, "--disk", path, "--create"], b""), 4, b"", f"{FAULT}\n".encode())
@@ -110,6 +109,19 @@ def run_beside(programs: Programs, text: bytes, is_shared: bool) -> Outcome:
                 return Outcome(f"--create beside it: {wrong or 'the file has other bytes'}")
         ran = run([programs.store, "--disk", path], b"put b 2\nget a\nflush\n")
         return Outcome(None if ran.out.startswith(b"new\nvalue 1\nflushed ") else f"after it was killed: {ran.describe()}")
+
+
+def run_beside_reader(programs: Programs) -> Outcome:
+    """A session that writes nothing gives its lock up before it prints, and is answered from memory."""
+    with new_folder() as folder:
+        path = Path(folder) / "file"
+        make(programs, path, b"put x 1\nflush\n")
+        with stalled([programs.store, "--disk", path], MUCH) as reader:
+            wrong = differs(run([programs.store, "--disk", path], READ_ALL), 0, answer_to_read_all([(b"x", b"1")], 1, 1))
+            wrong = wrong or differs(run([programs.store, "--disk", path], b"put x 2\nflush\n"), 0, b"replaced\nflushed 3\n")
+            wrong = wrong or differs(run([programs.store, "--disk", path, "--create"], b""), 0, b"")
+            out = pipe_of(reader.stdout).read()
+        return Outcome(wrong or (None if b"v" + out == b"value 1\n" * 60_000 else f"the reader answered {out[:100]!r}"))
 
 
 def as_nobody() -> list[str] | None:
@@ -200,8 +212,8 @@ def cases(programs: Programs) -> list[Case]:
     lengths = [("no file", None), *OLD]
     return [
         *[Case(f"two sessions at once, {TIMES // GROUPS} times, {group}", run_together_often, (programs, group)) for group in range(1, GROUPS + 1)],
-        Case("sessions beside one that writes", run_beside, (programs, b"flush\n", False)),
-        Case("sessions beside one that reads", run_beside, (programs, b"", True)),
+        Case("sessions beside one that writes", run_beside, (programs,)),
+        Case("sessions beside one that reads", run_beside_reader, (programs,)),
         Case("a file that may only be read", read_only, (programs,)),
         *[Case(f"--create in vain over {name}", fail_to_create, (programs, length)) for name, length in lengths],
         Case("a full device", full_device, (programs,)),

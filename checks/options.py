@@ -2,6 +2,8 @@
 
 import fcntl
 import itertools
+import os
+import select
 from pathlib import Path
 
 from tools.cases import SMALL_STORE, Case, Outcome, Programs, differs
@@ -101,8 +103,8 @@ EXPLAINED: list[tuple[tuple[str, ...], bytes, bytes | None, bytes, bytes]] = [
         18 * LONG_PUT,
         None,
         b"fault 10 Full\n",
-        b"line 36: The log has no room for this. A line clean in front of it makes room; --clean-when-full does so for a flush. "
-        b"If all of the log is in use, copy the store with --copy-to to a file with more --segments.\n",
+        b"line 36: The log has no room for this. Lines clean or --clean-when-full make room, unless too much data lives. "
+        b"Then copy the store with .copy or --copy-to to a file with more --segments.\n",
     ),
 ]
 
@@ -189,19 +191,90 @@ def explain_streams(programs: Programs) -> Outcome:
     return Outcome(wrong or differs(run(words, b"put a 1\n"), 0, b"new\n"))
 
 
+IDLE_CREATE = b"--create has no effect without --disk.\n"
+IDLE_SETTINGS = b"The settings have no effect: an existing store keeps its own.\n"
+
+
+LONG_KEY = b"The batch that line %d ended was not run. The command in line %d has a key that is longer than max-key of this store.\n"
+# Lines of a stream, with what is said of each refusal. %s is the folder of a copy.
+REFUSED_IN_TURN = [
+    (b"put a 1\nput abc 1\ngo\n", LONG_KEY % (3, 2)),
+    (b"clean\n", b"line 4: The log is in one segment, so there is nothing to clean.\n"),
+    (b"frob\ngo\n", b"The batch was not run. A line begins with a command that --help lists, or with #.\n"),
+    (b".copy %s/none/copy\n", b"%s/none/copy: No such file or directory (os error 2). The directory of a copy has to exist. There is no copy.\n"),
+    (b".copy %s/copy 2\n", b"%s/copy: The settings of the copy are refused. There is no copy.\n"),
+    (b"get a\nget a\ngo\nget abc\ngo\n", LONG_KEY % (13, 12)),
+    (b"put a\ngo\n", b"The batch was not run. --help lists the words of each command. In a word, %%20 is a space.\n"),
+    (b"clean\n", b"line 16: The log is in one segment, so there is nothing to clean.\n"),
+]
+
+
+def explain_in_turn(programs: Programs) -> Outcome:
+    """Each refusal of a stream has its own explanation, which is written before its answer."""
+    with new_folder() as folder:
+        dialog, said = Dialog(programs.store, "--explain", "--max-key=2"), b""
+        for lines, why in REFUSED_IN_TURN:
+            lines, why = (text.replace(b"%s", folder.encode()).replace(b"%%", b"%") for text in (lines, why))
+            dialog.send(lines)
+            answer = dialog.read_line()
+            while answer == b"missing\n":
+                answer = dialog.read_line()
+            ready, _, _ = select.select([dialog.errors], [], [], 0)
+            said = os.read(dialog.errors.fileno(), 65_536) if ready else b""
+            if said != why or not answer.startswith((b"fault ", b"line ")):
+                dialog.kill()
+                return Outcome(f"of {lines!r}, answered by {answer!r}, {said!r} is said, where {why!r} was expected")
+        return Outcome(None if (ended := dialog.finish()) == (0, b"", b"") else f"the session ended with {ended}")
+
+
+def explain_closed_output(programs: Programs) -> Outcome:
+    """A copy that failed before has nothing to do with it."""
+    copy = b"/no/such/folder/copy"
+    dialog = Dialog(programs.store, "--explain")
+    dialog.send(b".copy %s\n" % copy)
+    first = dialog.read_line()
+    dialog.output.close()
+    dialog.send(b"get a\ngo\n")
+    status, err = dialog.finish_unread()
+    failed = copy + b": No such file or directory (os error 2). The directory of a copy has to exist. There is no copy.\n"
+    right = (b"fault 9 Device\n", 4, failed + b"fault 9 Device\nStandard output could not be written. Some answers are missing.\n")
+    return Outcome(None if (first, status, err) == right else f"{first!r}, status {status}, {err!r}")
+
+
+def explain_idle_options(programs: Programs) -> Outcome:
+    """--create without --disk, and settings beside an existing file, have no effect. Only --explain says so."""
+    with new_folder() as folder:
+        path, copy, text = Path(folder) / "store", Path(folder) / "copy", b"put a 1\nflush\n"
+        on_disk, bad = ("--disk", str(path)), b"line 1: unknown command\n"
+        wrong = differs(run([programs.store, "--create"], text), 0, b"new\nflushed 2\n")
+        wrong = wrong or differs(run([programs.store, "--create", "--explain"], text), 0, b"new\nflushed 2\n", IDLE_CREATE)
+        wrong = wrong or differs(run([programs.store, "--create", "--explain", "--fan=8", *on_disk], text), 0, b"new\nflushed 2\n")
+        wrong = wrong or differs(run([programs.store, "--explain", "--fan=8", *on_disk], b"get a\n"), 0, b"value 1\n")
+        wrong = wrong or differs(run([programs.store, "--fan=4", *on_disk], b"get a\n"), 0, b"value 1\n")
+        wrong = wrong or differs(run([programs.store, "--explain", "--fan=4", *on_disk], b"get a\n"), 0, b"value 1\n", IDLE_SETTINGS)
+        wrong = wrong or differs(run([programs.store, "--explain", "--stream", "--fan=4", *on_disk], b"get a\n"), 0, b"value 1\n", IDLE_SETTINGS)
+        wrong = wrong or differs(run([programs.store, "--explain", "--fan=4", *on_disk, "--copy-to", copy], b""), 0, b"")
+        refused = run([programs.store, "--explain", "--create"], b"x\n")
+        explained = b"Nothing was run. A line begins with a command that --help lists, or with #.\n"
+        return Outcome(wrong or differs(refused, 3, b"", bad + explained + IDLE_CREATE))
+
+
 MEMORY = 20_000  # KB of address space, enough for a small store
 LONG_LINE = b"#" * 30_000_000
-UNREAD = b"fault 6 NoMemory\nline %d: There was not enough memory to read it.\n"
+UNREAD = b"line %d: There was not enough memory to read it.\n"
 
 
 def explain_long_line(programs: Programs) -> Outcome:
-    """Memory is insufficient for the stream's last line. The batches before it are answered."""
+    """Memory is insufficient for a line of a stream. Its batch is refused, and what is before and after it is answered. Without a line feed the line
+    is skipped."""
     words: Command = [programs.store, "--stream", "--explain"]
     limits = Limits(memory=MEMORY)
     wrong = None
     for text, out, line in [(b"", b"", 1), (b"put a 1\ngo\nget a\ngo\n", b"new\nvalue 1\n", 5), (b"put a 1\ngo\nget a\n", b"new\n", 4)]:
-        wrong = wrong or differs(run(words, text, limits), 0, out + b"value 1\n" * (line == 4))
-        wrong = wrong or differs(run(words, text + LONG_LINE, limits), 4, out, UNREAD % line)
+        ended = differs(run(words, text + LONG_LINE, limits), 0, out + b"value 1\n" * (line == 4))
+        lost = run(words, text + LONG_LINE + b"\ngo\nget a\ngo\n", limits)
+        answer = b"value 1\n" if text else b"missing\n"
+        wrong = wrong or ended or differs(lost, 0, out + b"fault 6 NoMemory\n" + answer, UNREAD % line)
     return Outcome(wrong)
 
 
@@ -324,9 +397,9 @@ def full_at_once(programs: Programs) -> Outcome:
         answers += [dialog.read_line() for _ in range(201)]
         dialog.send(b"flush\n")
         line = dialog.read_line()
-        read = bytes_read(dialog) - before  # of a process that has ended, and that nobody has waited for
+        read = bytes_read(dialog) - before
         ended = dialog.finish()
-        is_right = answers[200] == b"flushed 2\n" and (line, ended) == (b"", (4, b"", b"fault 10 Full\n")) and read < 2 * length
+        is_right = answers[200] == b"flushed 2\n" and (line, ended) == (b"fault 10 Full\n", (0, b"", b"")) and read < 2 * length
         return Outcome(None if is_right else f"{answers[200]!r}, then {line!r}, {ended}, and {read} bytes read in a log of {length}")
 
 
@@ -350,6 +423,9 @@ def cases(programs: Programs) -> list[Case]:
         *(Case(f"explains {row[3].decode().strip()}", explain, (programs, *row)) for row in EXPLAINED),
         Case("explains files", explain_files, (programs,)),
         Case("explains streams", explain_streams, (programs,)),
+        Case("explains each refusal of a stream", explain_in_turn, (programs,)),
+        Case("explains a closed output after a copy", explain_closed_output, (programs,)),
+        Case("explains options without an effect", explain_idle_options, (programs,)),
         Case("explains a line that can't be read", explain_long_line, (programs,)),
         Case("prints numbers", print_numbers, (programs,)),
         Case("prints numbers of a file that is shared", print_numbers_of_file, (programs,)),

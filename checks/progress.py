@@ -3,6 +3,7 @@
 import re
 import subprocess
 import time
+from dataclasses import replace
 from pathlib import Path
 
 from tools.cases import Case, Outcome, Programs, differs
@@ -26,7 +27,7 @@ SESSIONS = [
     ((), b"get a\nput b 2\nflush\n", 0, b"value 1\nnew\nflushed 3\n", b"", True),
     (("--stream",), b"get a\nput b 2\nflush\n", 0, b"value 1\nnew\nflushed 3\n", b"", True),
     ((), b"get a\nfrob\n", 3, b"", b"line 2: unknown command\n", False),
-    (("--stream",), b"get a\ngo\nfrob\n", 3, b"value 1\n", b"line 3: unknown command\n", True),
+    (("--stream",), b"get a\ngo\nfrob\n", 0, b"value 1\nline 3: unknown command\n", b"", True),
     (("--explain",), b"clean\nget a\n", 4, b"", b"fault 11 NothingToClean\nline 1: The log is in one segment, so there is nothing to clean.\n", True),
     (("--grain=0",), b"get a\n", 4, b"", b"fault 5 BadCrew\n", False),
     (("--stat",), b"", 0, b"stat sequence 2 head 0 tail 55 segments 1 of 64 pages 1 pairs 1\n", b"", True),
@@ -93,22 +94,36 @@ def run_piped(programs: Programs, path: Path, text: bytes) -> RunResult:
 
 
 def count_orders(programs: Programs) -> Outcome:
-    """Lines are at least a second apart, and their counts increase."""
+    """Lines are at least a second apart, their counts increase, and the order of --stat is counted, too."""
     puts = b"".join(b"put k%d v\n" % number + b"go\n" * (number % 1_000 == 999) for number in range(PAIRS))
     text = puts + VERIFIES * b"verify\n"
     start = time.monotonic()
-    ran = run([programs.store, "--progress"], text)
+    ran = run([programs.store, "--progress", "--stat"], text)
     seconds = time.monotonic() - start
     if seconds > LONGEST:
         return Outcome(left_out=f"the machine is slow: {seconds:.0f} s")
-    wrong = differs(run([programs.store], text), 0, ran.out)
+    wrong = differs(run([programs.store, "--stat"], text), 0, ran.out)
     lines = LINE.findall(ran.err)
-    counts = [int(done) for done, read in lines if int(read) == PAIRS // 1_000 + VERIFIES]
+    counts = [int(done) for done, read in lines if int(read) == PAIRS // 1_000 + VERIFIES + 1]
     is_right = ran.err == b"".join(START + b"%s of %s orders run" % line + END for line in lines) + ERASED * bool(lines)
     is_rising = counts == sorted(set(counts)) and len(counts) == len(lines) <= seconds
     if ran.status or not is_right or not is_rising:
         wrong = wrong or f"{ran.describe()} in {seconds:.1f} s, with {counts}"
     return Outcome(wrong, measured=f"{len(lines)} lines in {seconds:.1f} s")
+
+
+def count_each_order(programs: Programs, library: Path) -> Outcome:
+    """Four batches, ended by `go`, by a flush or by the end, two flushes, and the order of --stat: of seven. The file's calls take so long that the
+    fifth order ends more than a second after the line of the third."""
+    with new_folder() as folder:
+        path = Path(folder) / "file"
+        make(programs, path)
+        text, slower = b"get a\ngo\nput a 2\nflush\nput a 3\nflush\nget a\n", replace(SLOW, wait=600)
+        ran = run([programs.store, "--progress", "--stat", "--disk", path], text, environment=slower.environment(library, path))
+        lines = LINE.findall(ran.err)
+        counts = [int(done) for done, _ in lines]
+        is_right = ran.status == 0 and 5 in counts and counts == sorted(set(counts)) and {of for _, of in lines} == {b"7"}
+        return Outcome(None if is_right else f"{ran.describe()}, with {lines}")
 
 
 def count_lines(programs: Programs) -> Outcome:
@@ -122,9 +137,9 @@ def count_lines(programs: Programs) -> Outcome:
     time.sleep(INTERVAL)
     dialog.send(600 * b"get a\n" + b"frob\n")
     ended = dialog.finish()
-    err = progress_of(b"7 lines read, 3 batches run", b"256 lines read, 3 batches run") + b"line 609: unknown command\n"
+    err = progress_of(b"7 lines read, 3 batches run", b"256 lines read, 3 batches run")
     right = [b"new\n", b"replaced\n", b"flushed 2\n", b"value 2\n", b"ok 1 1 1\n"]
-    return Outcome(None if (answers, ended) == (right, (3, b"", err)) else f"{answers}, and the session ended with {ended}")
+    return Outcome(None if (answers, ended) == (right, (0, b"line 609: unknown command\n", err)) else f"{answers}, and the session ended with {ended}")
 
 
 def kill(programs: Programs) -> Outcome:
@@ -200,6 +215,7 @@ def cases(programs: Programs, library: Path, failing: Path) -> list[Case]:
     return [
         Case("a session of some seconds", count_orders, (programs,)),
         Case("each allocation of a session refused", refuse_each, refusals),
+        Case("which orders are counted", count_each_order, (programs, failing)),
         Case("a stream", count_lines, (programs,)),
         Case("a kill between two batches", kill, (programs,)),
         *(Case(f"beside a session, {number}", compare_sessions, (programs, number)) for number in range(len(SESSIONS))),

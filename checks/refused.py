@@ -14,6 +14,7 @@ from tools.building import build_c_library
 from tools.cases import SMALL_STORE, Case, Outcome, Programs, differs
 from tools.failures import ANSWERS, DEVICE, NO_MEMORY, REFUSE, REFUSED, TEXT, refuse_each, refusing, wrong_session
 from tools.log.reading import BadStore, read_store
+from tools.model import OrderedMap
 from tools.processes import TOP, Command, abbreviate, new_folder, run
 
 TESTS = TOP / "tests"
@@ -46,6 +47,61 @@ def cases_of(crate: str, program: Path | None, library: Path) -> list[Case]:
     return [Case(f"{crate} {name}, part {lane} of {LANES}", refuse_each, ([program, name], library, lane, LANES)) for name in names for lane in lanes]
 
 
+def asks_of(text: bytes) -> list[list[list[bytes]]]:
+    """Returns the batches and orders of a text: each is a list of lines, and each line a list of words."""
+    asks: list[list[list[bytes]]] = []
+    pending: list[list[bytes]] = []
+    for line in [*text.splitlines(), b""]:
+        words = line.replace(b"%41", b"A").split()
+        if words and words[0] in COMMANDS:
+            pending.append(words)
+            continue
+        if pending or words == [b"go"]:
+            asks.append(pending)
+            pending = []
+        if words and words != [b"go"]:
+            asks.append([words])
+    return asks
+
+
+COMMANDS = {b"put": "put", b"add": "add", b"get": "get", b"del": "delete", b"scan": "scan", b"wipe": "wipe"}
+
+
+def replies(held: OrderedMap, batch: list[list[bytes]]) -> list[bytes]:
+    lines = []
+    for name, *words in batch:
+        bounds = [b"" if word == b"%" else None if word == b"*" else word for word in words[:2]]
+        arguments = [*bounds, int(words[2])] if name == b"scan" else bounds if name == b"wipe" else words
+        lines += getattr(held, COMMANDS[name])(*arguments)
+    return lines
+
+
+def play(session: "RefusedSession", refused: int) -> list[tuple[bytes, "Pairs | None"]]:
+    """Returns the outputs of a stream that refuses this batch or order, and the pairs that its file then has. A flush that is refused may have cleaned
+    the log before."""
+    is_cleaning = "--clean-when-full" in session.words
+    kept = dict(session.states[0] or {}) if session.states else {}
+    held = OrderedMap(kept)
+    sequence = 18 if is_cleaning else 2 if session.old else 1
+    lines: list[bytes] = []
+    for number, ask in enumerate(asks_of(session.text)):
+        name = ask[0][0] if ask else b"go"
+        if number == refused:
+            lines.append(b"fault 6 NoMemory")
+        elif not ask or name in COMMANDS:
+            lines += replies(held, ask)
+        elif name == b"verify":
+            lines.append(b"ok 1 1 %d" % len(held.pairs))
+        else:
+            is_cleaned = is_cleaning and held.is_touched
+            sequence += (held.is_touched or name == b"upgrade") + is_cleaned
+            kept, held.is_touched = dict(held.pairs), False
+            lines += [b"cleaned 1"] * is_cleaned + [b"%s %d" % (b"upgraded" if name == b"upgrade" else b"flushed", sequence)]
+    out = b"".join(line + b"\n" for line in lines)
+    cleaned = out.replace(b"new\nfault 6 NoMemory\n", b"new\ncleaned 1\nfault 6 NoMemory\n")
+    return [(out, kept), *([(cleaned, kept)] if is_cleaning else [])]
+
+
 EXPLANATION = re.compile(rb"([^\n]+\n)?")  # follows a fault: a line, or nothing if its allocation was refused
 FLUSHED = re.compile(rb"^flushed ", re.MULTILINE)  # begins a flush's answer
 
@@ -65,7 +121,25 @@ class RefusedSession:
     states: tuple[Pairs | None, ...] = ()
 
     def wrong(self, ran: subprocess.CompletedProcess[bytes]) -> str | None:
+        if "--stream" in self.words:
+            return self.wrong_stream(ran)
         return wrong_session(ran, self.answers, self.is_fault)
+
+    def wrong_stream(self, ran: subprocess.CompletedProcess[bytes]) -> str | None:
+        """A stream answers at most one batch or order with fault 6, goes on with what was there before it, and ends with status 0. Or its store is not
+        opened, or its disk in memory fails, which ends it."""
+        err = ran.stderr.replace(REFUSED, b"")
+        if (ran.returncode, ran.stdout) == (4, b"") and self.is_fault(err):
+            return None
+        if ran.returncode == 4 and not self.states and err.startswith(DEVICE) and ran.stdout.endswith(DEVICE):
+            return None if self.answers.startswith(ran.stdout.removesuffix(DEVICE)) else ran.stdout.decode()
+        is_quiet = not err or "--explain" in self.words and EXPLANATION.fullmatch(err) is not None
+        is_right = ran.returncode == 0 and is_quiet and ran.stdout in self.outputs()
+        return None if is_right else f"status {ran.returncode}, output {abbreviate(ran.stdout)}, errors {abbreviate(err)}"
+
+    def outputs(self) -> dict[bytes, Pairs | None]:
+        """Returns the outputs of a stream of which one batch or order, or none, is refused, and the pairs of its file then."""
+        return {out: pairs for refused in range(-1, len(asks_of(self.text))) for out, pairs in play(self, refused)}
 
     def is_fault(self, err: bytes) -> bool:
         """A refused allocation is fault 6 or, for a store in memory, fault 9 of the disk."""
@@ -78,6 +152,9 @@ class RefusedSession:
         """The file has the last flush that was answered, or the next one if its answer could not be allocated. Before the first flush, a new file
         may have no pairs."""
         flushes = len(FLUSHED.findall(ran.stdout))
+        if "--stream" in self.words and ran.returncode == 0:
+            kept = dict(read_store(path.read_bytes()).pairs)
+            return None if kept == self.outputs()[ran.stdout] else f"output {abbreviate(ran.stdout)}, and the file holds {kept}"
         is_next = FLUSHED.match(self.answers, len(ran.stdout)) is not None
         expected = [self.states[flushes], *self.states[flushes + 1 : flushes + 1 + is_next]]
         if self.states[flushes] is None:

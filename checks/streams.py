@@ -40,7 +40,20 @@ SESSIONS = [
     StreamSession("--create over the file", ("--create",), b"put d 5\nflush\n", (0, b"new\nflushed 2\n", b"")),
     StreamSession("a stream that flushes", ("--stream",), b"put c 4\nflush\n", (0, b"new\nflushed 4\n", b"")),
     StreamSession("a stream that only reads", ("--stream",), READ_ALL, (0, OLD_ANSWER, b"")),
-    StreamSession("a stream with a bad line", ("--stream",), b"x\n", (3, b"", b"line 1: unknown command\n")),
+    StreamSession("a stream with a bad line", ("--stream",), b"x\n", (0, b"line 1: unknown command\n", b"")),
+    StreamSession(
+        "a stream that explains a refusal",
+        ("--stream", "--explain"),
+        b"clean\nput c 4\nflush\n",
+        (0, b"fault 11 NothingToClean\nnew\nflushed 4\n", b"line 1: The log is in one segment, so there is nothing to clean.\n"),
+    ),
+    StreamSession(
+        "a stream that explains, and a copy",
+        ("--stream", "--explain"),
+        b"clean\nput c 4\n",
+        (0, b"fault 11 NothingToClean\nnew\n", b"line 1: The log is in one segment, so there is nothing to clean.\n"),
+        [*OLD_PAIRS, (b"c", b"4")],
+    ),
     StreamSession("a stream with --create over the file", ("--stream", "--create"), b"put d 5\nflush\n", (0, b"new\nflushed 2\n", b"")),
     StreamSession("progress", ("--progress",), b"put c 4\nflush\n", (0, b"new\nflushed 4\n", b"")),
     StreamSession("progress of a stream", ("--progress", "--stream"), b"put c 4\nflush\n", (0, b"new\nflushed 4\n", b"")),
@@ -85,7 +98,8 @@ def wrong_ending(ran: RunResult, session: StreamSession, closed: str) -> str | N
         return None
     if closed != "2>&-" and (status != 3 or "<&-" in closed or ">&-" in closed.split() and "--stream" in session.words):
         status, out, err = 4, b"", DEVICE
-    return differs(ran, status, out, b"" if "2>&-" in closed else err)
+    is_explained = "--explain" in session.words and err == DEVICE and ran.err.startswith(DEVICE)
+    return differs(replace(ran, err=DEVICE) if is_explained else ran, status, out, b"" if "2>&-" in closed else err)
 
 
 def close(programs: Programs, number: int, closed: str) -> Outcome:

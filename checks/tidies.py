@@ -86,6 +86,25 @@ def random_lines(seed: int) -> bytes:
     return b"\n".join([*lines, b"flush", b"scan % * 999", b""])
 
 
+def two_leaves(left: int) -> bytes:
+    """Makes two leaves of sixteen pairs in one batch, and leaves ten and `left` of them in a second one."""
+    gone = [place for place in range(32) if place % 16 >= 10 or place >= 16 + left]
+    return b"".join([*(b"put %s %%\n" % key(place) for place in range(32)), b"go\n", *(b"del %s\n" % key(place) for place in gone), b"go\n"])
+
+
+def keep_quarters(programs: Programs, words: tuple[str, ...], line: bytes, answer: bytes) -> Outcome:
+    """Nothing is done to a leaf with a quarter of its entries. A leaf with fewer joins the one before it, and is gone with the root."""
+    for left, count, after in ((4, 0, b"ok 3 2 14\n"), (3, 2, b"ok 1 1 13\n"), (1, 2, b"ok 1 1 11\n"), (0, 2, b"ok 1 1 10\n")):
+        plain = run([programs.store, *QUEUE, "--stat"], two_leaves(left) + b"flush\nverify\n")
+        ran = run([programs.store, *QUEUE, "--stat", *words], two_leaves(left) + b"verify\n" + line + b"flush\nverify\n")
+        before = 32 * b"new\n" + (22 - left) * b"deleted\n" + b"ok 3 2 %d\n" % (10 + left)
+        start = before + (answer % count if answer else b"") + b"flushed 2\n" + after
+        is_right = ran.status == 0 and ran.out.startswith(start) and (ran.out.endswith(plain.out.splitlines()[-1] + b"\n") == (left == 4))
+        if not is_right:
+            return Outcome(f"{left} pairs: {ran.describe()}")
+    return Outcome()
+
+
 def compare_answers(programs: Programs, seed: int) -> Outcome:
     """With --tidy=0 the whole output is equal."""
     text = random_lines(seed)
@@ -142,7 +161,7 @@ def stops(programs: Programs) -> Outcome:
     text, out = queue(0, 6)
     words: Command = [programs.store, *QUEUE, "--tidy=99"]
     ran = run([*words, "--stream"], text + b"flush\nfrob\nget a\n")
-    wrong = differs(ran, 3, out + b"flushed 2\n", b"line %d: unknown command\n" % (text.count(b"\n") + 2))
+    wrong = differs(ran, 0, out + b"flushed 2\n" + b"line %d: unknown command\n" % (text.count(b"\n") + 2))
     ran = run(words, text + b"flush\nfrob\n")
     wrong = wrong or differs(ran, 3, b"", b"line %d: unknown command\n" % (text.count(b"\n") + 2))
     ran = run(words, text + b"flush\n", Limits(redirections=">&-"))
@@ -283,6 +302,8 @@ def cases(programs: Programs, library: Path) -> list[Case]:
         Case("merges emptied leaves", merge, (programs, "text")),
         Case("merges emptied leaves of a stream", merge, (programs, "stream")),
         Case("keeps a queue small", keep_small, (programs,)),
+        Case("keeps leaves with a quarter of their entries", keep_quarters, (programs, ("--tidy=9",), b"", b"")),
+        Case("keeps leaves with a quarter of their entries, .tidy", keep_quarters, (programs, ("--stream",), b".tidy 9\n", b"tidied %d\n")),
         Case("reaches the disk with a session's only flush", flush_merged, (programs,)),
         Case("a flush in each session", flush_once_each, (programs,)),
         Case("compacts a store whose log is nearly full", compact, (programs,)),

@@ -23,6 +23,9 @@ PLANTS = ("flush", "room", "copy", "leftover")
 PLANTED = 5  # sessions before a planted fault
 DONE, KILLED, FULL_LOG = "done", "killed", "full"  # how a session ended
 Pairs = dict[bytes, bytes]
+Refusal = tuple[bytes, int, bytes, bytes]  # a line, and how the session ends: status, output, errors
+FULL_IN_STREAM: Refusal = (FULL, 0, b"", b"")
+FULL_IN_FILE: Refusal = (b"", 4, b"", FULL)
 
 
 def rows_of(pairs: Pairs) -> list[bytes]:
@@ -187,8 +190,8 @@ class ServiceSoak:
             self.counts["cleans"] += 1
         raise AssertionError
 
-    def flush(self, session: PipedProgram, step: Step) -> bool:
-        """Returns whether the flush was answered; otherwise the log was full, and the session has ended."""
+    def flush(self, session: PipedProgram, step: Step, refusal: Refusal) -> bool:
+        """Returns whether the flush was done; otherwise the log was full, and the session is ended."""
         line = self.read_cleans(session)
         if line.startswith(b"flushed "):
             number = int(line.split()[1])
@@ -197,8 +200,8 @@ class ServiceSoak:
             self.counts["flushes"] += 1
             self.sequence, self.flushed = number, step.pairs
             return True
-        status, _, errors = session.finish()
-        if line or (status, errors) != (4, FULL):
+        status, out, errors = session.finish()
+        if (line, status, out, errors) != refusal:
             raise Difference(f"a flush was answered with {line!r}, status {status}, {errors!r}")
         return False
 
@@ -231,7 +234,7 @@ class ServiceSoak:
             if self.chance.random() < 0.02:
                 return self.kill(session, [step])
             self.expect(session, step.answers)
-            if step.is_flushing and not self.flush(session, step):
+            if step.is_flushing and not self.flush(session, step, FULL_IN_STREAM):
                 return FULL_LOG
         return DONE
 
@@ -244,7 +247,7 @@ class ServiceSoak:
             return self.kill(session, steps)
         for step in steps:
             self.expect(session, step.answers)
-            if step.is_flushing and not self.flush(session, step):
+            if step.is_flushing and not self.flush(session, step, FULL_IN_FILE):
                 return FULL_LOG
         return DONE
 

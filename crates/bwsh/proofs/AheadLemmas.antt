@@ -1,6 +1,6 @@
 -- Lemmas on what decides on the cleans in front of a flush.
 use Rattle.std.proofs.Common.{◌≡◌, ◌≢◌, ◌⊎◌, ◌<◌, ◌≤◌, ◌&&◌, ◌-◌, inl, inr, ℕ, suc, Bool, true, false, List, [], ◌∷◌, not, Option, Some, None, Result, Ok, Err, refl, sym, ap, ◌∙◌, subst, arith}
-use Rattle.std.specs.Prelude.{◌↔◌, IsTrue, IfOk, IfSome, OnOk, nat_eq}
+use Rattle.std.specs.Prelude.{◌↔◌, IsTrue, IfOk, IfSome, nat_eq}
 use Rattle.std.proofs.lemmas.Bool.Decides.{nat_tests}
 use Rattle.keys.specs.declared.fault.Fault.{Fault}
 use Rattle.keys.specs.declared.fault.Fault.TheVariants.{Full, NoMemory, NothingToClean}
@@ -12,15 +12,14 @@ use Rattle.flush_log.specs.Disk.{View}
 use Rattle.flush_log.specs.Ends.{ends_of}
 use Rattle.engine.specs.Room.{is_tight, live_known}
 use Rattle.engine.specs.State.{State}
-use Rattle.bwsh.specs.declared.batch_file.Order.TheVariants.{Clean}
+use Rattle.bwsh.specs.declared.order.Order.TheVariants.{Clean}
 use Rattle.bwsh.specs.declared.options.asked.Mode.{Mode}
 use Rattle.bwsh.specs.declared.session.SessionError.{SessionError}
 use Rattle.bwsh.specs.declared.session.SessionError.TheVariants.{Device}
 use Rattle.bwsh.specs.declared.session.SessionError.TheVariants as errors
-use Rattle.bwsh.specs.Session.{IsCalm, IsFullFor, IsKnown, IsReadAhead, IsUndue, RunsAhead, RunsCleans, RunsOrder, Seen, TidiesTo, are_worth, can_clean, has_reason, is_early, is_nil, is_unwritten, may_help, row_of_cleans, wants_clean}
+use Rattle.bwsh.specs.Session.{IsCalm, IsFullFor, IsKnown, IsReadAhead, IsUndue, IsUntouched, RunsAhead, RunsCleans, RunsOrder, Seen, TidiesTo, are_worth, can_clean, has_reason, is_early, is_nil, is_unwritten, may_help, row_of_cleans, wants_clean}
 use Rattle.bwsh.proofs.RoomLemmas.{CleansAhead, RunsCleans-shows, calm_later, due_under, early_reason}
-use Rattle.bwsh.proofs.RowLemmas.{IsAfterRefusal, MakesNoRoom, Row-refused, RunsCleans-cut, RunsCleans-due, RunsCleans-none, no_cut, not_none}
-use Rattle.bwsh.proofs.RunLemmas.{IsCut}
+use Rattle.bwsh.proofs.RowLemmas.{IsAfterRefusal, IsLate, MakesNoRoom, Row-refused, RunsCleans-device, RunsCleans-due, RunsCleans-memory, RunsCleans-none, no_cut, not_none}
 use Rattle.bwsh.proofs.StoreLemmas.{IsEndingOf}
 
 -- ---- tests
@@ -151,7 +150,7 @@ module _ {D : Type 0} (view : D → View) (x : State D) (most : ℕ) (live : Opt
   abbrev Row : ℕ → Option (List ℕ) → Option (List ℕ) → Result ℕ SessionError → Store → List ℕ → Type 0
   Row row old new end now bytes = RunsCleans most row by.tidying mode honest x.settings under seen old new end now bytes
 
-  of_row : ((at : Seen) → at.tidying ≡ by.tidying → at.ahead ≡ known.0 → has_reason most x.settings under at ≡ true) → (row : ℕ) → row ≡ row_of_cleans x.settings.segments
+  of_row : ((at : Seen) → at.tidying ≡ by.tidying → at.ahead ≡ known.0 → at.fails ≡ None → has_reason most x.settings under at ≡ true) → (row : ℕ) → row ≡ row_of_cleans x.settings.segments
       → (old new : Option (List ℕ)) (end : Result ℕ SessionError) (now : Store) (bytes : List ℕ) → Row row old new end now bytes → Row 0 old new end now bytes
   of_row reason row row_is old new end now bytes p =
       RunsCleans-due mode honest x.settings under seen by.tidying most known.0 known.1 reason old new end now bytes
@@ -164,12 +163,12 @@ module _ {D : Type 0} (view : D → View) (x : State D) (most : ℕ) (live : Opt
   pub row_due : may_help x.settings x.store live ≡ true → IsFullFor x.settings under by.tidying → (row : ℕ) → row ≡ row_of_cleans x.settings.segments
       → (old new : Option (List ℕ)) (end : Result ℕ SessionError) (now : Store) (bytes : List ℕ) → Row row old new end now bytes → Row 0 old new end now bytes
   row_due due full =
-      of_row (λ at these of_ahead. due_under x.settings by.tidying under x.store by.leaves most at these (full at these) (ap (may_help x.settings x.store) (known_at at of_ahead) ∙ due))
+      of_row (λ at these of_ahead unfailed. due_under x.settings by.tidying under x.store by.leaves most at these (full at these unfailed) (ap (may_help x.settings x.store) (known_at at of_ahead) ∙ due))
 
   -- the row is run at once
   pub row_early : is_early most x.settings x.store live ≡ true → (row : ℕ) → row ≡ row_of_cleans x.settings.segments
       → (old new : Option (List ℕ)) (end : Result ℕ SessionError) (now : Store) (bytes : List ℕ) → Row row old new end now bytes → Row 0 old new end now bytes
-  row_early early = of_row (λ at these of_ahead. early_reason x.settings by.tidying under x.store by.leaves most at these (ap (is_early most x.settings x.store) (known_at at of_ahead) ∙ early))
+  row_early early = of_row (λ at these of_ahead unfailed. early_reason x.settings by.tidying under x.store by.leaves most at these (ap (is_early most x.settings x.store) (known_at at of_ahead) ∙ early))
 
 -- ---- a reading that is refused
 
@@ -177,36 +176,45 @@ module _ {D : Type 0} (view : D → View) (x : State D) (most : ℕ) (live : Opt
 abbrev pub IsUnread : {D : Type 0} → (D → View) → State D → SessionError → Type 0
 IsUnread view x early = (early ≡ errors.Fault NoMemory) ⊎ (early ≡ Device) ⊎ (early ≡ errors.Fault NothingToClean) ⊎ IsKnown view x None
 
-module _ {D : Type 0} (view : D → View) (x : State D) (most : ℕ) (some : 0 < most) (mode : Mode) (under : Store) (by : TidiesTo mode x.settings under x.store) (text : Option (List ℕ)) (early : SessionError)
-    (after : Store) (bytes : List ℕ) (refused : RunsOrder mode (view x.disk).is_honest x.settings x.store (view x.disk).seen Clean text text (Err early) after bytes) (was_failed has_failed : Bool)
-    (stays : MakesNoRoom early → (after ≡ x.store) × (has_failed ≡ was_failed) × (IsTrue (view x.disk).is_honest → bytes ≡ (view x.disk).seen)) where
+-- it is no failed device
+pub memory_device : (early : SessionError) → early ≡ errors.Fault NoMemory → early ≢ Device
+memory_device early memory device = cc
+
+module _ {D : Type 0} (view : D → View) (x : State D) (most : ℕ) (some : 0 < most) (mode : Mode) (room : mode.clean_when_full ≡ true) (under : Store) (by : TidiesTo mode x.settings under x.store)
+    (text : Option (List ℕ)) (early : SessionError) (after : Store) (bytes : List ℕ) (refused : RunsOrder mode (view x.disk).is_honest x.settings x.store (view x.disk).seen Clean text text (Err early) after bytes)
+    (stays : early ≢ Device → (after ≡ x.store) × (IsTrue (view x.disk).is_honest → bytes ≡ (view x.disk).seen)) where
   abbrev Ended : Result ℕ SessionError → Type 0
   Ended r = RunsCleans most 0 by.tidying mode (view x.disk).is_honest x.settings under (view x.disk).seen text text r after bytes
 
-  cut_off : IsCut early → Ended (Err early)
-  cut_off cut = RunsCleans-cut mode (view x.disk).is_honest x.settings under (view x.disk).seen by.tidying most by.asked text early after bytes cut
+  -- for want of memory, or since a device failed
+  never_read : IsLate early → Ended (Err early)
+  never_read (inl memory) =
+      let (same, unwritten) = stays (memory_device early memory) in
+      subst (λ (e : SessionError). Ended (Err e)) (sym memory)
+      (RunsCleans-memory mode (view x.disk).is_honest x.settings under (view x.disk).seen by.tidying most room by.asked x.store by.leaves text after same bytes unwritten)
+  never_read (inr device) =
+      subst (λ (e : SessionError). Ended (Err e)) (sym device)
+      (RunsCleans-device mode (view x.disk).is_honest x.settings under (view x.disk).seen by.tidying most by.asked text after bytes)
 
   by_clean : (ahead : List ℕ) → (IsTrue (view x.disk).is_honest → ahead ≡ (view x.disk).seen)
-      → ((MakesNoRoom early → ⊥) → (at : Seen) → at.tidying ≡ by.tidying → at.ahead ≡ ahead → can_clean x.settings under at ≡ true → wants_clean (suc (most - 1)) 0 x.settings under at ≡ true)
+      → ((MakesNoRoom early → ⊥) → (at : Seen) → at.tidying ≡ by.tidying → at.ahead ≡ ahead → at.fails ≡ None → can_clean x.settings under at ≡ true
+      → wants_clean (suc (most - 1)) 0 x.settings under at ≡ true)
       → (result : Result ℕ SessionError) → IsAfterRefusal early result → Ended result
   by_clean ahead here ready result want =
       Row-refused most 0 by.tidying mode by.asked (view x.disk).is_honest x.settings under (view x.disk).seen text most 0 x.store (view x.disk).seen text
-      (under, by.leaves, λ rest last end p. p)
-      (not_none most some) ahead here (view x.disk).is_honest refl x.settings refl text (Err early) after bytes refused early refl result want was_failed has_failed stays ready
+      (under, by.leaves, λ rest last end held p. p)
+      (not_none most some) ahead here (view x.disk).is_honest refl x.settings refl text (Err early) after bytes refused room early refl result want stays ready
 
   -- nothing can be cleaned: the flush is tried next
-  pub none_to_clean : early ≡ errors.Fault NothingToClean → Ended (Ok 0)
+  none_to_clean : early ≡ errors.Fault NothingToClean → Ended (Ok 0)
   none_to_clean nothing = by_clean (view x.disk).seen (λ h. refl) (λ never. absurd (never (inr nothing))) (Ok 0) (inl (inr nothing, refl))
 
-  pub never_read : (early ≡ errors.Fault NoMemory) ⊎ (early ≡ Device) → Ended (Err early)
-  never_read cut = cut_off cut
-
-  ended_early : IsCut early → (result : Result ℕ SessionError) → IsAfterRefusal early result → Ended result
-  ended_early cut result (inl (none, is)) = absurd (no_cut early cut none)
-  ended_early cut result (inr (full, nothing, is)) = subst Ended (sym is) (cut_off cut)
+  ended_early : IsLate early → (result : Result ℕ SessionError) → IsAfterRefusal early result → Ended result
+  ended_early late result (inl (none, is)) = absurd (no_cut early late none)
+  ended_early late result (inr (full, nothing, is)) = subst Ended (sym is) (never_read late)
 
   -- where the log is full for the flush
-  pub unread_ahead : IsFullFor x.settings under by.tidying → IsUnread view x early → (result : Result ℕ SessionError) → IsAfterRefusal early result → Ended result
+  unread_ahead : IsFullFor x.settings under by.tidying → IsUnread view x early → (result : Result ℕ SessionError) → IsAfterRefusal early result → Ended result
   unread_ahead full (inl memory) result want = ended_early (inl memory) result want
   unread_ahead full (inr (inl device)) result want = ended_early (inr device) result want
   unread_ahead full (inr (inr (inl nothing))) result want = by_clean (view x.disk).seen (λ h. refl) (λ never. absurd (never (inr nothing))) result want
@@ -216,28 +224,35 @@ module _ {D : Type 0} (view : D → View) (x : State D) (most : ℕ) (some : 0 <
       both true b one two = two
       both false b one two = absurd (cc)
 
-      ready : (MakesNoRoom early → ⊥) → (at : Seen) → at.tidying ≡ by.tidying → at.ahead ≡ ahead → can_clean x.settings under at ≡ true → wants_clean (suc (most - 1)) 0 x.settings under at ≡ true
-      ready never at these of_ahead can =
+      ready : (MakesNoRoom early → ⊥) → (at : Seen) → at.tidying ≡ by.tidying → at.ahead ≡ ahead → at.fails ≡ None → can_clean x.settings under at ≡ true
+          → wants_clean (suc (most - 1)) 0 x.settings under at ≡ true
+      ready never at these of_ahead unfailed can =
           both (can_clean x.settings under at) (has_reason (suc (most - 1)) x.settings under at) can
-          (due_under x.settings by.tidying under x.store by.leaves (suc (most - 1)) at these (full at these)
+          (due_under x.settings by.tidying under x.store by.leaves (suc (most - 1)) at these (full at these unfailed)
           (ap (may_help x.settings x.store) (ap (live_known x.settings x.store) of_ahead ∙ known)))
 
 -- how many cleans may follow a row for which the log cannot be read, or how the session ends
 abbrev pub IsNoRow : SessionError → Result (Option ℕ) SessionError → Type 0
 IsNoRow early result = (MakesNoRoom early × (result ≡ Ok (Some 0))) ⊎ ((early ≢ errors.Fault Full) × (early ≢ errors.Fault NothingToClean) × (result ≡ Err early))
 
-module _ {D : Type 0} (view : D → View) (x : State D) (most : ℕ) (some : 0 < most) (mode : Mode) (under : Store) (by : TidiesTo mode x.settings under x.store) (text : Option (List ℕ)) (early : SessionError)
-    (after : Store) (bytes : List ℕ) (refused : RunsOrder mode (view x.disk).is_honest x.settings x.store (view x.disk).seen Clean text text (Err early) after bytes) (was_failed has_failed : Bool)
-    (stays : MakesNoRoom early → (after ≡ x.store) × (has_failed ≡ was_failed) × (IsTrue (view x.disk).is_honest → bytes ≡ (view x.disk).seen))
+module _ {D : Type 0} (view : D → View) (x : State D) (most : ℕ) (some : 0 < most) (mode : Mode) (room : mode.clean_when_full ≡ true) (under : Store) (by : TidiesTo mode x.settings under x.store)
+    (text : Option (List ℕ)) (early : SessionError) (after : Store) (bytes : List ℕ) (refused : RunsOrder mode (view x.disk).is_honest x.settings x.store (view x.disk).seen Clean text text (Err early) after bytes)
+    (stays : early ≢ Device → (after ≡ x.store) × (IsTrue (view x.disk).is_honest → bytes ≡ (view x.disk).seen))
     (full : IsFullFor x.settings under by.tidying) (unread : IsUnread view x early) where
   abbrev RowEnded : Result (Option ℕ) SessionError → Type 0
   RowEnded r = RunsAhead most by.tidying mode (view x.disk).is_honest x.settings under (view x.disk).seen text text r after bytes
 
   pub unread_row : (result : Result (Option ℕ) SessionError) → IsNoRow early result → RowEnded result
   unread_row result (inl (none, is)) =
-      subst RowEnded (sym is) (unread_ahead view x most some mode under by text early after bytes refused was_failed has_failed stays full unread (Ok 0) (inl (none, refl)))
+      subst RowEnded (sym is) (unread_ahead view x most some mode room under by text early after bytes refused stays full unread (Ok 0) (inl (none, refl)))
   unread_row result (inr (other, nothing, is)) =
-      subst RowEnded (sym is) (unread_ahead view x most some mode under by text early after bytes refused was_failed has_failed stays full unread (Err early) (inr (other, nothing, refl)))
+      subst RowEnded (sym is) (unread_ahead view x most some mode room under by text early after bytes refused stays full unread (Err early) (inr (other, nothing, refl)))
+
+-- no device failed in the reading where none did after it
+pub unless_no_row : (early : SessionError) (result : Result (Option ℕ) SessionError) → IsNoRow early result → result ≢ Err Device → early ≢ Device
+unless_no_row early result (inl (none, is)) other device = no_cut early (inr device) none
+unless_no_row early result (inr (full, nothing, is)) other device =
+    other (is ∙ ap (λ (x : SessionError). (let r : Result (Option ℕ) SessionError = Err x in r)) device)
 
 pub row_undue : (P : Type 0) (early : SessionError) (result : Result (Option ℕ) SessionError) → IsNoRow early result → IfOk result (λ ahead. ahead ≡ None → P)
 row_undue P early (Ok ahead) (inl (none, is)) = λ e. absurd (cc)
@@ -247,10 +262,6 @@ row_undue P early (Err other) want = tt
 pub row_fewer : (most : ℕ) → 0 < most → (early : SessionError) (result : Result (Option ℕ) SessionError) → IsNoRow early result → IfOk result (λ ahead. IfSome ahead (λ more. more < most))
 row_fewer most some early result (inl (none, is)) = subst (λ (r : Result (Option ℕ) SessionError). IfOk r (λ ahead. IfSome ahead (λ more. more < most))) (sym is) some
 row_fewer most some early result (inr (other, nothing, is)) = subst (λ (r : Result (Option ℕ) SessionError). IfOk r (λ ahead. IfSome ahead (λ more. more < most))) (sym is) tt
-
-pub row_kept : (P : Type 0) (early : SessionError) (result : Result (Option ℕ) SessionError) → IsNoRow early result → (MakesNoRoom early → P) → OnOk result P
-row_kept P early result (inl (none, is)) stays = subst (λ (r : Result (Option ℕ) SessionError). OnOk r P) (sym is) (stays none)
-row_kept P early result (inr (other, nothing, is)) stays = subst (λ (r : Result (Option ℕ) SessionError). OnOk r P) (sym is) tt
 
 -- a reading that is refused so
 pub unread_by : {D : Type 0} (view : D → View) (x : State D) (fault : Fault) (early : SessionError) → IsEndingOf fault early
@@ -279,28 +290,23 @@ IsIfUnread early most result =
     ⊎ ((early ≡ errors.Fault NothingToClean) × (result ≡ Ok 0))
     ⊎ ((early ≢ errors.Fault NoMemory) × (early ≢ Device) × (early ≢ errors.Fault NothingToClean) × (result ≡ Ok most))
 
--- it is no failed device
-pub no_device_as : {A : Type 0} (early : SessionError) → early ≢ Device → (let end : Result A SessionError = Err early in end ≢ Err Device)
-no_device_as early other e = let same : early ≡ Device = cc in other same
-
 module _ {D : Type 0} (view : D → View) (x y : State D) (most : ℕ) (some : 0 < most) (early : SessionError)
-    (kept : (early ≢ Device) → (y.has_failed ≡ x.has_failed) × (IsTrue (view x.disk).is_honest → (view y.disk).seen ≡ (view x.disk).seen)) (same : y.store ≡ x.store) (result : Result ℕ SessionError)
-    (want : IsIfUnread early most result) where
-  pub unread_runs : (mode : Mode) (under : Store) (by : TidiesTo mode x.settings under x.store) (text : Option (List ℕ))
+    (kept : early ≢ Device → IsUntouched view x y) (same : y.store ≡ x.store) (result : Result ℕ SessionError) (want : IsIfUnread early most result) where
+  pub unread_runs : (mode : Mode) → mode.clean_when_full ≡ true → (under : Store) (by : TidiesTo mode x.settings under x.store) (text : Option (List ℕ))
       → RunsOrder mode (view x.disk).is_honest x.settings x.store (view x.disk).seen Clean text text (Err early) y.store (view y.disk).seen
       → RunsCleans most 0 by.tidying mode (view x.disk).is_honest x.settings under (view x.disk).seen text text result y.store (view y.disk).seen
-  unread_runs mode under by text refused = go want
+  unread_runs mode room under by text refused = go want
     where
-      stays : MakesNoRoom early → (y.store ≡ x.store) × (y.has_failed ≡ x.has_failed) × (IsTrue (view x.disk).is_honest → (view y.disk).seen ≡ (view x.disk).seen)
-      stays none = let all = kept (λ device. no_cut early (inr device) none) in (same, all.0, all.1)
+      stays : early ≢ Device → (y.store ≡ x.store) × (IsTrue (view x.disk).is_honest → (view y.disk).seen ≡ (view x.disk).seen)
+      stays other = (same, (kept other).2)
 
       go : IsIfUnread early most result → RunsCleans most 0 by.tidying mode (view x.disk).is_honest x.settings under (view x.disk).seen text text result y.store (view y.disk).seen
-      go (inl (cut, is)) = subst (Ended view x most some mode under by text early y.store (view y.disk).seen refused x.has_failed y.has_failed stays) (sym is)
-          (never_read view x most some mode under by text early y.store (view y.disk).seen refused x.has_failed y.has_failed stays cut)
-      go (inr (inl (nothing, is))) = subst (Ended view x most some mode under by text early y.store (view y.disk).seen refused x.has_failed y.has_failed stays) (sym is)
-          (none_to_clean view x most some mode under by text early y.store (view y.disk).seen refused x.has_failed y.has_failed stays nothing)
-      go (inr (inr (memory, device, nothing, is))) = subst (Ended view x most some mode under by text early y.store (view y.disk).seen refused x.has_failed y.has_failed stays) (sym is)
-          (RunsCleans-none mode (view x.disk).is_honest x.settings under (view x.disk).seen by.tidying most x.store y.store by.leaves same (view y.disk).seen (kept device).1 text)
+      go (inl (late, is)) = subst (Ended view x most some mode room under by text early y.store (view y.disk).seen refused stays) (sym is)
+          (never_read view x most some mode room under by text early y.store (view y.disk).seen refused stays late)
+      go (inr (inl (nothing, is))) = subst (Ended view x most some mode room under by text early y.store (view y.disk).seen refused stays) (sym is)
+          (none_to_clean view x most some mode room under by text early y.store (view y.disk).seen refused stays nothing)
+      go (inr (inr (memory, device, nothing, is))) = subst (Ended view x most some mode room under by text early y.store (view y.disk).seen refused stays) (sym is)
+          (RunsCleans-none mode (view x.disk).is_honest x.settings under (view x.disk).seen by.tidying most x.store y.store by.leaves same (view y.disk).seen (kept device).2 text)
 
   pub unread_calm : y.settings ≡ x.settings → (view y.disk).is_honest ≡ (view x.disk).is_honest → most ≡ y.settings.segments → IsUnread view x early → IfOk result (IsCalm view y)
   unread_calm settings honest is unread = go want
@@ -316,7 +322,7 @@ module _ {D : Type 0} (view : D → View) (x y : State D) (most : ℕ) (some : 0
       go (inr (inl (nothing, none))) = subst (λ (r : Result ℕ SessionError). IfOk r (IsCalm view y)) (sym none) (calm_later view y 0 (subst (λ (n : ℕ). 0 < n) is some))
       go (inr (inr (memory, device, nothing, done))) =
           subst (λ (r : Result ℕ SessionError). IfOk r (IsCalm view y)) (sym done)
-          (calm_after view x y settings honest same (kept device).1 most (None, unsound memory device nothing unread, unknown_early most x.settings x.store))
+          (calm_after view x y settings honest same (kept device).2 most (None, unsound memory device nothing unread, unknown_early most x.settings x.store))
 
   pub unread_most : IfOk result (λ left. left ≤ most)
   unread_most = go want
@@ -326,13 +332,15 @@ module _ {D : Type 0} (view : D → View) (x y : State D) (most : ℕ) (some : 0
       go (inr (inl (nothing, is))) = subst (λ (r : Result ℕ SessionError). IfOk r (λ left. left ≤ most)) (sym is) (omega arith)
       go (inr (inr (memory, device, nothing, is))) = subst (λ (r : Result ℕ SessionError). IfOk r (λ left. left ≤ most)) (sym is) (omega arith)
 
-  pub unread_failed : OnOk result (y.has_failed ≡ x.has_failed)
-  unread_failed = go want
+  -- the store hasn't failed where no device did
+  pub unread_failed : result ≢ Err Device → y.has_failed ≡ x.has_failed
+  unread_failed unended = go want
     where
-      go : IsIfUnread early most result → OnOk result (y.has_failed ≡ x.has_failed)
-      go (inl (cut, is)) = subst (λ (r : Result ℕ SessionError). OnOk r (y.has_failed ≡ x.has_failed)) (sym is) tt
-      go (inr (inl (nothing, is))) = subst (λ (r : Result ℕ SessionError). OnOk r (y.has_failed ≡ x.has_failed)) (sym is) (kept (λ device. no_cut early (inr device) (inr nothing))).0
-      go (inr (inr (memory, device, nothing, is))) = subst (λ (r : Result ℕ SessionError). OnOk r (y.has_failed ≡ x.has_failed)) (sym is) (kept device).0
+      go : IsIfUnread early most result → y.has_failed ≡ x.has_failed
+      go (inl (inl memory, is)) = (kept (memory_device early memory)).1
+      go (inl (inr device, is)) = absurd (unended (is ∙ ap (λ (e : SessionError). (let r : Result ℕ SessionError = Err e in r)) device))
+      go (inr (inl (nothing, is))) = (kept (λ device. no_cut early (inr device) (inr nothing))).1
+      go (inr (inr (memory, device, nothing, is))) = (kept device).1
 
 -- ---- what was read serves a store that has the same
 
@@ -381,8 +389,13 @@ most_same most segments is (Err early) fewer = tt
 
 -- where no row is run
 pub undue_if : {D : Type 0} (view : D → View) (x y : State D) → y.settings ≡ x.settings → (view y.disk).is_honest ≡ (view x.disk).is_honest → y.store ≡ x.store
-    → (IsTrue (view x.disk).is_honest → (view y.disk).seen ≡ (view x.disk).seen) → (P : Type 0) (result : Result (Option ℕ) SessionError) → IfOk result (λ ahead. ahead ≡ None → IsUndue view y × P)
-    → IfOk result (λ ahead. ahead ≡ None → IsUndue view x × P)
-undue_if view x y settings honest store seen P (Ok ahead) p = λ none.
-    let (undue, rest) = p none in (undue_before view x y settings honest store seen undue, rest)
-undue_if view x y settings honest store seen P (Err early) p = tt
+    → (IsTrue (view x.disk).is_honest → (view y.disk).seen ≡ (view x.disk).seen) → (P Q R : Type 0) → (Q → R) → (result : Result (Option ℕ) SessionError)
+    → IfOk result (λ ahead. ahead ≡ None → IsUndue view y × P × Q) → IfOk result (λ ahead. ahead ≡ None → IsUndue view x × P × R)
+undue_if view x y settings honest store seen P Q R so (Ok ahead) p = λ none.
+    let (undue, rest, left) = p none in (undue_before view x y settings honest store seen undue, rest, so left)
+undue_if view x y settings honest store seen P Q R so (Err early) p = tt
+
+-- a call that leaves all, after one that does
+pub untouched_then : {D : Type 0} (view : D → View) (x y z : State D) → (view y.disk).is_honest ≡ (view x.disk).is_honest → IsUntouched view x y → IsUntouched view y z → IsUntouched view x z
+untouched_then view x y z honest first next =
+    (next.0 ∙ first.0, next.1 ∙ first.1, λ h. next.2 (subst IsTrue (sym honest) h) ∙ first.2 h)

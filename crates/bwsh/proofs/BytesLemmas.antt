@@ -1,11 +1,12 @@
 -- When the answers to orders don't depend on what the disk shows.
-use Rattle.std.proofs.Common.{◌≡◌, ℕ, suc, List, [], ◌∷◌, ◌++◌, Option, Some, None, Result, Ok, Err, refl, sym, ap, ◌∙◌, subst}
+use Rattle.std.proofs.Common.{◌≡◌, ◌⊎◌, ◌-◌, inl, inr, ℕ, zero, suc, List, [], ◌∷◌, ◌++◌, Option, Some, None, Result, Ok, Err, refl, sym, ap, ◌∙◌, subst}
 use Rattle.std.specs.Prelude.{⊤, Bool, true, false, is_some, if◌then◌else◌}
 use Rattle.std.specs.List.{All, AllByRecursion}
 use Rattle.std.specs.Option.{option_map, option_or}
 use Rattle.std.specs.declared.alloc.Global.{Global}
 use Rattle.std.proofs.lemmas.List.Elements.{recursion_from_All}
 use Rattle.keys.specs.declared.fault.Fault.{Fault}
+use Rattle.keys.specs.declared.fault.Fault.TheVariants.{NoMemory}
 use Rattle.keys.specs.declared.settings.Settings.{Settings}
 use Rattle.keys.specs.declared.version.Version.{Version}
 use Rattle.keys.specs.declared.version.Version.TheVariants.{One, Two}
@@ -14,13 +15,14 @@ use Rattle.flush_log.specs.AfterFlush.{after_text, of_version_two, unless_upgrad
 use Rattle.flush_log.specs.FlushText.{flush_text, upgrade_text, flushed}
 use Rattle.flush_log.specs.Layout.{is_full_for_flush}
 use Rattle.engine.specs.Steps.{Step, Answer, Stepped, unless_refused, after_step, batching}
-use Rattle.bwsh.specs.declared.batch_file.Order.{Order}
-use Rattle.bwsh.specs.declared.batch_file.Order.TheVariants.{Batch, Flush, Clean, Upgrade, Verify, Numbers}
+use Rattle.engine.specs.Tidied.{counted_pages}
+use Rattle.bwsh.specs.declared.order.Order.{Order}
+use Rattle.bwsh.specs.declared.order.Order.TheVariants.{Batch, Lost, Flush, Clean, Upgrade, Tidy}
 use Rattle.bwsh.specs.declared.session.SessionError.TheVariants as errors
 use Rattle.bwsh.specs.BatchFile.{IsNoClean}
-use Rattle.bwsh.specs.Session.{Stored, Seen, Reads, Tidying, later, AreLeft, AreTidiedAlike, tidied_before, tidied_tree, step_in, left_by, refused_by, left_by_step, refusal_of_step, after_order, refusal_of, map_after, own_lines, answer_lines, accepted, first_refusal, orders_end, stopped_by}
-use Rattle.bwsh.specs.Shown.{shown_flushed, shown_cleaned, shown_upgraded}
-use Rattle.bwsh.proofs.RunLemmas.{of_flush, of_upgrade, answering, committed_unless}
+use Rattle.bwsh.specs.Session.{Batches, Stored, Seen, Reads, Tidying, later, AreLeft, AreSeenAlike, AreUntidied, by_batches, left_unless, own_refusal, tidied, tidied_before, tidied_tree, step_in, left_by, refused_by, left_by_step, refusal_of_step, after_order, refusal_of, map_after, map_unless, own_lines, answer_lines, answer_then, answered, accepted, first_refusal, orders_end, stopped_by, untidied}
+use Rattle.bwsh.specs.Shown.{shown_flushed, shown_cleaned, shown_tidied, shown_upgraded}
+use Rattle.bwsh.proofs.RunLemmas.{of_flush, of_upgrade, answering, committed_unless, first_shown, tidied_before-as}
 
 -- ---- a step
 
@@ -53,13 +55,20 @@ upgrade-same One settings st f g text = text-same of_upgrade settings st f g tex
 upgrade-same Two settings st f g text = refl
 
 -- what is tidied before an order is the same store, whatever the bytes, and these stay
-tidied-same : (order : Order) (settings : Settings) (batches : Tidying) (st : Store) → (now : Store) × ((file : List ℕ) → tidied_before order settings batches (st, file) ≡ (now, file))
-tidied-same Flush settings batches st = (with_tree st (tidied_tree settings batches st.tree), λ file. refl)
-tidied-same (Batch cs) settings batches st = (st, λ file. refl)
-tidied-same Clean settings batches st = (st, λ file. refl)
-tidied-same Upgrade settings batches st = (st, λ file. refl)
-tidied-same Verify settings batches st = (st, λ file. refl)
-tidied-same Numbers settings batches st = (st, λ file. refl)
+tidied-same : (order : Order) (settings : Settings) (seen : Seen) (st : Store) → (now : Store) × ((file : List ℕ) → tidied_before order settings seen (st, file) ≡ (now, file))
+tidied-same Flush settings seen st = (with_tree st (tidied_tree settings seen.tidying st.tree), λ file. refl)
+tidied-same (Tidy most) settings seen st = (with_tree st (tidied_tree settings (by_batches seen.merged) st.tree), λ file. refl)
+tidied-same _ settings seen st = (st, λ file. refl)
+
+-- why an order is refused by its right: its step is, or it is a lost one
+own_or : (settings : Settings) (order : Order)
+    → ((at : Stored) → own_refusal settings at order ≡ Some NoMemory) ⊎ ((at : Stored) → own_refusal settings at order ≡ refusal_of_step settings at (step_in order))
+own_or settings Lost = inl (λ at. refl)
+own_or settings _ = inr (λ at. refl)
+
+unless-same : (r : Option Fault) (a b c d : Stored) → a.0 ≡ b.0 → c.0 ≡ d.0 → (left_unless r a c).0 ≡ (left_unless r b d).0
+unless-same None a b c d first second = second
+unless-same (Some fault) a b c d first second = first
 
 -- two outcomes of a step that differ in the bytes at most
 left-same : (st : Store) (f g : List ℕ) (r q : Stepped Global) → without_bytes r ≡ without_bytes q → ((left_by (st, f) r).0 ≡ (left_by (st, g) q).0) × (refused_by r ≡ refused_by q)
@@ -86,8 +95,7 @@ module _ (settings : Settings) (st : Store) (f g : List ℕ) where
       let same : (let z : Step Global = Step.Upgrade in z ≡ y) = cc in
       subst (λ (z : Step Global). without_bytes (stepped f z) ≡ without_bytes (stepped g z)) same (upgrade-same st.version settings (of_version_two st) f g (upgrade_text st.tree))
   order-same Clean only y is = absurd only
-  order-same Verify only y is = absurd (cc)
-  order-same Numbers only y is = absurd (cc)
+  order-same _ only y is = absurd (cc)
 
   step-same : (o : Option (Step Global)) → ((y : Step Global) → o ≡ Some y → without_bytes (stepped f y) ≡ without_bytes (stepped g y))
       → ((left_by_step settings (st, f) o).0 ≡ (left_by_step settings (st, g) o).0) × (refusal_of_step settings (st, f) o ≡ refusal_of_step settings (st, g) o)
@@ -101,30 +109,63 @@ module _ (settings : Settings) (st : Store) (f g : List ℕ) where
   stored-same : (order : Order) → IsNoClean order → (left_by_step settings (st, f) (step_in order)).0 ≡ (left_by_step settings (st, g) (step_in order)).0
   stored-same order only = (step-same (step_in order) (order-same order only)).0
 
+-- an order that is no clean is refused for the same reason by its right
+own_refusal-same : (settings : Settings) (st : Store) (f g : List ℕ) (order : Order) → IsNoClean order → own_refusal settings (st, f) order ≡ own_refusal settings (st, g) order
+own_refusal-same settings st f g order only = by (own_or settings order)
+  where
+    by : ((at : Stored) → own_refusal settings at order ≡ Some NoMemory) ⊎ ((at : Stored) → own_refusal settings at order ≡ refusal_of_step settings at (step_in order))
+        → own_refusal settings (st, f) order ≡ own_refusal settings (st, g) order
+    by (inl lost) = lost (st, f) ∙ sym (lost (st, g))
+    by (inr step) = step (st, f) ∙ refusal-same settings st f g order only ∙ sym (step (st, g))
+
 module _ (settings : Settings) (st : Store) (f g : Seen) where
-  -- an order that is no clean leaves the same store, where it is tidied by the same batches, and is refused for the same reason
-  pub after_order-same : f.tidying ≡ g.tidying → (order : Order) → IsNoClean order
+  -- an order that is no clean leaves the same store, where it is tidied in the same way before it and fails in the same way, and is refused for the same reason
+  same_by : (order : Order) → ((file : List ℕ) → tidied_before order settings f (st, file) ≡ tidied_before order settings g (st, file)) → f.fails ≡ g.fails → IsNoClean order
       → ((after_order settings st f order).0 ≡ (after_order settings st g order).0) × (refusal_of settings st f order ≡ refusal_of settings st g order)
   unfolding after_order refusal_of
-  after_order-same alike order only =
-      let (now, are) = tidied-same order settings g.tidying st in
-      let before : tidied_before order settings f.tidying (st, f.bytes) ≡ (now, f.bytes) = ap (λ (t : Tidying). tidied_before order settings t (st, f.bytes)) alike ∙ are f.bytes in (
-        ap (λ (at : Stored). (left_by_step settings at (step_in order)).0) before ∙ stored-same settings now f.bytes g.bytes order only
-            ∙ ap (λ (at : Stored). (left_by_step settings at (step_in order)).0) (sym (are g.bytes)),
-        ap (λ (at : Stored). refusal_of_step settings at (step_in order)) before ∙ refusal-same settings now f.bytes g.bytes order only
-            ∙ ap (λ (at : Stored). refusal_of_step settings at (step_in order)) (sym (are g.bytes)),
+  same_by order tidied_alike fails only =
+      let (now, are) = tidied-same order settings g st in
+      let before : tidied_before order settings f (st, f.bytes) ≡ (now, f.bytes) = tidied_alike f.bytes ∙ are f.bytes in
+      let mine : Stored = (now, f.bytes) in
+      let other : Stored = (now, g.bytes) in (
+        ap (λ (at : Stored). (left_unless f.fails at (left_by_step settings at (step_in order))).0) before
+            ∙ ap (λ (r : Option Fault). (left_unless r mine (left_by_step settings mine (step_in order))).0) fails
+            ∙ unless-same g.fails mine other (left_by_step settings mine (step_in order)) (left_by_step settings other (step_in order)) refl (stored-same settings now f.bytes g.bytes order only)
+            ∙ ap (λ (at : Stored). (left_unless g.fails at (left_by_step settings at (step_in order))).0) (sym (are g.bytes)),
+        ap (λ (at : Stored). option_or f.fails (own_refusal settings at order)) before
+            ∙ ap (λ (r : Option Fault). option_or r (own_refusal settings mine order)) fails
+            ∙ ap (λ (r : Option Fault). option_or g.fails r) (own_refusal-same settings now f.bytes g.bytes order only)
+            ∙ ap (λ (at : Stored). option_or g.fails (own_refusal settings at order)) (sym (are g.bytes)),
       )
+
+  pub after_order-same : f.tidying ≡ g.tidying → f.merged ≡ g.merged → f.fails ≡ g.fails → (order : Order) → IsNoClean order
+      → ((after_order settings st f order).0 ≡ (after_order settings st g order).0) × (refusal_of settings st f order ≡ refusal_of settings st g order)
+  after_order-same tidying merged fails order only = same_by order (λ file. tidied_before-as order settings f g (st, file) tidying merged) fails only
+
+  -- so it is of a flush
+  pub after_flush-same : f.tidying ≡ g.tidying → f.fails ≡ g.fails
+      → ((after_order settings st f Flush).0 ≡ (after_order settings st g Flush).0) × (refusal_of settings st f Flush ≡ refusal_of settings st g Flush)
+  after_flush-same tidying fails = same_by Flush (λ file. ap (λ (t : Tidying). tidied settings t (st, file)) tidying) fails tt
 
   -- where it leaves the same store, it answers the same
   pub own-same : (m : List (List ℕ × List ℕ)) (order : Order) → (after_order settings st f order).0 ≡ (after_order settings st g order).0 → own_lines settings st f m order ≡ own_lines settings st g m order
-  own-same m (Batch cs) same = refl
   own-same m Flush same = ap (λ (s : Store). shown_flushed s.sequence ∷ []) same
   own-same m Clean same = ap (λ (s : Store). shown_cleaned s.head ∷ []) same
   own-same m Upgrade same = ap (λ (s : Store). shown_upgraded s.sequence ∷ []) same
-  own-same m Verify same = refl
-  own-same m Numbers same = refl
+  own-same m (Tidy most) same = ap (λ (s : Store). shown_tidied (counted_pages st.tree - counted_pages s.tree) ∷ []) same
+  own-same m _ same = refl
 
 -- ---- orders
+
+-- what is seen is the same where all of its parts are
+seen_is : (a b : Seen) → a.bytes ≡ b.bytes → a.ahead ≡ b.ahead → a.tidying ≡ b.tidying → a.merged ≡ b.merged → a.fails ≡ b.fails → a.told ≡ b.told → a ≡ b
+seen_is a b bytes ahead tidying merged fails told =
+    ap (λ (x : List ℕ). (let s : Seen = record a { bytes = x } in s)) bytes
+    ∙ ap (λ (x : List ℕ). (let s : Seen = record a { bytes = b.bytes; ahead = x } in s)) ahead
+    ∙ ap (λ (x : Tidying). (let s : Seen = record a { bytes = b.bytes; ahead = b.ahead; tidying = x } in s)) tidying
+    ∙ ap (λ (x : Batches). (let s : Seen = record a { bytes = b.bytes; ahead = b.ahead; tidying = b.tidying; merged = x } in s)) merged
+    ∙ ap (λ (x : Option Fault). (let s : Seen = record b { fails = x; told = a.told } in s)) fails
+    ∙ ap (λ (x : List ℕ). (let s : Seen = record b { told = x } in s)) told
 
 module _ (settings : Settings) where
   -- each of the orders leaves the same store, and is refused for the same reason, whichever of the two the disk shows
@@ -161,28 +202,44 @@ module _ (settings : Settings) where
       ap (λ (r : Option Fault). option_or r (first_refusal settings now (later shown) rest)) refused
       ∙ ap (λ (r : Option Fault). option_or (refusal_of settings st (other 0) order) r) further
 
-  end-alike : (st : Store) (shown other : Reads) (orders : List Order) → AreAlike st shown other orders → orders_end settings st shown orders ≡ orders_end settings st other orders
-  end-alike st shown other orders alike = ap (λ (r : Option Fault). stopped_by (option_map (λ fault. errors.Fault fault) r)) (refusal-alike st shown other orders alike)
+  end-alike : (on : Bool) (st : Store) (shown other : Reads) (orders : List Order) → AreAlike st shown other orders → orders_end on settings st shown orders ≡ orders_end on settings st other orders
+  end-alike true st shown other orders alike = refl
+  end-alike false st shown other orders alike = ap (λ (r : Option Fault). stopped_by (option_map (λ fault. errors.Fault fault) r)) (refusal-alike st shown other orders alike)
+
+  -- what is told of refusals is the same
+  abbrev AreTold : Reads → Reads → Type 0
+  AreTold shown other = (i : ℕ) → (shown i).told ≡ (other i).told
+
+  answered-alike : (on : Bool) (st : Store) (shown other : Reads) → AreTold shown other → (m : List (List ℕ × List ℕ)) (orders : List Order) → AreAlike st shown other orders
+      → answered on settings st shown m orders ≡ answered on settings st other m orders
+  answered-alike on st shown other told m [] alike = refl
+  answered-alike on st shown other told m (order ∷ rest) (same, refused, alike) =
+      let now : Store = (after_order settings st (shown 0) order).0 in
+      let next : Store = (after_order settings st (other 0) order).0 in
+      let r : Option Fault = refusal_of settings st (shown 0) order in
+      let q : Option Fault = refusal_of settings st (other 0) order in
+      let own : List (List ℕ) = own_lines settings st (other 0) m order in
+      let further = answered-alike on now (later shown) (later other) (λ i. told (suc i)) (map_unless r m order) rest alike
+      ∙ ap (λ (s : Store). answered on settings s (later other) (map_unless r m order) rest) same in
+      ap (λ (l : List (List ℕ)). answer_then on r (shown 0).told l (answered on settings now (later shown) (map_unless r m order) rest)) (own-same settings st (shown 0) (other 0) m order same)
+      ∙ ap (λ (l : List (List ℕ)). answer_then on r (shown 0).told own l) further
+      ∙ ap (λ (o : Option Fault). answer_then on o (shown 0).told own (answered on settings next (later other) (map_unless o m order) rest)) refused
+      ∙ ap (λ (t : List ℕ). answer_then on q t own (answered on settings next (later other) (map_unless q m order) rest)) (told 0)
 
   -- so it is where none is a clean
-  alike-without_cleans : (st : Store) (shown other : Reads) → AreTidiedAlike shown other → (orders : List Order) → AllByRecursion IsNoClean orders → AreAlike st shown other orders
+  alike-without_cleans : (st : Store) (shown other : Reads) → AreSeenAlike shown other → (orders : List Order) → AllByRecursion IsNoClean orders → AreAlike st shown other orders
   alike-without_cleans st shown other alike [] only = tt
   alike-without_cleans st shown other alike (order ∷ rest) only =
-      let (same, refused) = after_order-same settings st (shown 0) (other 0) (alike 0) order only.0 in
+      let (tidying, merged, fails, told) = alike 0 in
+      let (same, refused) = after_order-same settings st (shown 0) (other 0) tidying merged fails order only.0 in
       (same, refused, alike-without_cleans (after_order settings st (shown 0) order).0 (later shown) (later other) (λ i. alike (suc i)) rest only.1)
 
-  -- and where the disk shows what was left
-  pub seen_is : (a b : Seen) → a.bytes ≡ b.bytes → a.ahead ≡ b.ahead → a.tidying ≡ b.tidying → a ≡ b
-  seen_is a b bytes ahead alike =
-      ap (λ (x : List ℕ). (let s : Seen = record { bytes = x; ahead = a.ahead; tidying = a.tidying } in s)) bytes
-      ∙ ap (λ (x : List ℕ). (let s : Seen = record { bytes = b.bytes; ahead = x; tidying = a.tidying } in s)) ahead
-      ∙ ap (λ (t : Tidying). (let s : Seen = record { bytes = b.bytes; ahead = b.ahead; tidying = t } in s)) alike
-
-  alike-left : (st : Store) (file : List ℕ) (shown other : Reads) → AreTidiedAlike shown other → (orders : List Order) → AreLeft settings st file shown orders
+  alike-left : (st : Store) (file : List ℕ) (shown other : Reads) → AreSeenAlike shown other → (orders : List Order) → AreLeft settings st file shown orders
       → AreLeft settings st file other orders → AreAlike st shown other orders
   alike-left st file shown other alike [] p q = tt
   alike-left st file shown other alike (order ∷ rest) (first, p) (first_too, q) =
-      let seen : shown 0 ≡ other 0 = seen_is (shown 0) (other 0) (first.0 ∙ sym first_too.0) (first.1 ∙ sym first_too.1) (alike 0) in
+      let (tidying, merged, fails, told) = alike 0 in
+      let seen : shown 0 ≡ other 0 = seen_is (shown 0) (other 0) (first.0 ∙ sym first_too.0) (first.1 ∙ sym first_too.1) tidying merged fails told in
       let same = ap (λ (f : Seen). after_order settings st f order) seen in
       let at : Stored = after_order settings st (shown 0) order in
       let here = subst (λ (a : Stored). AreLeft settings a.0 a.1 (later other) rest) (sym same) q in (
@@ -191,27 +248,65 @@ module _ (settings : Settings) where
         alike-left at.0 at.1 (later shown) (later other) (λ i. alike (suc i)) rest p here,
       )
 
-pub lines-same : (settings : Settings) (st : Store) (shown other : Reads) → AreTidiedAlike shown other → (m : List (List ℕ × List ℕ)) (orders : List Order) → All IsNoClean orders
-    → answer_lines settings st shown m orders ≡ answer_lines settings st other m orders
-lines-same settings st shown other alike m orders only =
-    lines-alike settings st shown other m orders (alike-without_cleans settings st shown other alike orders (recursion_from_All IsNoClean orders only))
+module _ (settings : Settings) (st : Store) (shown other : Reads) (alike : AreSeenAlike shown other) where
+  told_alike : (i : ℕ) → (shown i).told ≡ (other i).told
+  told_alike i = let (tidying, merged, fails, told) = alike i in told
 
-pub accepted-same : (settings : Settings) (st : Store) (shown other : Reads) → AreTidiedAlike shown other → (orders : List Order) → All IsNoClean orders → accepted settings st shown orders ≡ accepted settings st other orders
-accepted-same settings st shown other alike orders only =
-    accepted-alike settings st shown other orders (alike-without_cleans settings st shown other alike orders (recursion_from_All IsNoClean orders only))
+  -- no order is a clean
+  module _ (orders : List Order) (only : All IsNoClean orders) where
+    same_orders : AreAlike settings st shown other orders
+    same_orders = alike-without_cleans settings st shown other alike orders (recursion_from_All IsNoClean orders only)
 
-pub end-same : (settings : Settings) (st : Store) (shown other : Reads) → AreTidiedAlike shown other → (orders : List Order) → All IsNoClean orders → orders_end settings st shown orders ≡ orders_end settings st other orders
-end-same settings st shown other alike orders only =
-    end-alike settings st shown other orders (alike-without_cleans settings st shown other alike orders (recursion_from_All IsNoClean orders only))
+    pub lines-same : (m : List (List ℕ × List ℕ)) → answer_lines settings st shown m orders ≡ answer_lines settings st other m orders
+    lines-same m = lines-alike settings st shown other m orders same_orders
 
-pub lines-left : (settings : Settings) (st : Store) (file : List ℕ) (shown other : Reads) → AreTidiedAlike shown other → (m : List (List ℕ × List ℕ)) (orders : List Order)
-    → AreLeft settings st file shown orders → AreLeft settings st file other orders → answer_lines settings st shown m orders ≡ answer_lines settings st other m orders
-lines-left settings st file shown other alike m orders p q = lines-alike settings st shown other m orders (alike-left settings st file shown other alike orders p q)
+    pub answered-same : (on : Bool) (m : List (List ℕ × List ℕ)) → answered on settings st shown m orders ≡ answered on settings st other m orders
+    answered-same on m = answered-alike settings on st shown other told_alike m orders same_orders
 
-pub accepted-left : (settings : Settings) (st : Store) (file : List ℕ) (shown other : Reads) → AreTidiedAlike shown other → (orders : List Order)
-    → AreLeft settings st file shown orders → AreLeft settings st file other orders → accepted settings st shown orders ≡ accepted settings st other orders
-accepted-left settings st file shown other alike orders p q = accepted-alike settings st shown other orders (alike-left settings st file shown other alike orders p q)
+    pub accepted-same : accepted settings st shown orders ≡ accepted settings st other orders
+    accepted-same = accepted-alike settings st shown other orders same_orders
 
-pub end-left : (settings : Settings) (st : Store) (file : List ℕ) (shown other : Reads) → AreTidiedAlike shown other → (orders : List Order)
-    → AreLeft settings st file shown orders → AreLeft settings st file other orders → orders_end settings st shown orders ≡ orders_end settings st other orders
-end-left settings st file shown other alike orders p q = end-alike settings st shown other orders (alike-left settings st file shown other alike orders p q)
+    pub end-same : (on : Bool) → orders_end on settings st shown orders ≡ orders_end on settings st other orders
+    end-same on = end-alike settings on st shown other orders same_orders
+
+  -- the disk shows what was left
+  module _ (file : List ℕ) (orders : List Order) (left : AreLeft settings st file shown orders) (left_too : AreLeft settings st file other orders) where
+    left_orders : AreAlike settings st shown other orders
+    left_orders = alike-left settings st file shown other alike orders left left_too
+
+    pub lines-left : (m : List (List ℕ × List ℕ)) → answer_lines settings st shown m orders ≡ answer_lines settings st other m orders
+    lines-left m = lines-alike settings st shown other m orders left_orders
+
+    pub answered-left : (on : Bool) (m : List (List ℕ × List ℕ)) → answered on settings st shown m orders ≡ answered on settings st other m orders
+    answered-left on m = answered-alike settings on st shown other told_alike m orders left_orders
+
+    pub accepted-left : accepted settings st shown orders ≡ accepted settings st other orders
+    accepted-left = accepted-alike settings st shown other orders left_orders
+
+    pub end-left : (on : Bool) → orders_end on settings st shown orders ≡ orders_end on settings st other orders
+    end-left on = end-alike settings on st shown other orders left_orders
+
+-- ---- reads of a disk that shows what was left
+
+abbrev shown_left : Settings → Store → List ℕ → List Order → Reads
+shown_left settings st file [] = λ i. untidied file
+shown_left settings st file (order ∷ rest) =
+    let left : Stored = after_order settings st (untidied file) order in first_shown (untidied file) (shown_left settings left.0 left.1 rest)
+
+untidied_first : (file : List ℕ) (shown : Reads) → AreUntidied shown → AreUntidied (first_shown (untidied file) shown)
+untidied_first file shown none zero = refl
+untidied_first file shown none (suc i) = none i
+
+AreUntidied-left : (settings : Settings) (st : Store) (file : List ℕ) (orders : List Order) → AreUntidied (shown_left settings st file orders)
+AreUntidied-left settings st file [] = λ i. refl
+AreUntidied-left settings st file (order ∷ rest) =
+    let left : Stored = after_order settings st (untidied file) order in
+    untidied_first file (shown_left settings left.0 left.1 rest) (AreUntidied-left settings left.0 left.1 rest)
+
+AreLeft-left : (settings : Settings) (st : Store) (file : List ℕ) (orders : List Order) → AreLeft settings st file (shown_left settings st file orders) orders
+AreLeft-left settings st file [] = tt
+AreLeft-left settings st file (order ∷ rest) =
+    let left : Stored = after_order settings st (untidied file) order in ((refl, refl), AreLeft-left settings left.0 left.1 rest)
+
+pub some_left : (settings : Settings) (st : Store) (file : List ℕ) (orders : List Order) → (shown : Reads) × AreUntidied shown × AreLeft settings st file shown orders
+some_left settings st file orders = (shown_left settings st file orders, AreUntidied-left settings st file orders, AreLeft-left settings st file orders)

@@ -1,146 +1,83 @@
 -- Lemmas on how a session ends.
-use Rattle.std.proofs.Common.{Bool, true, false, ◌≡◌, ◌≢◌, ◌↔◌, ◌⊎◌, inl, inr, ℕ, List, [], ◌∷◌, Option, Some, None, IfSome, Result, Ok, Err, refl, sym, ap, ◌∙◌, subst, arith}
-use Rattle.std.specs.Prelude.{IsTrue, IsOk, OnOk, replicate, String}
-use Rattle.std.specs.declared.alloc.Global.{Global}
+use Rattle.std.proofs.Common.{Bool, true, false, ◌≡◌, ◌≢◌, ◌↔◌, ◌⊎◌, inl, inr, ℕ, List, [], ◌∷◌, Option, Some, None, IfSome, Ok, Err, refl, sym, ap, ◌∙◌, subst, arith}
+use Rattle.std.specs.Prelude.{IsTrue, IsOk, replicate, unwrap_or, if◌then◌else◌, ◌==◌}
 use Rattle.std.specs.Bool.{MatchBool}
-use Rattle.std.specs.Option.{option_map, option_or}
-use Rattle.std.specs.String.{string_bytes}
-use Rattle.std.specs.Io.KnownBytes.{Appends, Keeps}
-use Rattle.std.proofs.KnownBytes.{Appends-nil}
+use Rattle.std.specs.Option.{option_map}
+use Rattle.std.specs.Io.KnownBytes.{Appends, Keeps, prepend_known}
+use Rattle.std.proofs.KnownBytes.{Appends-nil, Appends-trans}
+use Rattle.clap.specs.declared.error.Error.{Error}
+use Rattle.clap.specs.declared.error.kind.ErrorKind.{ErrorKind}
+use Rattle.clap.specs.declared.error.kind.ErrorKind.TheVariants.{DisplayHelp, OutOfMemory}
 use Rattle.crew.specs.Crew.{is_crew}
 use Rattle.crew.specs.declared.limits.Crew.{Crew}
+use Rattle.keys.specs.Bytes.{Bytes, Pairs}
 use Rattle.keys.specs.Lists.{flat}
+use Rattle.keys.specs.Limits.{first_bad_field}
 use Rattle.keys.specs.declared.fault.Fault.{Fault}
 use Rattle.keys.specs.declared.fault.Fault.TheVariants.{BadCrew, BadSettings, NoMemory}
-use Rattle.keys.specs.Limits.{first_bad_field}
 use Rattle.keys.specs.declared.settings.Field.{Field}
 use Rattle.keys.specs.declared.settings.Settings.{Settings}
 use Rattle.mapping.specs.Levels.{contents}
 use Rattle.mapping.specs.Tree.{Store}
-use Rattle.flush_log.specs.Disk.{View}
 use Rattle.flush_log.specs.Segments.{disk_size}
-use Rattle.engine.specs.State.{State}
 use Rattle.bwsh.specs.declared.line.Line.{Line}
 use Rattle.bwsh.specs.declared.line.Why.{Why}
-use Rattle.bwsh.specs.declared.batch_file.Order.{Order}
+use Rattle.bwsh.specs.declared.options.asked.Mode.{Mode}
+use Rattle.bwsh.specs.declared.order.Order.{Order}
 use Rattle.bwsh.specs.declared.session.SessionError.{SessionError}
 use Rattle.bwsh.specs.declared.session.SessionError.TheVariants.{Words, Bad, Device}
 use Rattle.bwsh.specs.declared.session.SessionError.TheVariants as errors
-use Rattle.bwsh.specs.BatchFile.{parse_text, first_bad, orders_of, with_numbers}
-use Rattle.bwsh.specs.Session.{status_of_end, Reads, later, Start, IsStart, IsStartBy, IsShown, IsUncopied, IsEndAfter, map_left, map_left_from, start_for_copy, start_unless_bad, AreLeft, AreLeftFrom, AreUntidied, no_tidying, untidied, new_start, found_start, refusal_of, after_order, map_after, own_lines, answer_lines, printed, printed_by, accepted, orders_end, first_refusal, stopped_by, end_after, lines_after, run_by, run_from, run_of, bad_line_error, end_streamed, session_orders, session_end, session_lines, version_text, IsReadError, IsUnopened, IsHonestStore, Opens, IsForWords, BeginsWith, Prints, PrintsOneText, Runs, RunsOn, RunsFrom, stream_end, stream_lines, stream_orders, Answers, IsAnswered, Streams, EndsBy}
-use Rattle.bwsh.specs.declared.options.asked.Mode.{Mode}
-use Rattle.bwsh.specs.Options.{Request, AsksFor, AsksForText, AsksToExplain, AsksToStream, AreRefused, copy_of, is_refusal, IsRightKind, request_of}
-use Rattle.bwsh.specs.declared.options.asked.Options.{Options}
-use Rattle.clap.specs.declared.error.kind.ErrorKind.{ErrorKind}
-use Rattle.clap.specs.declared.error.kind.ErrorKind.TheVariants.{DisplayHelp, OutOfMemory}
-use Rattle.bwsh.proofs.Prints.{front-more, front-trans, front-flat, IsLeft, Prints-flushed, PrintsCopied-asked, PrintsCopied-before, PrintsCopied-front, PrintsCopied-left, PrintsCopied-other, PrintsCopied-plain, IfSome-known}
-use Rattle.bwsh.proofs.FirstLemmas.{leave}
+use Rattle.bwsh.specs.BatchFile.{AreRead, IsReadError, first_bad, orders_in, parse_text}
+use Rattle.bwsh.specs.Options.{Given, Request, AsksFor, AsksForText, AsksToStream, AreRefused, IsRightKind, copy_of, is_refusal, request_by}
+use Rattle.bwsh.specs.Options.Asked.{options}
+use Rattle.bwsh.specs.Session.{Answers, AreLeft, AreReadOf, EndsBy, IsEndAfter, IsForWords, IsShown, IsStart, IsStartBy, IsUncopied, IsUnopened, Prints, PrintsOneText, Reads, Runs, RunsAll, RunsFrom, RunsOn, RunsRead, RunsRequest, Start, answered, end_from, found_start, lines_from, map_kept, map_kept_from, new_start, orders_end, run_of, session_orders, start_for_copy, start_unless_bad, status_of_end, stopped_by, first_refusal, untidied, version_text}
+use Rattle.bwsh.proofs.CopiedLemmas.{End, IsFront, IsLeft, OnOk-flushed, Prints-done, Prints-none, Prints-right, PrintsCopied-before, PrintsCopied-begun, PrintsCopied-front, PrintsCopied-left, PrintsCopied-other, PrintsCopied-plain}
+use Rattle.bwsh.proofs.FirstLemmas.{RunsOn-cut}
+use Rattle.bwsh.proofs.LoopLemmas.{some_read}
+use Rattle.bwsh.proofs.Prints.{Prints-flushed}
 use Rattle.bwsh.proofs.RunLemmas.{TidiesBy-none}
-use Rattle.clap.specs.declared.error.Error.{Error}
-
--- ---- a session that ends before any order is run
-
--- a failed read is no bad line
-pub IsReadError-of_fault : (bad : Option (ℕ × Why)) (early : SessionError) → (early ≡ errors.Fault NoMemory) ⊎ (early ≡ Device) → IsReadError bad early
-IsReadError-of_fault bad early (inl e) = rw e refl
-IsReadError-of_fault bad early (inr e) = rw e tt
-
--- some reads show what was left from this start, and nothing is tidied
-pub leave_from : (cleans : Bool) (start : Start) (orders : List Order) → (shown : Reads) × AreUntidied shown × AreLeftFrom start shown (run_from cleans start shown orders)
-leave_from cleans (Ok p) orders = leave cleans p.0 orders no_tidying p.1.0 p.1.1
-leave_from cleans (Err fault) orders = (λ i. untidied [], λ i. refl, tt)
-
--- nothing is printed, for want of memory or since a device failed
-pub Prints-cut : (old : Option (List ℕ)) (lines : List (List ℕ)) (right : Result (Unit {0}) SessionError) (early : SessionError) → (early ≡ errors.Fault NoMemory) ⊎ (early ≡ Device)
-    → Prints old old lines right (Err early)
-Prints-cut old lines right early (inl e) = inr (inl (ap (λ (x : SessionError). Err x) e, ([], (lines, refl), Appends-nil old)))
-Prints-cut old lines right early (inr e) = inr (inr (ap (λ (x : SessionError). Err x) e, ([], (flat lines, refl), Appends-nil old)))
-
-module _ (old : Option (List ℕ)) (start : Start) (shown : Reads) (orders : List Order) where
-  Prints-unread : (bad : Option (ℕ × Why)) (early : SessionError) → IsReadError bad early
-      → Prints old old (lines_after bad start shown orders) (end_after bad start shown orders) (Err early)
-  Prints-unread bad (Words error) h = absurd h
-  Prints-unread bad (Bad line why) h = rw h (inl (refl, Appends-nil old))
-  Prints-unread bad (errors.Fault fault) h =
-      inr (inl (ap (λ (f : Fault). Err (errors.Fault f)) h, ([], (lines_after bad start shown orders, refl), Appends-nil old)))
-  Prints-unread bad Device h = inr (inr (refl, ([], (flat (lines_after bad start shown orders), refl), Appends-nil old)))
-
-  Prints-unopened : (early : SessionError) → IsUnopened start early → Prints old old (lines_after None start shown orders) (end_after None start shown orders) (Err early)
-  Prints-unopened early (inl (fault, is, e)) = rw (is, e) (inl (refl, Appends-nil old))
-  Prints-unopened early (inr (inl e)) =
-      inr (inl (ap (λ (x : SessionError). Err x) e, ([], (lines_after None start shown orders, refl), Appends-nil old)))
-  Prints-unopened early (inr (inr e)) =
-      inr (inr (ap (λ (x : SessionError). Err x) e, ([], (flat (lines_after None start shown orders), refl), Appends-nil old)))
-
--- what holds where all is done does where what was written is handed on
-pub OnOk-flushed : (done flushed : Result (Unit {0}) SessionError) (P : Type 0) → (flushed ≡ done) ⊎ (flushed ≡ Err Device) → OnOk done P → OnOk flushed P
-OnOk-flushed done flushed P (inl e) p = subst (λ (r : Result (Unit {0}) SessionError). OnOk r P) (sym e) p
-OnOk-flushed done flushed P (inr e) p = subst (λ (r : Result (Unit {0}) SessionError). OnOk r P) (sym e) tt
-
-module _ (old : Option (List ℕ)) (mode : Mode) (start : Start) (orders : List Order) {D : Type 0} (view : D → View) (opened : Result (State D) SessionError) (opens : Opens view start opened) where
-  -- there is no store
-  pub RunsFrom-unopened : (early : SessionError) → opened ≡ Err early → (copy : Option Settings) → RunsFrom mode copy (IsHonestStore view opened) start orders old old (Err early)
-  unfolding RunsFrom
-  RunsFrom-unopened early e copy =
-      let (shown, none, are) = leave_from mode.clean_when_full start orders in
-      let ran : List Order = run_from mode.clean_when_full start shown orders in (
-        shown,
-        (TidiesBy-none mode shown ran none, λ h. are),
-        PrintsCopied-before copy (map_left_from start orders) old old (lines_after None start shown ran) (end_after None start shown ran) (Err early)
-            (Prints-unopened old start shown ran early (subst (Opens view start) e opens)),
-      )
-
-  -- there is one: the orders are run on it, and then there is the copy of what they leave, or there is none
-  pub RunsFrom-opened : (x : State D) (mid new : Option (List ℕ)) (done : Result (Unit {0}) SessionError) (after : Store) (flushed : Result (Unit {0}) SessionError) → opened ≡ Ok x
-      → RunsOn mode (view x.disk).is_honest x.settings x.store (view x.disk).seen orders old mid done → OnOk done (contents after.tree ≡ map_left (contents x.store.tree) orders)
-      → Keeps mid new → (flushed ≡ done) ⊎ (flushed ≡ Err Device)
-      → (copy : Option Settings) (end : Result (Unit {0}) SessionError) → IsLeft copy (contents after.tree) flushed end → RunsFrom mode copy (IsHonestStore view opened) start orders old new end
-  unfolding RunsFrom Runs
-  RunsFrom-opened x mid new done after flushed e (shown, are, runs) holds kept ended copy end left =
-      let (file, start_is, seen_is) = subst (Opens view start) e opens in
-      let is_left : IsHonestStore view opened → AreLeft x.settings x.store file shown (run_of mode.clean_when_full x.settings x.store shown orders) = λ honest.
-      let h : IsTrue (view x.disk).is_honest = subst (IsHonestStore view) e honest in
-      subst (λ (f : List ℕ). AreLeft x.settings x.store f shown (run_of mode.clean_when_full x.settings x.store shown orders)) (seen_is h) (are.1 h) in
-      rw start_is (
-        shown,
-        (are.0, is_left),
-        PrintsCopied-left copy (map_left (contents x.store.tree) orders) (contents after.tree) old new
-            (lines_after None (Ok (x.settings, (x.store, file))) shown (run_of mode.clean_when_full x.settings x.store shown orders))
-            (end_after None (Ok (x.settings, (x.store, file))) shown (run_of mode.clean_when_full x.settings x.store shown orders)) flushed end
-            (Prints-flushed old mid new (lines_after None (Ok (x.settings, (x.store, file))) shown (run_of mode.clean_when_full x.settings x.store shown orders))
-            (end_after None (Ok (x.settings, (x.store, file))) shown (run_of mode.clean_when_full x.settings x.store shown orders)) done flushed runs kept ended)
-            (OnOk-flushed done flushed _ ended holds) left,
-      )
 
 -- ---- right starts
 
 -- what there is to be copied under good settings starts as without that
-pub start_copied : (copy : Option Settings) (start : Start) → IfSome copy (λ s. first_bad_field s ≡ None) → start_for_copy copy start ≡ start
+start_copied : (copy : Option Settings) (start : Start) → IfSome copy (λ s. first_bad_field s ≡ None) → start_for_copy copy start ≡ start
 start_copied None start good = refl
 start_copied (Some settings) start good = ap (λ (f : Option Field). start_unless_bad f start) good
 
+start_with_copy : (settings : Settings) (disk : Option Bytes) (create : Bool) (copy : Option Settings) → IfSome copy (λ s. first_bad_field s ≡ None) → (start : Start)
+    → IsStartBy settings disk create None start → IsStartBy settings disk create copy start
+start_with_copy settings None create copy good start is = is
+start_with_copy settings (Some path) true copy good start is = is
+start_with_copy settings (Some path) false copy good start (file, is) = (file, is ∙ sym (start_copied copy (found_start file) good))
+
+start_plain : (settings : Settings) (disk : Option Bytes) (create : Bool) (copy : Option Settings) → IfSome copy (λ s. first_bad_field s ≡ None) → (start : Start)
+    → IsStartBy settings disk create copy start → IsStartBy settings disk create None start
+start_plain settings None create copy good start is = is
+start_plain settings (Some path) true copy good start is = is
+start_plain settings (Some path) false copy good start (file, is) = (file, is ∙ start_copied copy (found_start file) good)
+
 -- the settings of a copy are those of the command line
-pub copy_good : (request : Request) → first_bad_field request.settings ≡ None → IfSome (copy_of request) (λ s. first_bad_field s ≡ None)
+copy_good : (request : Request) → first_bad_field request.settings ≡ None → IfSome (copy_of request) (λ s. first_bad_field s ≡ None)
 copy_good request good = by request.copy_to
   where
-    by : (path : Option (List ℕ)) → IfSome (option_map (λ (p : List ℕ). request.settings) path) (λ s. first_bad_field s ≡ None)
+    by : (path : Option Bytes) → IfSome (option_map (λ (p : Bytes). request.settings) path) (λ s. first_bad_field s ≡ None)
     by None = tt
     by (Some path) = good
 
 -- with settings that are refused there is no store where it is to be copied
-start_uncopied : (settings : Settings) (disk : Option (List ℕ)) (create : Bool) (field : Field) → first_bad_field settings ≡ Some field
+start_uncopied : (settings : Settings) (disk : Option Bytes) (create : Bool) (field : Field) → first_bad_field settings ≡ Some field
     → IsStartBy settings disk create (Some settings) (Err (BadSettings field))
 start_uncopied settings None create field bad = rw bad refl
 start_uncopied settings (Some path) true field bad = ([], rw bad refl)
 start_uncopied settings (Some path) false field bad = ([], rw bad refl)
 
 -- what the words give has some right start
-start_by_rest : (settings : Settings) (disk : Option (List ℕ)) (create : Bool) (copy : Option Settings) → (start : Start) × IsStartBy settings disk create copy start
+start_by_rest : (settings : Settings) (disk : Option Bytes) (create : Bool) (copy : Option Settings) → (start : Start) × IsStartBy settings disk create copy start
 start_by_rest settings None create copy = (new_start settings (replicate (disk_size settings) 0), refl)
 start_by_rest settings (Some path) true copy = (new_start settings [], ([], refl))
 start_by_rest settings (Some path) false copy = (start_for_copy copy (found_start []), ([], refl))
 
-pub start_of : (in_range : Bool) (settings : Settings) (disk : Option (List ℕ)) (create : Bool) (copy : Option Settings)
+start_of : (in_range : Bool) (settings : Settings) (disk : Option Bytes) (create : Bool) (copy : Option Settings)
     → (start : Start) × MatchBool in_range (IsStartBy settings disk create copy start) (start ≡ Err BadCrew)
 start_of true settings disk create copy = start_by_rest settings disk create copy
 start_of false settings disk create copy = (Err BadCrew, refl)
@@ -153,139 +90,256 @@ at_false : (b : Bool) (P Q : Type 0) → b ≡ false → Q → MatchBool b P Q
 at_false true P Q is q = cc
 at_false false P Q is q = q
 
+-- this is a right start by what else the words give than the crew
+IsStart-rest : (request : Request) → IsTrue (is_crew request.crew) → (start : Start) → IsStartBy request.settings request.disk request.create (copy_of request) start → IsStart request start
+IsStart-rest request in_range start is =
+    at_true (is_crew request.crew) (IsStartBy request.settings request.disk request.create (copy_of request) start) (start ≡ Err BadCrew) in_range is
+
 -- none where the crew is out of range
-pub start_without_crew : (request : Request) → is_crew request.crew ≡ false → IsStart request (Err BadCrew)
+start_without_crew : (request : Request) → is_crew request.crew ≡ false → IsStart request (Err BadCrew)
 start_without_crew request out_of_range =
     let start : Start = Err BadCrew in at_false (is_crew request.crew) (IsStartBy request.settings request.disk request.create (copy_of request) start) (start ≡ Err BadCrew) out_of_range refl
 
--- what a check of the crew gives of it
-pub in_range : (b : Bool) → MatchBool b (true ≡ true) (false ≡ true) → IsTrue b
-in_range true p = refl
-in_range false p = cc
-
-pub out_of_range : (b : Bool) → MatchBool b (false ≡ true) (true ≡ true) → b ≡ false
-out_of_range true p = cc
-out_of_range false p = refl
-
--- what the words give for a store in memory, for one in a file that is made anew, and for one that a file holds
-module _ (o : Options) (in_range : IsTrue (is_crew o.crew)) where
-  -- this is a right start by what else the words give
-  by_rest : (start : Start) → IsStartBy o.settings (request_of o).disk o.create (copy_of (request_of o)) start → IsStart (request_of o) start
-  by_rest start is = at_true (is_crew o.crew) (IsStartBy o.settings (request_of o).disk o.create (copy_of (request_of o)) start) (start ≡ Err BadCrew) in_range is
-
-  pub IsStart-in_memory : o.disk ≡ None → IsStart (request_of o) (new_start o.settings (replicate (disk_size o.settings) 0))
-  IsStart-in_memory e = by_rest _ (rw e refl)
-
-  pub IsStart-anew : (path : String Global) → o.disk ≡ Some path → o.create ≡ true → (file : List ℕ) → IsStart (request_of o) (new_start o.settings file)
-  IsStart-anew path e create file = by_rest _ (rw (e, create) (file, refl))
-
-  pub IsStart-found : (path : String Global) → o.disk ≡ Some path → o.create ≡ false → IfSome (copy_of (request_of o)) (λ s. first_bad_field s ≡ None) → (file : List ℕ)
-      → IsStart (request_of o) (found_start file)
-  IsStart-found path e create good file = by_rest _ (rw (e, create) (file, sym (start_copied (copy_of (request_of o)) (found_start file) good)))
-
 -- the start of a session whose settings of a copy are refused; or the file of the copy is
-pub start_of_uncopied : (request : Request) → IsTrue (is_crew request.crew) → (early : SessionError) → IsUncopied (copy_of request) early
+start_of_uncopied : (request : Request) → IsTrue (is_crew request.crew) → (early : SessionError) → IsUncopied (copy_of request) early
     → ((fault : Fault) × IsStart request (Err fault) × (early ≡ errors.Fault fault)) ⊎ (early ≡ Device)
 start_of_uncopied request in_range early why = by request.copy_to refl why
   where
-    by : (path : Option (List ℕ)) → path ≡ request.copy_to → IsUncopied (option_map (λ (p : List ℕ). request.settings) path) early
+    by : (path : Option Bytes) → path ≡ request.copy_to → IsUncopied (option_map (λ (p : Bytes). request.settings) path) early
         → ((fault : Fault) × IsStart request (Err fault) × (early ≡ errors.Fault fault)) ⊎ (early ≡ Device)
     by None is uncopied = absurd uncopied
     by (Some path) is (inr e) = inr e
     by (Some path) is (inl (field, bad, e)) =
         let start : Start = Err (BadSettings field) in
         let rest : IsStartBy request.settings request.disk request.create (copy_of request) start =
-        subst (λ (c : Option Settings). IsStartBy request.settings request.disk request.create c start) (ap (option_map (λ (p : List ℕ). request.settings)) is)
+        subst (λ (c : Option Settings). IsStartBy request.settings request.disk request.create c start) (ap (option_map (λ (p : Bytes). request.settings)) is)
         (start_uncopied request.settings request.disk request.create field bad) in
-        inl (BadSettings field, at_true (is_crew request.crew) (IsStartBy request.settings request.disk request.create (copy_of request) start) (start ≡ Err BadCrew) in_range rest, e)
+        inl (BadSettings field, IsStart-rest request in_range start rest, e)
 
--- a store in a file isn't in memory
-pub in_file : (o : Options) (path : String Global) → o.disk ≡ Some path → (request_of o).disk ≡ None → ⊥
-in_file o path e none = let bad : Some (string_bytes path) ≡ None = sym (ap (option_map string_bytes) e) ∙ none in cc
+-- ---- known texts
 
-module _ (request : Request) (known old : Option (List ℕ)) (text : List ℕ) (is_known : IfSome known (λ bytes. text ≡ bytes)) where
-  pub Answers-unread : (early : SessionError) → IsReadError (first_bad 1 (parse_text text)) early → Answers request known old old (Err early)
-  unfolding Answers
-  Answers-unread early h =
-      let (start, is) = start_of (is_crew request.crew) request.settings request.disk request.create (copy_of request) in
-      let all : List Order = with_numbers request.mode.stat (orders_of [] (parse_text text)) in
-      let (shown, none, are) = leave_from request.mode.clean_when_full start all in (
-        text,
-        is_known,
-        start,
-        is,
+-- the known text, or else any
+pub text_of-known : (known : Option Bytes) → IfSome known (λ bytes. unwrap_or known [] ≡ bytes)
+text_of-known None = tt
+text_of-known (Some bytes) = refl
+
+IfSome-known : (known : Option Bytes) (text : Bytes) (P : Bytes → Type 0) → IfSome known (λ bytes. text ≡ bytes) → P text → IfSome known P
+IfSome-known None text P e p = tt
+IfSome-known (Some bytes) text P e p = subst P e p
+
+IfSome-kept : (known left : Option Bytes) (P : Bytes → Type 0) → Keeps known left → IfSome left P → IfSome known P
+IfSome-kept None left P kept p = tt
+IfSome-kept (Some xs) None P kept p = absurd kept
+IfSome-kept (Some xs) (Some ys) P kept p = subst P kept p
+
+-- the lines are read by way of a buffer, which holds nothing first
+prepend-none : (known : Option Bytes) → prepend_known [] known ≡ known
+prepend-none None = refl
+prepend-none (Some bytes) = refl
+
+buffered : (capacity : ℕ) (held : Bytes) (known : Option Bytes) → capacity ≡ 8192 → held ≡ [] → (if capacity == 0 then None else prepend_known held known) ≡ known
+buffered capacity held known some none = rw (some, none) (prepend-none known)
+
+-- ---- what a session runs
+
+-- the orders are run on a store that it starts with, and then there is the copy of what they leave, or there is none
+module _ (request : Request) (settings : Settings) (st : Store) (file left : Bytes) (honest : Bool) (is_left : IsTrue honest → left ≡ file) (in_memory : request.disk ≡ None → IsTrue honest)
+    (parsed : List Line) (old mid new : Option Bytes) where
+  RunsFrom-run : (done flushed end : End) (held : Pairs Bytes) → RunsOn request.mode honest settings st left (orders_in request.mode.stream request.mode.stat parsed) old mid done held
+      → Keeps mid new → (flushed ≡ done) ⊎ (flushed ≡ Err Device) → IsLeft (copy_of request) held flushed end → RunsFrom request (Ok (settings, (st, file))) parsed old new end
+  unfolding RunsFrom Runs
+  RunsFrom-run done flushed end held (shown, (tidies, failing, are), runs, leaves) kept ended follows =
+      let ran : List Order = run_of request.mode.clean_when_full settings st shown (orders_in request.mode.stream request.mode.stat parsed) in
+      let on : Bool = request.mode.stream in
+      let lines : List Bytes = answered on settings st shown (contents st.tree) ran in
+      let right : End = orders_end on settings st shown ran in
+      let m : Pairs Bytes = map_kept settings st shown (contents st.tree) ran in (
         shown,
-        (TidiesBy-none request.mode shown (session_orders request start shown text) none, λ memory. are),
-        PrintsCopied-before (copy_of request) (map_left_from start all) old old (session_lines request start shown text) (session_end request start shown text) (Err early)
-            (Prints-unread old start shown (session_orders request start shown text) (first_bad 1 (parse_text text)) early h),
+        (
+          tidies,
+          failing,
+          λ memory. let h : IsTrue honest = in_memory memory in subst (λ (f : Bytes). AreLeft settings st f shown ran) (is_left h) (are h),
+        ),
+        PrintsCopied-left (copy_of request) m held on old new lines right flushed end (Prints-flushed on old mid new lines right done flushed runs kept ended)
+            (OnOk-flushed done flushed (held ≡ m) ended leaves) follows,
       )
 
-  -- there is no store: nothing is run
-  pub Answers-no_store : (fault : Fault) → IsStart request (Err fault) → first_bad 1 (parse_text text) ≡ None → Answers request known old old (Err (errors.Fault fault))
-  unfolding Answers
-  Answers-no_store fault is no_bad =
+module _ (request : Request) (parsed : List Line) (old : Option Bytes) where
+  -- there is no store
+  RunsFrom-none : (fault : Fault) → RunsFrom request (Err fault) parsed old old (Err (errors.Fault fault))
+  unfolding RunsFrom
+  RunsFrom-none fault =
+      let shown : Reads = λ i. untidied [] in
       let start : Start = Err fault in
-      let shown : Reads = λ i. untidied [] in (
-        text,
-        is_known,
-        start,
-        is,
+      let ran : List Order = session_orders request start shown parsed in (
         shown,
-        (TidiesBy-none request.mode shown (session_orders request start shown text) (λ i. refl), λ memory. tt),
-        PrintsCopied-before (copy_of request) (map_left_from start (with_numbers request.mode.stat (orders_of [] (parse_text text)))) old old (session_lines request start shown text)
-            (session_end request start shown text) (Err (errors.Fault fault)) (rw no_bad (inl (refl, Appends-nil old))),
+        (TidiesBy-none request.mode shown ran (λ i. refl), tt, λ memory. tt),
+        PrintsCopied-before (copy_of request) (map_kept_from start shown ran) request.mode.stream old old (lines_from request.mode.stream start shown ran)
+            (end_from request.mode.stream start shown ran) (Err (errors.Fault fault)) (inl (refl, Appends-nil old)),
       )
+
+  -- a device fails before anything is run
+  RunsFrom-device : (start : Start) → RunsFrom request start parsed old old (Err Device)
+  unfolding RunsFrom
+  RunsFrom-device (Err fault) =
+      let shown : Reads = λ i. untidied [] in
+      let start : Start = Err fault in
+      let ran : List Order = session_orders request start shown parsed in (
+        shown,
+        (TidiesBy-none request.mode shown ran (λ i. refl), tt, λ memory. tt),
+        PrintsCopied-before (copy_of request) (map_kept_from start shown ran) request.mode.stream old old (lines_from request.mode.stream start shown ran)
+            (end_from request.mode.stream start shown ran) (Err Device)
+            (Prints-none request.mode.stream old (lines_from request.mode.stream start shown ran) (end_from request.mode.stream start shown ran)),
+      )
+  RunsFrom-device (Ok p) =
+      RunsFrom-run request p.0 p.1.0 p.1.1 p.1.1 true (λ h. refl) (λ memory. refl) parsed old old old (Err Device) (Err Device) (Err Device) []
+      (RunsOn-cut request.mode true p.0 p.1.0 p.1.1 (orders_in request.mode.stream request.mode.stat parsed) old Device (inr refl) []) (Keeps-same old) (inl refl) refl
+    where
+      Keeps-same : (o : Option Bytes) → Keeps o o
+      Keeps-same None = tt
+      Keeps-same (Some xs) = refl
+
+module _ (request : Request) (known : Option Bytes) where
+  -- from a right start, whatever the lines
+  RunsRead-by : (old new : Option Bytes) (end : End) (start : Start) → IsStart request start → ((parsed : List Line) → RunsFrom request start parsed old new end) → RunsRead request known old new end
+  unfolding RunsRequest
+  RunsRead-by old new end start is runs = let (parsed, read) = some_read request.mode.stream known in inl (parsed, read, (start, is, runs parsed))
+
+  RunsRead-fault : (old : Option Bytes) (fault : Fault) → IsStart request (Err fault) → RunsRead request known old old (Err (errors.Fault fault))
+  RunsRead-fault old fault is = RunsRead-by old old (Err (errors.Fault fault)) (Err fault) is (λ parsed. RunsFrom-none request parsed old fault)
+
+  RunsRead-device : (old : Option Bytes) (start : Start) → IsStart request start → RunsRead request known old old (Err Device)
+  RunsRead-device old start is = RunsRead-by old old (Err Device) start is (λ parsed. RunsFrom-device request parsed old start)
 
   -- the crew is out of range
-  pub Answers-no_crew : is_crew request.crew ≡ false → first_bad 1 (parse_text text) ≡ None → Answers request known old old (Err (errors.Fault BadCrew))
-  Answers-no_crew out_of_range no_bad = Answers-no_store BadCrew (start_without_crew request out_of_range) no_bad
+  pub RunsRead-no_crew : (old : Option Bytes) → is_crew request.crew ≡ false → RunsRead request known old old (Err (errors.Fault BadCrew))
+  RunsRead-no_crew old out_of_range = RunsRead-fault old BadCrew (start_without_crew request out_of_range)
 
   -- the settings of a copy are refused, or its file is
-  pub Answers-uncopied : IsTrue (is_crew request.crew) → first_bad 1 (parse_text text) ≡ None → (early : SessionError) → IsUncopied (copy_of request) early → Answers request known old old (Err early)
-  Answers-uncopied in_range no_bad early why = by (start_of_uncopied request in_range early why)
+  pub RunsRead-uncopied : (old : Option Bytes) → IsTrue (is_crew request.crew) → (early : SessionError) → IsUncopied (copy_of request) early → RunsRead request known old old (Err early)
+  RunsRead-uncopied old in_range early why = by (start_of_uncopied request in_range early why)
     where
-      by : ((fault : Fault) × IsStart request (Err fault) × (early ≡ errors.Fault fault)) ⊎ (early ≡ Device) → Answers request known old old (Err early)
-      by (inl (fault, is, e)) = subst (λ (x : SessionError). Answers request known old old (Err x)) (sym e) (Answers-no_store fault is no_bad)
-      by (inr e) = subst (λ (x : SessionError). Answers request known old old (Err x)) (sym e) (Answers-unread Device tt)
+      by : ((fault : Fault) × IsStart request (Err fault) × (early ≡ errors.Fault fault)) ⊎ (early ≡ Device) → RunsRead request known old old (Err early)
+      by (inl (fault, is, e)) = subst (λ (x : SessionError). RunsRead request known old old (Err x)) (sym e) (RunsRead-fault old fault is)
+      by (inr e) =
+          let (start, is) = start_of (is_crew request.crew) request.settings request.disk request.create (copy_of request) in
+          subst (λ (x : SessionError). RunsRead request known old old (Err x)) (sym e) (RunsRead-device old start is)
 
-  pub Answers-run : (new : Option (List ℕ)) (end : Result (Unit {0}) SessionError) (ran items : List Order) → first_bad 1 (parse_text text) ≡ None → ran ≡ items
-      → items ≡ with_numbers request.mode.stat (orders_of [] (parse_text text)) → (start : Start) → IsStart request start → (IsHonest : Type 0) → (request.disk ≡ None → IsHonest)
-      → (copy : Option Settings) → copy ≡ copy_of request → RunsFrom request.mode copy IsHonest start ran old new end → Answers request known old new end
-  unfolding Answers RunsFrom
-  Answers-run new end ran items no_bad e_ran e_items start is IsHonest honest copy e_copy p =
-      let asked = subst (λ (c : Option Settings). RunsFrom request.mode c IsHonest start ran old new end) e_copy p in
-      let (shown, are, run) = subst (λ (os : List Order). RunsFrom request.mode (copy_of request) IsHonest start os old new end) (e_ran ∙ e_items) asked in
-      (text, is_known, start, is, shown, (are.0, λ memory. are.1 (honest memory)), rw no_bad run)
+  module _ (in_range : IsTrue (is_crew request.crew)) (good : IfSome (copy_of request) (λ s. first_bad_field s ≡ None)) where
+    opened_start : (start : Start) → IsStartBy request.settings request.disk request.create None start → IsStart request start
+    opened_start start is = IsStart-rest request in_range start (start_with_copy request.settings request.disk request.create (copy_of request) good start is)
+
+    -- there is no store
+    pub RunsRead-unopened : (old : Option Bytes) (early : SessionError) (start : Start) → IsStartBy request.settings request.disk request.create None start → IsUnopened start early
+        → RunsRead request known old old (Err early)
+    RunsRead-unopened old early start is (inl (fault, none, e)) =
+        subst (λ (x : SessionError). RunsRead request known old old (Err x)) (sym e) (RunsRead-fault old fault (subst (IsStart request) none (opened_start start is)))
+    RunsRead-unopened old early start is (inr (inl e)) = inr (ap (λ (x : SessionError). Err x) e, Appends-nil old)
+    RunsRead-unopened old early start is (inr (inr e)) = subst (λ (x : SessionError). RunsRead request known old old (Err x)) (sym e) (RunsRead-device old start (opened_start start is))
+
+    -- there is one: the orders of some lines are run on it, and then there is the copy of what they leave, or there is none
+    module _ (settings : Settings) (st : Store) (file left : Bytes) (honest : Bool) (start : Start) (is : IsStartBy request.settings request.disk request.create None start)
+        (start_is : start ≡ Ok (settings, (st, file))) (seen_is : IsTrue honest → left ≡ file) (in_memory : request.disk ≡ None → IsTrue honest) (mode : Mode) (mode_is : mode ≡ request.mode) where
+      pub RunsRead-run : (orders : List Order)
+          → ((parsed : List Line) × IfSome known (λ text. AreRead (parse_text mode.stream text) parsed) × (orders ≡ orders_in mode.stream mode.stat parsed))
+          → (old mid new : Option Bytes) (done flushed end : End) (after : Store) → RunsAll mode honest settings st left orders old mid done after
+          → Keeps mid new → (flushed ≡ done) ⊎ (flushed ≡ Err Device) → IsLeft (copy_of request) (contents after.tree) flushed end → RunsRead request known old new end
+      unfolding RunsRequest
+      RunsRead-run orders (parsed, read, orders_are) old mid new done flushed end after runs kept ended follows =
+          let on_request : RunsOn request.mode honest settings st left (orders_in request.mode.stream request.mode.stat parsed) old mid done (contents after.tree) =
+          subst (λ (m : Mode). RunsOn m honest settings st left (orders_in m.stream m.stat parsed) old mid done (contents after.tree)) mode_is
+          (subst (λ (os : List Order). RunsOn mode honest settings st left os old mid done (contents after.tree)) orders_are runs) in
+          inl (
+            parsed,
+            subst (λ (m : Mode). IfSome known (λ text. AreRead (parse_text m.stream text) parsed)) mode_is read,
+            (
+              start,
+              opened_start start is,
+              subst (λ (s : Start). RunsFrom request s parsed old new end) (sym start_is)
+                  (RunsFrom-run request settings st file left honest seen_is in_memory parsed old mid new done flushed end (contents after.tree) on_request kept ended follows),
+            ),
+          )
+
+-- ---- what it answers
+
+-- it ends before anything is run
+pub Answers-unread : (request : Request) (known old new : Option Bytes) (text : Bytes) → IfSome known (λ bytes. text ≡ bytes) → (early : SessionError)
+    → IsReadError (first_bad 1 (parse_text request.mode.stream text)) early → (request.mode.stream ≡ true → (number : ℕ) (why : Why) → early ≢ Bad number why) → Appends old new []
+    → Answers request known old new (Err early)
+unfolding Answers
+Answers-unread request known old new text is_known early is whole none = (text, is_known, inl (is, whole, none))
+
+-- the same for want of memory, or since a device failed
+pub Answers-cut : (request : Request) (known old new : Option Bytes) (early : SessionError) → (early ≡ errors.Fault NoMemory) ⊎ (early ≡ Device) → Appends old new []
+    → Answers request known old new (Err early)
+Answers-cut request known old new early cut none = Answers-unread request known old new (unwrap_or known []) (text_of-known known) early (is_error cut) (λ s number why. no_line cut number why) none
+  where
+    is_error : (early ≡ errors.Fault NoMemory) ⊎ (early ≡ Device) → IsReadError (first_bad 1 (parse_text request.mode.stream (unwrap_or known []))) early
+    is_error (inl e) = subst (IsReadError (first_bad 1 (parse_text request.mode.stream (unwrap_or known [])))) (sym e) refl
+    is_error (inr e) = subst (IsReadError (first_bad 1 (parse_text request.mode.stream (unwrap_or known [])))) (sym e) tt
+
+    no_line : (early ≡ errors.Fault NoMemory) ⊎ (early ≡ Device) → (number : ℕ) (why : Why) → early ≢ Bad number why
+    no_line (inl e) number why bad = let no : errors.Fault NoMemory ≡ Bad number why = sym e ∙ bad in cc
+    no_line (inr e) number why bad = let no : Device ≡ Bad number why = sym e ∙ bad in cc
+
+-- a line of a text is bad, or its check finds no memory
+pub Answers-bad : (request : Request) (known old : Option Bytes) (text : Bytes) → request.mode.stream ≡ false → IfSome known (λ bytes. text ≡ bytes) → (early : SessionError)
+    → IsReadError (first_bad 1 (parse_text false text)) early → Answers request known old old (Err early)
+Answers-bad request known old text plain is_known early is =
+    Answers-unread request known old old text is_known early (subst (λ (b : Bool). IsReadError (first_bad 1 (parse_text b text)) early) (sym plain) is)
+    (λ streams. let no : true ≡ false = sym streams ∙ plain in cc) (Appends-nil old)
 
 -- nothing was appended first
-pub Answers-asked : (old mid new : Option (List ℕ)) → Appends old mid [] → (request : Request) (known : Option (List ℕ)) (end : Result (Unit {0}) SessionError) → Answers request known mid new end
-    → Answers request known old new end
-unfolding Answers
-Answers-asked old mid new asked request known end (text, is_known, start, is, shown, is_shown, p) = (
-  text,
-  is_known,
-  start,
-  is,
-  shown,
-  is_shown,
-  PrintsCopied-asked (copy_of request) (map_left_from start (with_numbers request.mode.stat (orders_of [] (parse_text text)))) old mid new asked (session_lines request start shown text)
-      (session_end request start shown text) end p,
-)
+RunsRequest-begun : (request : Request) (parsed : List Line) (old mid new : Option Bytes) → Appends old mid [] → (end : End) → RunsRequest request parsed mid new end → RunsRequest request parsed old new end
+unfolding RunsRequest RunsFrom
+RunsRequest-begun request parsed old mid new none end (start, is, (shown, is_shown, p)) =
+    (start, is, (shown, is_shown, PrintsCopied-begun (copy_of request) _ request.mode.stream old mid new none _ _ end p))
+
+module _ (request : Request) (known old mid new : Option Bytes) (none : Appends old mid []) (end : End) where
+  no_memory : (end ≡ Err (errors.Fault NoMemory)) → Appends mid new [] → Answers request known old new end
+  no_memory e nothing =
+      subst (λ (r : End). Answers request known old new r) (sym e) (Answers-cut request known old new (errors.Fault NoMemory) (inl refl) (Appends-trans old mid new [] [] none nothing))
+
+  -- of a text that is all read, and has no bad line
+  pub Answers-text : (text : Bytes) → request.mode.stream ≡ false → IfSome known (λ bytes. text ≡ bytes) → first_bad 1 (parse_text false text) ≡ None → RunsRead request (Some text) mid new end
+      → Answers request known old new end
+  unfolding Answers
+  Answers-text text plain is_known good (inr (e, nothing)) = no_memory e nothing
+  Answers-text text plain is_known good (inl (parsed, read, runs)) =
+      (text, is_known, inr (λ s. good, (parsed, by request.mode.stream plain read, RunsRequest-begun request parsed old mid new none end runs)))
+    where
+      by : (b : Bool) → b ≡ false → AreRead (parse_text b text) parsed → AreReadOf b known text parsed
+      by true is p = cc
+      by false is p = p
+
+  -- of a stream
+  pub Answers-stream : (left : Option Bytes) → request.mode.stream ≡ true → Keeps known left → RunsRead request left mid new end → Answers request known old new end
+  unfolding Answers
+  Answers-stream left streams kept (inr (e, nothing)) = no_memory e nothing
+  Answers-stream left streams kept (inl (parsed, read, runs)) =
+      (unwrap_or known [], text_of-known known, inr (λ s. no_text s, (parsed, by request.mode.stream streams read, RunsRequest-begun request parsed old mid new none end runs)))
+    where
+      no_text : request.mode.stream ≡ false → first_bad 1 (parse_text false (unwrap_or known [])) ≡ None
+      no_text plain = let no : true ≡ false = sym streams ∙ plain in cc
+
+      by : (b : Bool) → b ≡ true → IfSome left (λ text. AreRead (parse_text b text) parsed) → AreReadOf b known (unwrap_or known []) parsed
+      by true is p = IfSome-kept known left (λ (text : Bytes). AreRead (parse_text true text) parsed) kept p
+      by false is p = cc
+
+  -- of a stream whose lines are read by way of a buffer, which holds nothing first
+  pub Answers-buffered : (left inner : Option Bytes) (capacity : ℕ) (held : Bytes) → capacity ≡ 8192 → held ≡ [] → inner ≡ left → request.mode.stream ≡ true → Keeps known left
+      → RunsRead request (if capacity == 0 then None else prepend_known held inner) mid new end → Answers request known old new end
+  Answers-buffered left inner capacity held some empty same streams kept runs =
+      Answers-stream left streams kept (subst (λ (o : Option Bytes). RunsRead request o mid new end) (buffered capacity held inner some empty ∙ same) runs)
 
 -- another crew that is in range where this one is
-pub Answers-crew : (request : Request) (crew : Crew) → is_crew crew ≡ is_crew request.crew → (known old new : Option (List ℕ)) (end : Result (Unit {0}) SessionError)
+pub Answers-crew : (request : Request) (crew : Crew) → is_crew crew ≡ is_crew request.crew → (known old new : Option Bytes) (end : End)
     → Answers request known old new end → Answers (record request { crew = crew }) known old new end
-unfolding Answers
-Answers-crew request crew same known old new end (text, is_known, start, is, shown, is_shown, printed_so) =
+unfolding Answers RunsRequest RunsFrom
+Answers-crew request crew same known old new end (text, is_known, inl unread) = (text, is_known, inl unread)
+Answers-crew request crew same known old new end (text, is_known, inr (good, (parsed, read, (start, is, ran)))) =
     let is_right : Bool → Type 0 = λ b. MatchBool b (IsStartBy request.settings request.disk request.create (copy_of request) start) (start ≡ Err BadCrew) in
-    (text, is_known, start, subst is_right (sym same) is, shown, is_shown, printed_so)
-
--- a start is one of a session that isn't to leave a copy, where the settings are good
-start_plain : (settings : Settings) (disk : Option (List ℕ)) (create : Bool) (copy : Option Settings) → IfSome copy (λ s. first_bad_field s ≡ None) → (start : Start)
-    → IsStartBy settings disk create copy start → IsStartBy settings disk create None start
-start_plain settings None create copy good start is = is
-start_plain settings (Some path) true copy good start is = is
-start_plain settings (Some path) false copy good start (file, is) = (file, is ∙ start_copied copy (found_start file) good)
+    (text, is_known, inr (good, (parsed, read, (start, subst is_right (sym same) is, ran))))
 
 pub IsStart-plain : (request : Request) → first_bad_field request.settings ≡ None → (start : Start) → IsStart request start → IsStart (record request { copy_to = None }) start
 IsStart-plain request good start is = by (is_crew request.crew) is
@@ -296,14 +350,13 @@ IsStart-plain request good start is = by (is_crew request.crew) is
     by false none = none
 
 -- a session without the copy prints the same, and ends so, or all is done
-pub Answers-plain : (request : Request) → first_bad_field request.settings ≡ None → (known old new : Option (List ℕ)) (end : Result (Unit {0}) SessionError) → Answers request known old new end
-    → (plain : Result (Unit {0}) SessionError) × Answers (record request { copy_to = None }) known old new plain × IsEndAfter plain end
-unfolding Answers
-Answers-plain request good known old new end (text, is_known, start, is, shown, is_shown, p) =
-    let (plain, q, after) =
-    PrintsCopied-plain (copy_of request) (map_left_from start (with_numbers request.mode.stat (orders_of [] (parse_text text)))) old new (session_lines request start shown text)
-    (session_end request start shown text) end p in
-    (plain, (text, is_known, start, IsStart-plain request good start is, shown, is_shown, q), after)
+pub Answers-plain : (request : Request) → first_bad_field request.settings ≡ None → (known old new : Option Bytes) (end : End) → Answers request known old new end
+    → (plain : End) × Answers (record request { copy_to = None }) known old new plain × IsEndAfter plain end
+unfolding Answers RunsRequest RunsFrom
+Answers-plain request good known old new end (text, is_known, inl unread) = (end, (text, is_known, inl unread), inl refl)
+Answers-plain request good known old new end (text, is_known, inr (whole, (parsed, read, (start, is, (shown, is_shown, p))))) =
+    let (plain, q, after) = PrintsCopied-plain (copy_of request) _ request.mode.stream old new _ _ end p in
+    (plain, (text, is_known, inr (whole, (parsed, read, (start, IsStart-plain request good start is, (shown, is_shown, q))))), after)
 
 -- no store where it is out of range
 pub IsStart-no_crew : (request : Request) → is_crew request.crew ≡ false → (start : Start) → IsStart request start → start ≡ Err BadCrew
@@ -311,278 +364,137 @@ IsStart-no_crew request out_of_range start is =
     let is_right : Bool → Type 0 = λ b. MatchBool b (IsStartBy request.settings request.disk request.create (copy_of request) start) (start ≡ Err BadCrew) in
     subst is_right out_of_range is
 
--- ---- what follows from the end
-
-module _ (settings : Settings) where
-  -- the orders are all accepted where none stops them
-  all_by : (st : Store) (shown : Reads) (order : Order) (rest : List Order) (r : Option Fault) → refusal_of settings st (shown 0) order ≡ r → (done : Unit {0})
-      → Ok done ≡ orders_end settings st shown (order ∷ rest)
-      → (Ok done ≡ orders_end settings (after_order settings st (shown 0) order).0 (later shown) rest → accepted settings (after_order settings st (shown 0) order).0 (later shown) rest ≡ rest)
-      → accepted settings st shown (order ∷ rest) ≡ order ∷ rest
-  all_by st shown order rest None h done e further = rw h (ap (λ (l : List Order). order ∷ l) (further (rw h at e)))
-  all_by st shown order rest (Some fault) h done e further =
-      let no : Ok done ≡ Err (errors.Fault fault) = rw h at e in
-      absurd (cc)
-
-  accepted-all : (st : Store) (shown : Reads) (orders : List Order) (done : Unit {0}) → Ok done ≡ orders_end settings st shown orders → accepted settings st shown orders ≡ orders
-  accepted-all st shown [] done e = refl
-  accepted-all st shown (order ∷ rest) done e =
-      all_by st shown order rest (refusal_of settings st (shown 0) order) refl done e (accepted-all (after_order settings st (shown 0) order).0 (later shown) rest done)
-
-  -- what is accepted is answered first
-  front_by : (m : List (List ℕ × List ℕ)) (st : Store) (shown : Reads) (order : Order) (rest : List Order) (r : Option Fault) → refusal_of settings st (shown 0) order ≡ r
-      → (let now : Store = (after_order settings st (shown 0) order).0 in BeginsWith (answer_lines settings now (later shown) (map_after m order) rest)
-      (answer_lines settings now (later shown) (map_after m order) (accepted settings now (later shown) rest)))
-      → BeginsWith (answer_lines settings st shown m (order ∷ rest)) (answer_lines settings st shown m (accepted settings st shown (order ∷ rest)))
-  front_by m st shown order rest None h begins =
-      let now : Store = (after_order settings st (shown 0) order).0 in
-      rw h (front-more (own_lines settings st (shown 0) m order) (answer_lines settings now (later shown) (map_after m order) rest)
-      (answer_lines settings now (later shown) (map_after m order) (accepted settings now (later shown) rest)) begins)
-  front_by m st shown order rest (Some fault) h begins = rw h (answer_lines settings st shown m (order ∷ rest), refl)
-
-  accepted-front : (m : List (List ℕ × List ℕ)) (st : Store) (shown : Reads) (orders : List Order)
-      → BeginsWith (answer_lines settings st shown m orders) (answer_lines settings st shown m (accepted settings st shown orders))
-  accepted-front m st shown [] = ([], refl)
-  accepted-front m st shown (order ∷ rest) =
-      front_by m st shown order rest (refusal_of settings st (shown 0) order) refl (accepted-front (map_after m order) (after_order settings st (shown 0) order).0 (later shown) rest)
-
--- the right end is a bad line only where there is one, and is never for the words
-bad_stop : (r : Option Fault) (line : ℕ) (why : Why) → Err (Bad line why) ≡ stopped_by (option_map (λ fault. errors.Fault fault) r) → ⊥
-bad_stop None line why e = cc
-bad_stop (Some fault) line why e = cc
-
-words_stop : (r : Option Fault) (error : Error) → Err (Words error) ≡ stopped_by (option_map (λ fault. errors.Fault fault) r) → ⊥
-words_stop None error e = cc
-words_stop (Some fault) error e = cc
-
-module _ (ordered : List Order) where
-  module _ (shown : Reads) where
-    done_right : (bad : Option (ℕ × Why)) (start : Start) (done : Unit {0}) → Ok done ≡ end_after bad start shown ordered
-        → (bad ≡ None) × IsOk start × (flat (lines_after bad start shown ordered) ≡ printed_by start shown ordered)
-    done_right None (Ok p) done e =
-        (refl, refl, ap (λ (os : List Order). printed p.0 p.1.0 shown (contents p.1.0.tree) os) (accepted-all p.0 p.1.0 shown ordered done e))
-    done_right None (Err fault) done e = absurd (cc)
-    done_right (Some b) start done e = absurd (cc)
-
-    bad_right : (bad : Option (ℕ × Why)) (start : Start) (line : ℕ) (why : Why) → Err (Bad line why) ≡ end_after bad start shown ordered
-        → (bad ≢ None) × (lines_after bad start shown ordered ≡ [])
-    bad_right None (Ok p) line why e = absurd (bad_stop (first_refusal p.0 p.1.0 shown ordered) line why e)
-    bad_right None (Err fault) line why e = absurd (cc)
-    bad_right (Some b) start line why e = (λ no. cc, refl)
-
-    words_right : (bad : Option (ℕ × Why)) (start : Start) (error : Error) → Err (Words error) ≡ end_after bad start shown ordered → ⊥
-    words_right None (Ok p) error e = words_stop (first_refusal p.0 p.1.0 shown ordered) error e
-    words_right None (Err fault) error e = cc
-    words_right (Some b) start error e = cc
-
-    front_right : (bad : Option (ℕ × Why)) (start : Start) → BeginsWith (printed_by start shown ordered) (flat (lines_after bad start shown ordered))
-    front_right None (Ok p) =
-        let m = contents p.1.0.tree in
-        front-flat (answer_lines p.0 p.1.0 shown m ordered) (answer_lines p.0 p.1.0 shown m (accepted p.0 p.1.0 shown ordered)) (accepted-front p.0 m p.1.0 shown ordered)
-    front_right None (Err fault) = ([], refl)
-    front_right (Some b) start = (printed_by start shown ordered, refl)
-
--- ---- how a stream ends
-
--- all is done only where nothing is refused and no line is bad
-both_none : (r : Option Fault) (bad : Option (ℕ × Why)) (done : Unit {0}) → Ok done ≡ stopped_by (option_or (option_map (λ fault. errors.Fault fault) r) (option_map bad_line_error bad))
-    → (r ≡ None) × (bad ≡ None)
-both_none None None done e = (refl, refl)
-both_none None (Some b) done e = absurd (cc)
-both_none (Some fault) bad done e = absurd (cc)
-
--- it ends at a line only where one is bad
-some_bad : (r : Option Fault) (bad : Option (ℕ × Why)) (line : ℕ) (why : Why)
-    → Err (Bad line why) ≡ stopped_by (option_or (option_map (λ fault. errors.Fault fault) r) (option_map bad_line_error bad)) → bad ≢ None
-some_bad None None line why e = absurd (cc)
-some_bad None (Some b) line why e = λ no_bad. cc
-some_bad (Some fault) bad line why e = absurd (cc)
-
-no_words : (r : Option Fault) (bad : Option (ℕ × Why)) (error : Error) → Err (Words error) ≡ stopped_by (option_or (option_map (λ fault. errors.Fault fault) r) (option_map bad_line_error bad)) → ⊥
-no_words None None error e = cc
-no_words None (Some b) error e = cc
-no_words (Some fault) bad error e = cc
-
-module _ (orders : List Order) (shown : Reads) (bad : Option (ℕ × Why)) where
-  streamed_done : (start : Start) (done : Unit {0}) → Ok done ≡ end_streamed bad start shown orders
-      → (bad ≡ None) × IsOk start × (flat (lines_after None start shown orders) ≡ printed_by start shown orders)
-  streamed_done (Ok p) done e =
-      let (none, good) = both_none (first_refusal p.0 p.1.0 shown orders) bad done e in
-      let all : Ok done ≡ orders_end p.0 p.1.0 shown orders = ap (λ (o : Option Fault). stopped_by (option_map (λ fault. errors.Fault fault) o)) (sym none) in
-      (good, refl, ap (λ (os : List Order). printed p.0 p.1.0 shown (contents p.1.0.tree) os) (accepted-all p.0 p.1.0 shown orders done all))
-  streamed_done (Err fault) done e = absurd (cc)
-
-  streamed_bad : (start : Start) (line : ℕ) (why : Why) → Err (Bad line why) ≡ end_streamed bad start shown orders → bad ≢ None
-  streamed_bad (Ok p) line why e = some_bad (first_refusal p.0 p.1.0 shown orders) bad line why e
-  streamed_bad (Err fault) line why e = absurd (cc)
-
-  streamed_words : (start : Start) (error : Error) → Err (Words error) ≡ end_streamed bad start shown orders → ⊥
-  streamed_words (Ok p) error e = no_words (first_refusal p.0 p.1.0 shown orders) bad error e
-  streamed_words (Err fault) error e = cc
-
--- what some lines say, which are those of the known text
-IfSome-parsed : (known : Option (List ℕ)) (parsed : List Line) (P : List Line → Type 0) → IfSome known (λ text. parsed ≡ parse_text text) → P parsed → IfSome known (λ text. P (parse_text text))
-IfSome-parsed None parsed P e p = tt
-IfSome-parsed (Some text) parsed P e p = subst P e p
+-- reports, and how long a lock is waited for, change nothing
+pub Answers-reports : (request : Request) (progress explain : Bool) (wait : ℕ) (known old new : Option Bytes) (end : End) → Answers request known old new end
+    → Answers (record request { mode = record request.mode { progress = progress; explain = explain; wait = wait } }) known old new end
+unfolding Answers RunsRequest RunsFrom
+Answers-reports request progress explain wait known old new end (text, is_known, inl unread) = (text, is_known, inl unread)
+Answers-reports request progress explain wait known old new end (text, is_known, inr (whole, (parsed, read, (start, is, ran)))) =
+    (text, is_known, inr (whole, (parsed, read, (start, is, ran))))
 
 -- ---- what follows of a session whose words name a store
 
--- all that the text orders is printed, from a right start that has a store
-abbrev DoneBy : Bool → Request → Option (List ℕ) → Option (List ℕ) → List ℕ → Type 0
-DoneBy b request old new text =
-    (first_bad 1 (parse_text text) ≡ None) × ((start : Start) × IsStart request start × IsOk start × (shown : Reads) × IsShown request start shown (run_by b request start shown text)
-    × Appends old new (printed_by start shown (run_by b request start shown text)))
+-- where the right end is with all done there is a store
+start_ok : (on : Bool) (start : Start) (shown : Reads) (orders : List Order) (done : Unit {0}) → Ok done ≡ end_from on start shown orders → IsOk start
+start_ok on (Ok p) shown orders done e = refl
+start_ok on (Err fault) shown orders done e = absurd (cc)
 
-abbrev IsDoneOn : Request → Option (List ℕ) → Option (List ℕ) → List ℕ → Type 0
-IsDoneOn request old new text = DoneBy request.mode.stream request old new text
+-- the right end is no bad line, and not for the words
+no_stop : (r : Option Fault) (early : SessionError) → ((fault : Fault) → early ≡ errors.Fault fault → ⊥) → Err early ≡ stopped_by (option_map (λ fault. errors.Fault fault) r) → ⊥
+no_stop None early other e = cc
+no_stop (Some fault) early other e = other fault (let injective : early ≡ errors.Fault fault = cc in injective)
+
+no_end : (on : Bool) (start : Start) (shown : Reads) (orders : List Order) (early : SessionError) → ((fault : Fault) → early ≡ errors.Fault fault → ⊥) → Err early ≡ end_from on start shown orders → ⊥
+no_end on (Err fault) shown orders early other e = other fault (let injective : early ≡ errors.Fault fault = cc in injective)
+no_end true (Ok p) shown orders early other e = cc
+no_end false (Ok p) shown orders early other e = no_stop (first_refusal p.0 p.1.0 shown orders) early other e
+
+-- all that the lines order is printed, from a right start that has a store
+abbrev IsDoneOn : Request → Option Bytes → Option Bytes → Bytes → Type 0
+IsDoneOn request old new text =
+    (parsed : List Line) × AreRead (parse_text request.mode.stream text) parsed × (request.mode.stream ≡ false → first_bad 1 (parse_text false text) ≡ None)
+    × ((start : Start) × IsStart request start × IsOk start × (shown : Reads) × IsShown request start shown (session_orders request start shown parsed)
+    × (end_from request.mode.stream start shown (session_orders request start shown parsed) ≡ Ok tt)
+    × Appends old new (flat (lines_from request.mode.stream start shown (session_orders request start shown parsed))))
 
 -- a beginning of it is
-abbrev BegunBy : Bool → Request → Option (List ℕ) → Option (List ℕ) → List ℕ → Type 0
-BegunBy b request old new text =
-    (start : Start) × IsStart request start × (shown : Reads) × IsShown request start shown (run_by b request start shown text)
-    × ((front : List ℕ) × BeginsWith (printed_by start shown (run_by b request start shown text)) front × Appends old new front)
+abbrev HasBegunOn : Request → Option Bytes → Option Bytes → Bytes → Type 0
+HasBegunOn request old new text =
+    (parsed : List Line) × AreRead (parse_text request.mode.stream text) parsed
+    × ((start : Start) × IsStart request start × (shown : Reads) × IsShown request start shown (session_orders request start shown parsed)
+    × IsFront request.mode.stream old new (lines_from request.mode.stream start shown (session_orders request start shown parsed)))
 
-abbrev HasBegunOn : Request → Option (List ℕ) → Option (List ℕ) → List ℕ → Type 0
-HasBegunOn request old new text = BegunBy request.mode.stream request old new text
+module _ (request : Request) (known old new : Option Bytes) where
+  -- what was read of the known text
+  by_known : (text : Bytes) (parsed : List Line) (P : Bytes → Type 0) → IfSome known (λ bytes. text ≡ bytes) → AreReadOf request.mode.stream known text parsed
+      → ((bytes : Bytes) → text ≡ bytes → AreRead (parse_text request.mode.stream bytes) parsed → P bytes) → IfSome known P
+  by_known text parsed P is_known read f = by request.mode.stream known is_known read f
+    where
+      by : (b : Bool) (k : Option Bytes) → IfSome k (λ bytes. text ≡ bytes) → AreReadOf b k text parsed → ((bytes : Bytes) → text ≡ bytes → AreRead (parse_text b bytes) parsed → P bytes) → IfSome k P
+      by true None is r g = tt
+      by false None is r g = tt
+      by true (Some bytes) is r g = g bytes is r
+      by false (Some bytes) is r g = g bytes is (subst (λ (t : Bytes). AreRead (parse_text false t) parsed) is r)
 
-module _ (request : Request) (known old new : Option (List ℕ)) where
-  text_done : (done : Unit {0}) → Answers request known old new (Ok done) → IfSome known (DoneBy false request old new)
+  request_done : (done : Unit {0}) → Answers request known old new (Ok done) → IfSome known (IsDoneOn request old new)
+  unfolding Answers RunsRequest RunsFrom
+  request_done done (text, is_known, inl unread) = absurd unread
+  request_done done (text, is_known, inr (whole, (parsed, read, (start, is, (shown, is_shown, p))))) =
+      let (right, a) = Prints-done request.mode.stream old new _ _ done (PrintsCopied-other (copy_of request) _ request.mode.stream old new _ _ (Ok done) (λ fault e. absurd (cc)) p) in
+      by_known text parsed (IsDoneOn request old new) is_known read (λ bytes same got. (
+        parsed,
+        got,
+        λ plain. subst (λ (t : Bytes). first_bad 1 (parse_text false t) ≡ None) same (whole plain),
+        (start, is, start_ok request.mode.stream start shown _ done right, shown, is_shown, sym right, a),
+      ))
+
+  -- an end that is none for memory, a device or a fault is that of a session whose lines weren't run
+  not_run : (early : SessionError) → ((fault : Fault) → early ≡ errors.Fault fault → ⊥) → (early ≡ Device → ⊥) → (parsed : List Line) → RunsRequest request parsed old new (Err early) → ⊥
+  unfolding RunsRequest RunsFrom
+  not_run early other no_device parsed (start, is, (shown, is_shown, p)) =
+      no_end request.mode.stream start shown (session_orders request start shown parsed) early other
+      (Prints-right request.mode.stream old new _ _ (Err early) (λ e. other NoMemory (let injective : early ≡ errors.Fault NoMemory = cc in injective))
+      (λ e. no_device (let injective : early ≡ Device = cc in injective))
+      (PrintsCopied-other (copy_of request) _ request.mode.stream old new _ _ (Err early) (λ fault e. other fault (let injective : early ≡ errors.Fault fault = cc in injective)) p))
+
+  request_bad : (line : ℕ) (why : Why) → Answers request known old new (Err (Bad line why))
+      → (request.mode.stream ≡ true → ⊥) × Appends old new [] × IfSome known (λ text. first_bad 1 (parse_text false text) ≢ None)
   unfolding Answers
-  text_done done (text, is_known, start, is, shown, is_shown, p) =
-      IfSome-known known text (DoneBy false request old new) is_known (by (PrintsCopied-other _ _ old new _ _ (Ok done) (λ fault e. absurd (cc)) p)) where
-        by : Prints old new (session_lines request start shown text) (session_end request start shown text) (Ok done) → DoneBy false request old new text
-        by (inl (e, a)) =
-            let (none, opened, lines) = done_right (session_orders request start shown text) shown (first_bad 1 (parse_text text)) start done e in
-            (none, (start, is, opened, shown, is_shown, subst (λ (l : List ℕ). Appends old new l) lines a))
-        by (inr (inl (e, q))) = absurd (cc)
-        by (inr (inr (e, q))) = absurd (cc)
+  request_bad line why (text, is_known, inl (bad, whole, none)) =
+      (λ streams. whole streams line why refl, none, IfSome-known known text (λ (t : Bytes). first_bad 1 (parse_text false t) ≢ None) is_known (by request.mode.stream bad (λ s. whole s line why refl)))
+    where
+      by : (b : Bool) → first_bad 1 (parse_text b text) ≡ Some (line, why) → (b ≡ true → ⊥) → first_bad 1 (parse_text false text) ≢ None
+      by true is never = absurd (never refl)
+      by false is never = λ good. let contra : Some (line, why) ≡ None = sym is ∙ good in cc
+  request_bad line why (text, is_known, inr (whole, (parsed, read, runs))) = absurd (not_run (Bad line why) (λ fault e. cc) (λ e. cc) parsed runs)
 
-  text_bad : (line : ℕ) (why : Why) → Answers request known old new (Err (Bad line why)) → Appends old new [] × IfSome known (λ text. first_bad 1 (parse_text text) ≢ None)
+  request_words : (error : Error) → Answers request known old new (Err (Words error)) → ⊥
   unfolding Answers
-  text_bad line why (text, is_known, start, is, shown, is_shown, p) = by (PrintsCopied-other _ _ old new _ _ (Err (Bad line why)) (λ fault e. absurd (cc)) p) where
-    by : Prints old new (session_lines request start shown text) (session_end request start shown text) (Err (Bad line why)) → Appends old new [] × IfSome known (λ t. first_bad 1 (parse_text t) ≢ None)
-    by (inl (e, a)) =
-        let (some, lines) = bad_right (session_orders request start shown text) shown (first_bad 1 (parse_text text)) start line why e in
-        (subst (λ (l : List (List ℕ)). Appends old new (flat l)) lines a, IfSome-known known text (λ (t : List ℕ). first_bad 1 (parse_text t) ≢ None) is_known some)
-    by (inr (inl (e, q))) = absurd (cc)
-    by (inr (inr (e, q))) = absurd (cc)
+  request_words error (text, is_known, inl (bad, whole, none)) = bad
+  request_words error (text, is_known, inr (whole, (parsed, read, runs))) = not_run (Words error) (λ fault e. cc) (λ e. cc) parsed runs
 
-  text_words : (error : Error) → Answers request known old new (Err (Words error)) → ⊥
-  unfolding Answers
-  text_words error (text, is_known, start, is, shown, is_shown, p) = by (PrintsCopied-other _ _ old new _ _ (Err (Words error)) (λ fault e. absurd (cc)) p) where
-    by : Prints old new (session_lines request start shown text) (session_end request start shown text) (Err (Words error)) → ⊥
-    by (inl (e, a)) = words_right (session_orders request start shown text) shown (first_bad 1 (parse_text text)) start error e
-    by (inr (inl (e, q))) = cc
-    by (inr (inr (e, q))) = cc
-
-  text_front : (end : Result (Unit {0}) SessionError) → Answers request known old new end → IfSome known (BegunBy false request old new)
-  unfolding Answers
-  text_front end (text, is_known, start, is, shown, is_shown, p) =
-      let (front, begins, a) = PrintsCopied-front (copy_of request) _ old new (session_lines request start shown text) (session_end request start shown text) end p in
-      let whole = front-trans (printed_by start shown (session_orders request start shown text)) (flat (session_lines request start shown text)) front (front_right (session_orders request start shown text) shown (first_bad 1 (parse_text text)) start) begins in
-      IfSome-known known text (BegunBy false request old new) is_known (start, is, shown, is_shown, (front, whole, a))
-
-  -- the same of a stream, for what its lines say
-  abbrev DoneSaid : List Line → Type 0
-  DoneSaid parsed =
-      (first_bad 1 parsed ≡ None) × ((start : Start) × IsStart request start × IsOk start × (shown : Reads) × IsShown request start shown (stream_orders request start shown parsed)
-      × Appends old new (printed_by start shown (stream_orders request start shown parsed)))
-
-  abbrev BegunSaid : List Line → Type 0
-  BegunSaid parsed =
-      (start : Start) × IsStart request start × (shown : Reads) × IsShown request start shown (stream_orders request start shown parsed)
-      × ((front : List ℕ) × BeginsWith (printed_by start shown (stream_orders request start shown parsed)) front × Appends old new front)
-
-  stream_done : (done : Unit {0}) → Streams request known old new (Ok done) → IfSome known (DoneBy true request old new)
-  unfolding Streams
-  stream_done done (parsed, is_known, start, is, shown, is_shown, p) = IfSome-parsed known parsed DoneSaid is_known (by (PrintsCopied-other _ _ old new _ _ (Ok done) (λ fault e. absurd (cc)) p)) where
-    by : Prints old new (stream_lines request start shown parsed) (stream_end request start shown parsed) (Ok done) → DoneSaid parsed
-    by (inl (e, a)) =
-        let (none, opened, lines) = streamed_done (stream_orders request start shown parsed) shown (first_bad 1 parsed) start done e in
-        (none, (start, is, opened, shown, is_shown, subst (λ (l : List ℕ). Appends old new l) lines a))
-    by (inr (inl (e, q))) = absurd (cc)
-    by (inr (inr (e, q))) = absurd (cc)
-
-  stream_bad : (line : ℕ) (why : Why) → Streams request known old new (Err (Bad line why)) → IfSome known (λ text. first_bad 1 (parse_text text) ≢ None)
-  unfolding Streams
-  stream_bad line why (parsed, is_known, start, is, shown, is_shown, p) = IfSome-parsed known parsed (λ (ss : List Line). first_bad 1 ss ≢ None) is_known (by (PrintsCopied-other _ _ old new _ _ (Err (Bad line why)) (λ fault e. absurd (cc)) p)) where
-    by : Prints old new (stream_lines request start shown parsed) (stream_end request start shown parsed) (Err (Bad line why)) → first_bad 1 parsed ≢ None
-    by (inl (e, a)) = streamed_bad (stream_orders request start shown parsed) shown (first_bad 1 parsed) start line why e
-    by (inr (inl (e, q))) = absurd (cc)
-    by (inr (inr (e, q))) = absurd (cc)
-
-  stream_words : (error : Error) → Streams request known old new (Err (Words error)) → ⊥
-  unfolding Streams
-  stream_words error (parsed, is_known, start, is, shown, is_shown, p) = by (PrintsCopied-other _ _ old new _ _ (Err (Words error)) (λ fault e. absurd (cc)) p) where
-    by : Prints old new (stream_lines request start shown parsed) (stream_end request start shown parsed) (Err (Words error)) → ⊥
-    by (inl (e, a)) = streamed_words (stream_orders request start shown parsed) shown (first_bad 1 parsed) start error e
-    by (inr (inl (e, q))) = cc
-    by (inr (inr (e, q))) = cc
-
-  stream_front : (end : Result (Unit {0}) SessionError) → Streams request known old new end → IfSome known (BegunBy true request old new)
-  unfolding Streams
-  stream_front end (parsed, is_known, start, is, shown, is_shown, p) =
-      let (front, begins, a) = PrintsCopied-front (copy_of request) _ old new (stream_lines request start shown parsed) (stream_end request start shown parsed) end p in
-      let whole = front-trans (printed_by start shown (stream_orders request start shown parsed)) (flat (stream_lines request start shown parsed)) front
-      (front_right (stream_orders request start shown parsed) shown None start) begins in
-      IfSome-parsed known parsed BegunSaid is_known (start, is, shown, is_shown, (front, whole, a))
-
-  -- and of a session that is a stream or isn't
-  request_done : (done : Unit {0}) → IsAnswered request known old new (Ok done) → IfSome known (IsDoneOn request old new)
-  request_done done = by request.mode.stream refl where
-    by : (b : Bool) → request.mode.stream ≡ b → MatchBool b (Streams request known old new (Ok done)) (Answers request known old new (Ok done)) → IfSome known (IsDoneOn request old new)
-    by true is p = subst (λ (c : Bool). IfSome known (DoneBy c request old new)) (sym is) (stream_done done p)
-    by false is p = subst (λ (c : Bool). IfSome known (DoneBy c request old new)) (sym is) (text_done done p)
-
-  request_bad : (line : ℕ) (why : Why) → IsAnswered request known old new (Err (Bad line why))
-      → ((request.mode.stream ≡ true) ⊎ Appends old new []) × IfSome known (λ text. first_bad 1 (parse_text text) ≢ None)
-  request_bad line why = by request.mode.stream refl where
-    by : (b : Bool) → request.mode.stream ≡ b → MatchBool b (Streams request known old new (Err (Bad line why))) (Answers request known old new (Err (Bad line why)))
-        → ((request.mode.stream ≡ true) ⊎ Appends old new []) × IfSome known (λ text. first_bad 1 (parse_text text) ≢ None)
-    by true is p = (inl is, stream_bad line why p)
-    by false is p = let (nothing, some) = text_bad line why p in (inr nothing, some)
-
-  request_words : (error : Error) → IsAnswered request known old new (Err (Words error)) → ⊥
-  request_words error = by request.mode.stream where
-    by : (b : Bool) → MatchBool b (Streams request known old new (Err (Words error))) (Answers request known old new (Err (Words error))) → ⊥
-    by true p = stream_words error p
-    by false p = text_words error p
-
-  request_front : (end : Result (Unit {0}) SessionError) → IsAnswered request known old new end → IfSome known (HasBegunOn request old new)
-  request_front end = by request.mode.stream refl where
-    by : (b : Bool) → request.mode.stream ≡ b → MatchBool b (Streams request known old new end) (Answers request known old new end) → IfSome known (HasBegunOn request old new)
-    by true is p = subst (λ (c : Bool). IfSome known (BegunBy c request old new)) (sym is) (stream_front end p)
-    by false is p = subst (λ (c : Bool). IfSome known (BegunBy c request old new)) (sym is) (text_front end p)
+  request_front : (end : End) → Answers request known old new end → Appends old new [] ⊎ IfSome known (HasBegunOn request old new)
+  unfolding Answers RunsRequest RunsFrom
+  request_front (Ok done) (text, is_known, inl unread) = absurd unread
+  request_front (Err early) (text, is_known, inl (bad, whole, none)) = inl none
+  request_front end (text, is_known, inr (whole, (parsed, read, (start, is, (shown, is_shown, p))))) =
+      let begun = PrintsCopied-front (copy_of request) _ request.mode.stream old new _ _ end p in
+      inr (by_known text parsed (HasBegunOn request old new) is_known read (λ bytes same got. (parsed, got, (start, is, shown, is_shown, begun))))
 
 -- ---- what follows of any session
 
 -- the words ask for a text, or tell what all that the text orders is printed for
-abbrev IsAllDone : List (List ℕ) → Option (List ℕ) → Option (List ℕ) → Option (List ℕ) → Type 0
+abbrev IsAllDone : List Bytes → Option Bytes → Option Bytes → Option Bytes → Type 0
 IsAllDone words known old new = AsksForText words ⊎ ((request : Request) × AsksFor words request × IfSome known (IsDoneOn request old new))
 
 -- the words ask for a text, or nothing is printed, or they tell what a beginning of all that the text orders is printed for
-abbrev HasBegun : List (List ℕ) → Option (List ℕ) → Option (List ℕ) → Option (List ℕ) → Type 0
+abbrev HasBegun : List Bytes → Option Bytes → Option Bytes → Option Bytes → Type 0
 HasBegun words known old new =
     AsksForText words ⊎ Appends old new [] ⊎ ((request : Request) × AsksFor words request × IfSome known (HasBegunOn request old new))
 
--- a line is bad; nothing is printed then, unless the words ask for a stream
-abbrev IsBad : List (List ℕ) → Option (List ℕ) → Option (List ℕ) → Option (List ℕ) → Type 0
-IsBad words known old new = (AsksToStream words ⊎ Appends old new []) × IfSome known (λ text. first_bad 1 (parse_text text) ≢ None)
+-- a line is bad; nothing is printed then, and the words ask for no stream
+abbrev IsBad : List Bytes → Option Bytes → Option Bytes → Option Bytes → Type 0
+IsBad words known old new = (AsksToStream words → ⊥) × Appends old new [] × IfSome known (λ text. first_bad 1 (parse_text false text) ≢ None)
 
-streams_or : (words : List (List ℕ)) (request : Request) (P : Type 0) → AsksFor words request → (request.mode.stream ≡ true) ⊎ P → AsksToStream words ⊎ P
-streams_or words request P tells (inl streams) = inl (request, tells, streams)
-streams_or words request P tells (inr p) = inr p
+-- options of the same words are the same
+options_same : (given others : Given) → options given ≡ options others → given ≡ others
+options_same given others e = let injective : given ≡ others = cc in injective
+
+-- words ask for one thing
+same_request : (words : List Bytes) (one other : Request) → AsksFor words one → AsksFor words other → one ≡ other
+same_request words one other (given, asks, is) (others, also, are) =
+    let same : given ≡ others = options_same given others (sym asks ∙ also) in is ∙ ap request_by same ∙ sym are
 
 -- words that name a store are not refused
-not_refused : (words : List (List ℕ)) (request : Request) → AsksFor words request → AreRefused words → ⊥
+not_refused : (words : List Bytes) (request : Request) → AsksFor words request → AreRefused words → ⊥
 not_refused words request (given, tells, is) refused = cc
 
 -- nor are words that ask for a text
-text_not_refused : (words : List (List ℕ)) → AsksForText words → AreRefused words → ⊥
+text_not_refused : (words : List Bytes) → AsksForText words → AreRefused words → ⊥
 text_not_refused words (inl helps) refused = cc
 text_not_refused words (inr (request, tells, is)) refused = not_refused words request tells refused
 
-pub status-one : (end : Result (Unit {0}) SessionError) (status : ℕ) → status ≡ status_of_end end → (status ≡ 0) ⊎ (status ≡ 2) ⊎ (status ≡ 3) ⊎ (status ≡ 4)
+status-one : (end : End) (status : ℕ) → status ≡ status_of_end end → (status ≡ 0) ⊎ (status ≡ 2) ⊎ (status ≡ 3) ⊎ (status ≡ 4)
 status-one (Ok done) status e = inl e
 status-one (Err (Words error)) status e = inr (inl e)
 status-one (Err (Bad line why)) status e = inr (inr (inl e))
@@ -590,14 +502,15 @@ status-one (Err (errors.Fault fault)) status e = inr (inr (inr e))
 status-one (Err Device) status e = inr (inr (inr e))
 
 -- one text that is printed ends with all done, or with a fault
-one_text : (old new : Option (List ℕ)) (early : SessionError) → PrintsOneText old new (Err early) → status_of_end (Err early) ≡ 4
-one_text old new early (text, inl (e, a)) = absurd (cc)
-one_text old new early (text, inr (inl (e, q))) = ap status_of_end e
-one_text old new early (text, inr (inr (e, q))) = ap status_of_end e
+one_text : (old new : Option Bytes) (early : SessionError) → PrintsOneText old new (Err early) → status_of_end (Err early) ≡ 4
+one_text old new early (inl (text, inl (e, a))) = absurd (cc)
+one_text old new early (inl (text, inr (inl (off, e, q)))) = ap status_of_end e
+one_text old new early (inl (text, inr (inr (e, q)))) = ap status_of_end e
+one_text old new early (inr (e, none)) = ap status_of_end e
 
-module _ (words : List (List ℕ)) (known old new : Option (List ℕ)) (unread untouched : Type 0) where
+module _ (words : List Bytes) (known old new : Option Bytes) (unread untouched : Type 0) where
   -- the words are refused where the status is 2, and where they are it is 2 but for memory, with nothing read and nothing printed
-  refused_end : (end : Result (Unit {0}) SessionError) → EndsBy words known old new unread untouched end → status_of_end end ≡ 2 → AreRefused words
+  refused_end : (end : End) → EndsBy words known old new unread untouched end → status_of_end end ≡ 2 → AreRefused words
   refused_end (Ok done) p s = absurd (omega arith)
   refused_end (Err (Bad line why)) p s = absurd (omega arith)
   refused_end (Err (errors.Fault fault)) p s = absurd (omega arith)
@@ -608,30 +521,27 @@ module _ (words : List (List ℕ)) (known old new : Option (List ℕ)) (unread u
   refused_end (Err (Words error)) (inr (inr (not_read, not_touched, inl (refused, for_words)))) s = refused
   refused_end (Err (Words error)) (inr (inr (not_read, not_touched, inr e))) s = absurd (cc)
 
-  for_words_status : (end : Result (Unit {0}) SessionError) → IsForWords end → status_of_end end ≡ 2
+  for_words_status : (end : End) → IsForWords end → status_of_end end ≡ 2
   for_words_status (Err (Words error)) w = refl
   for_words_status (Ok done) w = absurd w
   for_words_status (Err (Bad line why)) w = absurd w
   for_words_status (Err (errors.Fault fault)) w = absurd w
   for_words_status (Err Device) w = absurd w
 
-  when_refused : (end : Result (Unit {0}) SessionError) → EndsBy words known old new unread untouched end → AreRefused words
-      → ((status_of_end end ≡ 2) ⊎ (status_of_end end ≡ 4)) × unread × untouched
+  when_refused : (end : End) → EndsBy words known old new unread untouched end → AreRefused words → ((status_of_end end ≡ 2) ⊎ (status_of_end end ≡ 4)) × unread × untouched
   when_refused end (inl (request, tells, runs, answers)) refused = absurd (not_refused words request tells refused)
   when_refused end (inr (inl (not_read, asks, printed_help))) refused = absurd (text_not_refused words asks refused)
   when_refused end (inr (inr (not_read, not_touched, inl (is_refused, for_words)))) refused = (inl (for_words_status end for_words), not_read, not_touched)
   when_refused end (inr (inr (not_read, not_touched, inr e))) refused = (inr (ap status_of_end e), not_read, not_touched)
 
-  refused_iff : (end : Result (Unit {0}) SessionError) (status : ℕ) → status ≡ status_of_end end → EndsBy words known old new unread untouched end
-      → (status ≡ 2) ↔ (AreRefused words × (status ≢ 4))
+  refused_iff : (end : End) (status : ℕ) → status ≡ status_of_end end → EndsBy words known old new unread untouched end → (status ≡ 2) ↔ (AreRefused words × (status ≢ 4))
   refused_iff end status e p =
       (λ two. (refused_end end p (sym e ∙ two), λ four. absurd (omega arith)), λ (refused, no_fault). by (when_refused end p refused).0 no_fault) where
         by : (status_of_end end ≡ 2) ⊎ (status_of_end end ≡ 4) → status ≢ 4 → status ≡ 2
         by (inl two) no_fault = e ∙ two
         by (inr four) no_fault = absurd (no_fault (e ∙ four))
 
-  done_end : (end : Result (Unit {0}) SessionError) → status_of_end end ≡ 0 → EndsBy words known old new unread untouched end
-      → IsAllDone words known old new
+  done_end : (end : End) → status_of_end end ≡ 0 → EndsBy words known old new unread untouched end → IsAllDone words known old new
   done_end (Err (Words error)) s p = absurd (omega arith)
   done_end (Err (Bad line why)) s p = absurd (omega arith)
   done_end (Err (errors.Fault fault)) s p = absurd (omega arith)
@@ -641,28 +551,33 @@ module _ (words : List (List ℕ)) (known old new : Option (List ℕ)) (unread u
   done_end (Ok done) s (inr (inr (not_read, not_touched, inl (refused, for_words)))) = absurd for_words
   done_end (Ok done) s (inr (inr (not_read, not_touched, inr e))) = absurd (cc)
 
-  bad_end : (end : Result (Unit {0}) SessionError) → status_of_end end ≡ 3 → EndsBy words known old new unread untouched end
-      → IsBad words known old new
+  bad_end : (end : End) → status_of_end end ≡ 3 → EndsBy words known old new unread untouched end → IsBad words known old new
   bad_end (Ok done) s p = absurd (omega arith)
   bad_end (Err (Words error)) s p = absurd (omega arith)
   bad_end (Err (errors.Fault fault)) s p = absurd (omega arith)
   bad_end (Err Device) s p = absurd (omega arith)
   bad_end (Err (Bad line why)) s (inl (request, tells, runs, answers)) =
-      let (nothing, some) = request_bad request known old new line why answers in
-      (streams_or words request (Appends old new []) tells nothing, some)
+      let (no_stream, none, some) = request_bad request known old new line why answers in (
+        λ (other, asks, streams). no_stream (subst (λ (r : Request). r.mode.stream ≡ true) (same_request words other request asks tells) streams),
+        none,
+        some,
+      )
   bad_end (Err (Bad line why)) s (inr (inl (not_read, asks, printed_help))) =
       let four = one_text old new (Bad line why) printed_help in absurd (omega arith)
   bad_end (Err (Bad line why)) s (inr (inr (not_read, not_touched, inl (refused, for_words)))) = absurd for_words
   bad_end (Err (Bad line why)) s (inr (inr (not_read, not_touched, inr e))) = absurd (cc)
 
-  beginning_end : (end : Result (Unit {0}) SessionError) → (untouched → Appends old new []) → EndsBy words known old new unread untouched end
-      → HasBegun words known old new
-  beginning_end end kept (inl (request, tells, runs, answers)) = inr (inr (request, tells, request_front request known old new end answers))
+  beginning_end : (end : End) → (untouched → Appends old new []) → EndsBy words known old new unread untouched end → HasBegun words known old new
+  beginning_end end kept (inl (request, tells, runs, answers)) = by (request_front request known old new end answers)
+    where
+      by : Appends old new [] ⊎ IfSome known (HasBegunOn request old new) → HasBegun words known old new
+      by (inl none) = inr (inl none)
+      by (inr begun) = inr (inr (request, tells, begun))
   beginning_end end kept (inr (inl (not_read, asks, printed_help))) = inl asks
   beginning_end end kept (inr (inr (not_read, not_touched, q))) = inr (inl (kept not_touched))
 
 -- what a session's contract says of its status follows from how it ends
-pub record Follows (words : List (List ℕ)) (known old new : Option (List ℕ)) (unread untouched : Type 0) (status : ℕ) : Type 0 where
+pub record Follows (words : List Bytes) (known old new : Option Bytes) (unread untouched : Type 0) (status : ℕ) : Type 0 where
   pub status_is : (status ≡ 0) ⊎ (status ≡ 2) ⊎ (status ≡ 3) ⊎ (status ≡ 4)
   pub refused : (status ≡ 2) ↔ (AreRefused words × (status ≢ 4))
   pub untouched_is : AreRefused words → unread × untouched
@@ -670,8 +585,8 @@ pub record Follows (words : List (List ℕ)) (known old new : Option (List ℕ))
   pub bad : status ≡ 3 → IsBad words known old new
   pub beginning : HasBegun words known old new
 
-pub all_follows : (words : List (List ℕ)) (known old new : Option (List ℕ)) (unread untouched : Type 0) (status : ℕ) (end : Result (Unit {0}) SessionError) → status ≡ status_of_end end
-    → (untouched → Appends old new []) → EndsBy words known old new unread untouched end → Follows words known old new unread untouched status
+pub all_follows : (words : List Bytes) (known old new : Option Bytes) (unread untouched : Type 0) (status : ℕ) (end : End) → status ≡ status_of_end end → (untouched → Appends old new [])
+    → EndsBy words known old new unread untouched end → Follows words known old new unread untouched status
 all_follows words known old new unread untouched status end e kept p = record {
   status_is = status-one end status e;
   refused = refused_iff words known old new unread untouched end status e p;
@@ -682,7 +597,7 @@ all_follows words known old new unread untouched status end e kept p = record {
 }
 
 -- nothing was written to what is as it was
-pub Appends-same : {X : Type 0} (contents : X → Option (List ℕ)) (old new : X) → new ≡ old → Appends (contents old) (contents new) []
+pub Appends-same : {X : Type 0} (contents : X → Option Bytes) (old new : X) → new ≡ old → Appends (contents old) (contents new) []
 Appends-same {X} contents old new e = subst (λ (x : X). Appends (contents old) (contents x) []) (sym e) (Appends-nil (contents old))
 
 -- ---- words that give no settings
@@ -694,7 +609,7 @@ not_help kind refuses e = let bad : false ≡ true = subst (λ (k : ErrorKind). 
 not_memory : (kind : ErrorKind) → is_refusal kind ≡ true → kind ≢ OutOfMemory
 not_memory kind refuses e = let bad : false ≡ true = subst (λ (k : ErrorKind). is_refusal k ≡ true) e refuses in absurd (cc)
 
-module _ (words : List (List ℕ)) (known old new : Option (List ℕ)) (unread untouched : Type 0) (end : Result (Unit {0}) SessionError) (kind : ErrorKind) where
+module _ (words : List Bytes) (known old new : Option Bytes) (unread untouched : Type 0) (end : End) (kind : ErrorKind) where
   pub EndsBy-words : IsRightKind words kind → (kind ≡ DisplayHelp → PrintsOneText old new end) → (kind ≡ OutOfMemory → (end ≡ Err (errors.Fault NoMemory)) × untouched)
       → (kind ≢ DisplayHelp → kind ≢ OutOfMemory → IsForWords end × untouched) → unread → EndsBy words known old new unread untouched end
   EndsBy-words (inl memory) helps starves refuses not_read =
@@ -704,33 +619,10 @@ module _ (words : List (List ℕ)) (known old new : Option (List ℕ)) (unread u
       let (for_words, same) = refuses (not_help kind no_help_nor_memory) (not_memory kind no_help_nor_memory) in inr (inr (not_read, same, inl (refused, for_words)))
 
 -- words that tell something: the version is printed, or the batch file is run
-pub EndsBy-request : (words : List (List ℕ)) (known old new : Option (List ℕ)) (unread untouched : Type 0) (end : Result (Unit {0}) SessionError) (request : Request) → AsksFor words request
-    → (request.mode.version ≡ true → unread × Prints old new (version_text ∷ []) (Ok tt) end) → (request.mode.version ≡ false → IsAnswered request known old new end)
+pub EndsBy-request : (words : List Bytes) (known old new : Option Bytes) (unread untouched : Type 0) (end : End) (request : Request) → AsksFor words request
+    → (request.mode.version ≡ true → unread × Prints false old new (version_text ∷ []) (Ok tt) end) → (request.mode.version ≡ false → Answers request known old new end)
     → EndsBy words known old new unread untouched end
 EndsBy-request words known old new unread untouched end request tells shows runs = by request.mode.version refl where
   by : (b : Bool) → request.mode.version ≡ b → EndsBy words known old new unread untouched end
-  by true is = let (not_read, printed) = shows is in inr (inl (not_read, inr (request, tells, is), (version_text, printed)))
+  by true is = let (not_read, printed) = shows is in inr (inl (not_read, inr (request, tells, is), inl (version_text, printed)))
   by false is = inl (request, tells, is, runs is)
-
--- more is reported only where it is asked for
-pub more_if_asked : (words : List (List ℕ)) (request : Request) (more : List ℕ) → AsksFor words request → (request.mode.explain ≡ false → more ≡ []) → AsksToExplain words ⊎ (more ≡ [])
-more_if_asked words request more tells plain = by request.mode.explain refl where
-  by : (b : Bool) → request.mode.explain ≡ b → AsksToExplain words ⊎ (more ≡ [])
-  by true is = inl (request, tells, is)
-  by false is = inr (plain is)
-
--- where no line is bad a stream ends as another session does
-or_none : {X : Type 0} (o : Option X) → option_or o None ≡ o
-or_none None = refl
-or_none (Some x) = refl
-
-pub ends-alike : (start : Start) (shown : Reads) (orders : List Order) → end_streamed None start shown orders ≡ end_after None start shown orders
-ends-alike (Err fault) shown orders = refl
-ends-alike (Ok p) shown orders = ap stopped_by (or_none (option_map (λ fault. errors.Fault fault) (first_refusal p.0 p.1.0 shown orders)))
-
--- a session that is a stream, and one that isn't
-pub IsAnswered-stream : (request : Request) (known old new : Option (List ℕ)) (end : Result (Unit {0}) SessionError) → request.mode.stream ≡ true → Streams request known old new end → IsAnswered request known old new end
-IsAnswered-stream request known old new end is p = at_true request.mode.stream (Streams request known old new end) (Answers request known old new end) is p
-
-pub IsAnswered-text : (request : Request) (known old new : Option (List ℕ)) (end : Result (Unit {0}) SessionError) → request.mode.stream ≡ false → Answers request known old new end → IsAnswered request known old new end
-IsAnswered-text request known old new end is p = at_false request.mode.stream (Streams request known old new end) (Answers request known old new end) is p

@@ -1,5 +1,5 @@
 -- Lemmas on the message for an end, and on the words of the command line.
-use Rattle.std.proofs.Common.{◌≡◌, ◌∙◌, ℕ, List, [], ◌∷◌, ◌++◌, Option, Some, None, IfSome, Result, Ok, Err, IfOk, IfErr, sym, ap, subst, append-nil, append_assoc, arith}
+use Rattle.std.proofs.Common.{Bool, true, false, ◌≡◌, ◌⊎◌, inl, inr, ◌∙◌, refl, ℕ, List, [], ◌∷◌, ◌++◌, Option, Some, None, IfSome, Result, Ok, Err, IfOk, IfErr, sym, ap, subst, append-nil, append_assoc, arith}
 use Rattle.std.specs.Prelude.{OnOk, OnErr, IsOk}
 use Rattle.std.specs.List.{FoldsTo, concat}
 use Rattle.std.specs.Fmt.{WritesText}
@@ -8,7 +8,9 @@ use Rattle.bwsh.specs.declared.session.SessionError.{SessionError}
 use Rattle.bwsh.specs.declared.session.SessionError.TheVariants.{Words, Bad, Device}
 use Rattle.bwsh.specs.declared.session.SessionError.TheVariants as errors
 use Rattle.std.proofs.KnownBytes.{Appends-trans}
-use Rattle.bwsh.specs.Session.{status_of_end, BeginsWith, IsBegun, EndsReported}
+use Rattle.bwsh.specs.Options.{Request, AsksFor, AsksForReports, AsksToExplain, reports}
+use Rattle.bwsh.specs.Output.{BeginsWith, IsBegun}
+use Rattle.bwsh.specs.Session.{EndsReported, IsQuiet, IsReported, IsReportedWith, status_of_end}
 use Rattle.bwsh.proofs.Prints.{front-longer, front-more, front-whole}
 
 -- the status is 0 only with all done
@@ -50,7 +52,7 @@ line_ok None bytes (Ok x) old new is a = tt
 line_ok (Some bs) bytes (Ok x) old new is a = subst (Appends old new) is a
 
 pub line_err : (o : Option (List ℕ)) (bytes : List ℕ) (r : Result (Unit {0}) SessionError) (old new : Option (List ℕ)) → IfSome o (λ bs. bytes ≡ bs)
-    → OnErr r ((front : List ℕ) × BeginsWith bytes front × Appends old new front) → OnErr r (IfSome o (IsBegun old new))
+    → OnErr r (IsBegun old new bytes) → OnErr r (IfSome o (IsBegun old new))
 line_err o bytes (Ok x) old new is b = tt
 line_err None bytes (Err e) old new is b = tt
 line_err (Some bs) bytes (Err e) old new is b = subst (IsBegun old new) is b
@@ -79,7 +81,55 @@ begun_longer (Some text) old new more (front, begins, a) = (front, front-longer 
 
 -- after all of the text some of more was written, or all of it
 pub begun_with : {X : Type 0} (o : Option (List ℕ)) (old mid new : Option (List ℕ)) (more : List ℕ) (r : Result X SessionError) → IfSome o (Appends old mid) → OnOk r (Appends mid new more)
-    → OnErr r ((front : List ℕ) × BeginsWith more front × Appends mid new front) → IfSome o (λ text. IsBegun old new (text ++ more))
+    → OnErr r (IsBegun mid new more) → IfSome o (λ text. IsBegun old new (text ++ more))
 begun_with None old mid new more r a ok err = tt
 begun_with (Some text) old mid new more (Ok x) a ok err = (text ++ more, front-whole (text ++ more), Appends-trans old mid new text more a ok)
 begun_with (Some text) old mid new more (Err e) a ok (front, begins, b) = (text ++ front, front-more text more front begins, Appends-trans old mid new text front a b)
+
+-- ---- what a session reports
+
+-- what holds of the words that can be read
+pub at_words : {V Y : Type 0} (r : Result V Y) (all : V) (of : V → List (List ℕ)) (words : List (List ℕ)) (P : List (List ℕ) → Type 0) → r ≡ Ok all → words ≡ of all → P words
+    → IfOk r (λ v. P (of v))
+at_words {V} {Y} r all of words P is same p =
+    subst (λ (x : Result V Y). IfOk x (λ v. P (of v))) (sym is) (subst P same p)
+
+pub both_ok : {X Y : Type 0} (r : Result X Y) (P Q : X → Type 0) → IfOk r P → IfOk r Q → IfOk r (λ x. P x × Q x)
+both_ok (Ok x) P Q p q = (p, q)
+both_ok (Err e) P Q p q = tt
+
+-- more is reported only where it is asked for
+pub more_if_asked : (words : List (List ℕ)) (request : Request) (more : List ℕ) → AsksFor words request → (request.mode.explain ≡ false → more ≡ []) → AsksToExplain words ⊎ (more ≡ [])
+more_if_asked words request more tells plain = by request.mode.explain refl where
+  by : (b : Bool) → request.mode.explain ≡ b → AsksToExplain words ⊎ (more ≡ [])
+  by true is = inl (request, tells, is)
+  by false is = inr (plain is)
+
+-- and while it runs only where that is asked for
+pub reports_if_asked : {E : Type 0} (words : List (List ℕ)) (request : Request) (old new : E) → AsksFor words request → (reports request.mode ≡ false → new ≡ old) → AsksForReports words ⊎ (new ≡ old)
+reports_if_asked {E} words request old new tells quiet = by (reports request.mode) refl where
+  by : (b : Bool) → reports request.mode ≡ b → AsksForReports words ⊎ (new ≡ old)
+  by true is = inl (request, tells, is)
+  by false is = inr (quiet is)
+
+module _ {E : Type 0} (contents : E → Option (List ℕ)) (words : List (List ℕ)) (old mid new : E) (more : List ℕ) (quiet : AsksForReports words ⊎ (mid ≡ old)) (asked : AsksToExplain words ⊎ (more ≡ [])) where
+  -- an end is reported after what was reported while it ran
+  pub reported_after : (end : Result (Unit {0}) SessionError) → IfErr end (λ early. IsReportedWith more (Err early) (contents mid) (contents new))
+      → AsksForReports words ⊎ IfErr end (λ early. IsReported words (Err early) (contents old) (contents new))
+  reported_after end is = by quiet end is
+    where
+      by : AsksForReports words ⊎ (mid ≡ old) → (r : Result (Unit {0}) SessionError) → IfErr r (λ early. IsReportedWith more (Err early) (contents mid) (contents new))
+          → AsksForReports words ⊎ IfErr r (λ early. IsReported words (Err early) (contents old) (contents new))
+      by (inl loud) r p = inl loud
+      by (inr same) (Ok done) p = inr tt
+      by (inr same) (Err early) p = inr (more, asked, subst (λ (e : E). IsReportedWith more (Err early) (contents e) (contents new)) same p)
+
+  -- and where all is done nothing is, but a note
+  pub quiet_after : (more ≡ [] → new ≡ mid) → (new ≡ mid) ⊎ IsBegun (contents mid) (contents new) more → IsQuiet contents words old new
+  quiet_after nothing told = by quiet asked told
+    where
+      by : AsksForReports words ⊎ (mid ≡ old) → AsksToExplain words ⊎ (more ≡ []) → (new ≡ mid) ⊎ IsBegun (contents mid) (contents new) more → IsQuiet contents words old new
+      by (inl loud) asks t = inr (inl loud)
+      by (inr same) (inr none) t = inl (nothing none ∙ same)
+      by (inr same) (inl asks) (inl e) = inl (e ∙ same)
+      by (inr same) (inl asks) (inr begun) = inr (inr (asks, (more, subst (λ (e : E). IsBegun (contents e) (contents new) more) same begun)))

@@ -245,10 +245,10 @@ crew_with a b = record { workers = a; grain = b }
 pub crews_equal : {a b c d : ℕ} → a ≡ c → b ≡ d → crew_with a b ≡ crew_with c d
 crews_equal a b = rw (a, b) refl
 
-abbrev ways_with : Bool → Bool → Bool → Bool → Bool → ℕ → Bool → Mode
-ways_with a b c d e f g = record { version = a; explain = b; stat = c; clean_when_full = d; stream = e; tidy = f; progress = g }
+abbrev ways_with : Bool → Bool → Bool → Bool → Bool → ℕ → ℕ → Bool → Mode
+ways_with a b c d e f g h = record { version = a; explain = b; stat = c; clean_when_full = d; stream = e; tidy = f; wait = g; progress = h }
 
 -- so are ways
-pub ways_equal : {a b c d e g h i j k l n : Bool} {f m : ℕ} → a ≡ h → b ≡ i → c ≡ j → d ≡ k → e ≡ l → f ≡ m → g ≡ n
-    → ways_with a b c d e f g ≡ ways_with h i j k l m n
-ways_equal a b c d e f g = rw (a, b, c, d, e, f, g) refl
+pub ways_equal : {a b c d e h i j k l m p : Bool} {f g n o : ℕ} → a ≡ i → b ≡ j → c ≡ k → d ≡ l → e ≡ m → f ≡ n → g ≡ o → h ≡ p
+    → ways_with a b c d e f g h ≡ ways_with i j k l m n o p
+ways_equal a b c d e f g h = rw (a, b, c, d, e, f, g, h) refl

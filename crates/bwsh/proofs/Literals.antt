@@ -5,12 +5,12 @@ use Rattle.std.proofs.lemmas.Fmt.{decimal_digit}
 use Rattle.keys.specs.declared.command.Command.TheVariants.{Get, Put, Del, Scan, Wipe}
 use Rattle.keys.specs.declared.command.Reply.{Reply}
 use Rattle.keys.specs.declared.command.Reply.TheVariants.{Rows}
-use Rattle.bstr.specs.Text.{line_len, lines_from}
+use Rattle.bstr.specs.Text.{line_len, lines_from, without_terminator}
 use Rattle.bwsh.specs.declared.line.Line.{Line}
 use Rattle.bwsh.specs.declared.line.Line.TheVariants.{Blank, Go, Bad}
 use Rattle.bwsh.specs.declared.line.Line.TheVariants as line_variants
 use Rattle.bwsh.specs.declared.line.Why.TheVariants.{UnknownCommand, WordCount, BadToken, BadNumber}
-use Rattle.bwsh.specs.declared.batch_file.Order.TheVariants.{Batch, Flush, Upgrade, Verify}
+use Rattle.bwsh.specs.declared.order.Order.TheVariants.{Batch, BadLine, Copy, Flush, Stat, Tidy, Upgrade, Verify}
 use Rattle.bwsh.specs.Token.{token_bytes, shown_token}
 use Rattle.bwsh.specs.Words.{words_of}
 use Rattle.bwsh.specs.Line.{parse_line}
@@ -18,7 +18,8 @@ use Rattle.bwsh.specs.Number.{number_in}
 use Rattle.bwsh.specs.declared.options.asked.Mode.{Mode}
 use Rattle.bwsh.specs.Options.{asked, options, refused, request_by}
 use Rattle.bwsh.specs.Shown.{shown_reply}
-use Rattle.bwsh.specs.BatchFile.{lines, first_bad, orders_of}
+use Rattle.bwsh.specs.BatchFile.{asked as ordered, first_bad, orders_of, pieces}
+use Rattle.bwsh.specs.BatchFile.Pending.{begun}
 
 an_escape : token_bytes (codes "%41") ≡ Some (codes "A")
 an_escape = refl
@@ -56,36 +57,36 @@ some_words = refl
 no_words : words_of (32 ∷ 9 ∷ 32 ∷ []) ≡ []
 no_words = refl
 
-a_comment : parse_line (codes "  #put a 1") ≡ Blank
+a_comment : parse_line false (codes "  #put a 1") ≡ Blank
 a_comment = refl
 
-an_escaped_command : parse_line (codes "%67et a") ≡ Bad UnknownCommand
+an_escaped_command : parse_line false (codes "%67et a") ≡ Bad UnknownCommand
 an_escaped_command = refl
 
 -- the number of words goes before what they are
-a_word_too_few : parse_line (codes "put a%") ≡ Bad WordCount
+a_word_too_few : parse_line false (codes "put a%") ≡ Bad WordCount
 a_word_too_few = refl
 
-a_bad_token : parse_line (codes "put a% 1") ≡ Bad BadToken
+a_bad_token : parse_line false (codes "put a% 1") ≡ Bad BadToken
 a_bad_token = refl
 
-go_with_a_word : parse_line (codes "go a") ≡ Bad WordCount
+go_with_a_word : parse_line false (codes "go a") ≡ Bad WordCount
 go_with_a_word = refl
 
 -- the star is no upper bound, and else the key of one byte; zeros may stand in front of a number
-a_scan_without_bound : parse_line (codes "scan * * 005") ≡ Line.Command (Scan (42 ∷ []) None 5)
+a_scan_without_bound : parse_line false (codes "scan * * 005") ≡ Line.Command (Scan (42 ∷ []) None 5)
 a_scan_without_bound = refl
 
-a_scan_below_a_star : parse_line (codes "scan % %2A 4294967295") ≡ Line.Command (Scan [] (Some (42 ∷ [])) 4294967295)
+a_scan_below_a_star : parse_line false (codes "scan % %2A 4294967295") ≡ Line.Command (Scan [] (Some (42 ∷ [])) 4294967295)
 a_scan_below_a_star = refl
 
-a_wipe_without_bound : parse_line (codes "wipe % *") ≡ Line.Command (Wipe [] None)
+a_wipe_without_bound : parse_line false (codes "wipe % *") ≡ Line.Command (Wipe [] None)
 a_wipe_without_bound = refl
 
-a_wipe_up_to_a_key : parse_line (codes "wipe b d") ≡ Line.Command (Wipe (98 ∷ []) (Some (100 ∷ [])))
+a_wipe_up_to_a_key : parse_line false (codes "wipe b d") ≡ Line.Command (Wipe (98 ∷ []) (Some (100 ∷ [])))
 a_wipe_up_to_a_key = refl
 
-a_wipe_with_a_limit : parse_line (codes "wipe b d 3") ≡ Bad WordCount
+a_wipe_with_a_limit : parse_line false (codes "wipe b d 3") ≡ Bad WordCount
 a_wipe_with_a_limit = refl
 
 a_number_too_great : number_in (codes "4294967296") ≡ None
@@ -94,37 +95,37 @@ a_number_too_great = refl
 no_digits : number_in [] ≡ None
 no_digits = refl
 
-a_sign_in_front : parse_line (codes "scan a * +1") ≡ Bad BadNumber
+a_sign_in_front : parse_line false (codes "scan a * +1") ≡ Bad BadNumber
 a_sign_in_front = refl
 
 -- a limit isn't read as a token
-an_escaped_number : parse_line (codes "scan a * %31") ≡ Bad BadNumber
+an_escaped_number : parse_line false (codes "scan a * %31") ≡ Bad BadNumber
 an_escaped_number = refl
 
 -- what is no token goes before what is no number, and the number of words before both
-a_bad_token_first : parse_line (codes "scan a %g1 x") ≡ Bad BadToken
+a_bad_token_first : parse_line false (codes "scan a %g1 x") ≡ Bad BadToken
 a_bad_token_first = refl
 
-no_limit : parse_line (codes "scan %g1 *") ≡ Bad WordCount
+no_limit : parse_line false (codes "scan %g1 *") ≡ Bad WordCount
 no_limit = refl
 
-verify_alone : parse_line (codes " verify ") ≡ line_variants.Verify
+verify_alone : parse_line false (codes " verify ") ≡ line_variants.Order Verify
 verify_alone = refl
 
-flush_alone : parse_line (codes "flush") ≡ line_variants.Flush
+flush_alone : parse_line false (codes "flush") ≡ line_variants.Order Flush
 flush_alone = refl
 
-upgrade_alone : parse_line (codes "upgrade") ≡ line_variants.Upgrade
+upgrade_alone : parse_line false (codes "upgrade") ≡ line_variants.Order Upgrade
 upgrade_alone = refl
 
-upgrade_with_a_word : parse_line (codes "upgrade x") ≡ Bad WordCount
+upgrade_with_a_word : parse_line false (codes "upgrade x") ≡ Bad WordCount
 upgrade_with_a_word = refl
 
-verify_with_a_word : parse_line (codes "verify 1") ≡ Bad WordCount
+verify_with_a_word : parse_line false (codes "verify 1") ≡ Bad WordCount
 verify_with_a_word = refl
 
 seven_lines : List Line
-seven_lines = map parse_line (codes "get a" ∷ codes "put a 1" ∷ codes "get a" ∷ codes "put a 2" ∷ codes "get a" ∷ codes "del a" ∷ codes "get a" ∷ [])
+seven_lines = map (parse_line false) (codes "get a" ∷ codes "put a 1" ∷ codes "get a" ∷ codes "put a 2" ∷ codes "get a" ∷ codes "del a" ∷ codes "get a" ∷ [])
 
 one_batch_of_seven : orders_of [] seven_lines ≡ Batch (Get (97 ∷ []) ∷ Put (97 ∷ []) (49 ∷ []) ∷ Get (97 ∷ []) ∷ Put (97 ∷ []) (50 ∷ []) ∷ Get (97 ∷ []) ∷ Del (97 ∷ []) ∷ Get (97 ∷ []) ∷ []) ∷ []
 unfolding seven_lines
@@ -134,29 +135,68 @@ none_of_seven_is_bad : first_bad 1 seven_lines ≡ None
 unfolding seven_lines
 none_of_seven_is_bad = refl
 
-the_second_is_bad : first_bad 1 (map parse_line (codes "put a 1" ∷ codes "frob x" ∷ codes "put" ∷ [])) ≡ Some (2, UnknownCommand)
+the_second_is_bad : first_bad 1 (map (parse_line false) (codes "put a 1" ∷ codes "frob x" ∷ codes "put" ∷ [])) ≡ Some (2, UnknownCommand)
 the_second_is_bad = refl
 
 -- a flush and a verify run the pending batch only where it has commands
-flushes : orders_of [] (map parse_line (codes "flush" ∷ codes "get a" ∷ codes "flush" ∷ codes "verify" ∷ [])) ≡ Flush ∷ Batch (Get (97 ∷ []) ∷ []) ∷ Flush ∷ Verify ∷ []
+flushes : orders_of [] (map (parse_line false) (codes "flush" ∷ codes "get a" ∷ codes "flush" ∷ codes "verify" ∷ [])) ≡ Flush ∷ Batch (Get (97 ∷ []) ∷ []) ∷ Flush ∷ Verify ∷ []
 flushes = refl
 
 -- so does an upgrade
-upgrades : orders_of [] (map parse_line (codes "upgrade" ∷ codes "get a" ∷ codes "upgrade" ∷ [])) ≡ Upgrade ∷ Batch (Get (97 ∷ []) ∷ []) ∷ Upgrade ∷ []
+upgrades : orders_of [] (map (parse_line false) (codes "upgrade" ∷ codes "get a" ∷ codes "upgrade" ∷ [])) ≡ Upgrade ∷ Batch (Get (97 ∷ []) ∷ []) ∷ Upgrade ∷ []
 upgrades = refl
 
-verifies : orders_of [] (map parse_line (codes "verify" ∷ codes "get a" ∷ codes "verify" ∷ codes "go" ∷ [])) ≡ Verify ∷ Batch (Get (97 ∷ []) ∷ []) ∷ Verify ∷ Batch [] ∷ []
+verifies : orders_of [] (map (parse_line false) (codes "verify" ∷ codes "get a" ∷ codes "verify" ∷ codes "go" ∷ [])) ≡ Verify ∷ Batch (Get (97 ∷ []) ∷ []) ∷ Verify ∷ Batch [] ∷ []
 verifies = refl
 
 an_empty_batch : orders_of [] (Go ∷ Blank ∷ Go ∷ []) ≡ Batch [] ∷ Batch [] ∷ []
 an_empty_batch = refl
 
--- only one LF or CR LF is cut from a line, and none from the last where there is none
-line_ends : lines (codes "a" ++ 13 ∷ 10 ∷ codes "b" ++ 13 ∷ 13 ∷ 10 ∷ 10 ∷ codes "c" ++ 13 ∷ []) ≡ codes "a" ∷ (98 ∷ 13 ∷ []) ∷ [] ∷ (99 ∷ 13 ∷ []) ∷ []
+-- in a stream a bad line is answered, and its batch is skipped up to the line that ends it
+a_stream : List Line
+a_stream = map (parse_line true) (codes "put a 1" ∷ codes "frob" ∷ codes "get a" ∷ codes "go" ∷ codes "get a" ∷ codes ".stat" ∷ [])
+
+a_skipped_batch : ordered true 1 (begun []) a_stream ≡ BadLine 2 UnknownCommand ∷ Batch (Get (97 ∷ []) ∷ []) ∷ Stat ∷ []
+unfolding a_stream
+a_skipped_batch = refl
+
+-- the line that ends a skipped batch runs what it orders itself
+a_flush_after_it : ordered true 1 (begun []) (map (parse_line true) (codes "put" ∷ codes "flush" ∷ [])) ≡ BadLine 1 WordCount ∷ Flush ∷ []
+a_flush_after_it = refl
+
+-- what begins with a dot is known in streams alone
+a_dot_in_a_text : parse_line false (codes ".stat") ≡ Bad UnknownCommand
+a_dot_in_a_text = refl
+
+an_unknown_dot : parse_line true (codes ".frob") ≡ Bad UnknownCommand
+an_unknown_dot = refl
+
+a_copy : parse_line true (codes ".copy a%20b") ≡ line_variants.Order (Copy (97 ∷ 32 ∷ 98 ∷ []) None)
+a_copy = refl
+
+a_copy_with_segments : parse_line true (codes ".copy a 32") ≡ line_variants.Order (Copy (97 ∷ []) (Some 32))
+a_copy_with_segments = refl
+
+a_copy_of_no_number : parse_line true (codes ".copy a x") ≡ Bad BadNumber
+a_copy_of_no_number = refl
+
+a_tidy : parse_line true (codes ".tidy 7") ≡ line_variants.Order (Tidy 7)
+a_tidy = refl
+
+-- each line has its end: a line feed, or none where it is the last of a text; in a stream that one is no line
+three_pieces : pieces false (97 ∷ 13 ∷ 10 ∷ 10 ∷ 98 ∷ []) ≡ (97 ∷ 13 ∷ 10 ∷ []) ∷ (10 ∷ []) ∷ (98 ∷ []) ∷ []
 unfolding line_len lines_from
+three_pieces = refl
+
+two_pieces : pieces true (97 ∷ 13 ∷ 10 ∷ 10 ∷ 98 ∷ []) ≡ (97 ∷ 13 ∷ 10 ∷ []) ∷ (10 ∷ []) ∷ []
+unfolding line_len lines_from
+two_pieces = refl
+
+-- only one LF or CR LF is cut from a line
+line_ends : map without_terminator ((97 ∷ 13 ∷ 10 ∷ []) ∷ (98 ∷ 13 ∷ 13 ∷ 10 ∷ []) ∷ (10 ∷ []) ∷ (99 ∷ 13 ∷ []) ∷ []) ≡ (97 ∷ []) ∷ (98 ∷ 13 ∷ []) ∷ [] ∷ (99 ∷ 13 ∷ []) ∷ []
 line_ends = refl
 
-no_line : lines [] ≡ []
+no_line : pieces false [] ≡ []
 unfolding line_len lines_from
 no_line = refl
 
@@ -175,7 +215,7 @@ some_options = refl
 
 -- a session that differs in nothing from one without options
 abbrev no_ways : Mode
-no_ways = record { version = false; explain = false; stat = false; clean_when_full = false; stream = false; tidy = 0; progress = false }
+no_ways = record { version = false; explain = false; stat = false; clean_when_full = false; stream = false; tidy = 0; wait = 0; progress = false }
 
 request_options : request_by ((codes "create", codes "true") ∷ (codes "disk", codes "a b") ∷ (codes "fan", codes "8") ∷ [])
     ≡ record { settings = record { fan = 8; chain = 4; max_key = 64; max_value = 256; seg_size = 65536; segments = 64 }; crew = record { workers = 1; grain = 64 }; disk = Some (codes "a b"); create = true; copy_to = None; mode = no_ways }
@@ -209,7 +249,8 @@ request_version = refl
 request_to_explain : (request_by ((codes "explain", codes "true") ∷ [])).mode ≡ record no_ways { explain = true }
 request_to_explain = refl
 
-request_of_tidying : (request_by ((codes "tidy", codes "007") ∷ (codes "progress", codes "true") ∷ [])).mode ≡ record no_ways { tidy = 7; progress = true }
+request_of_tidying : (request_by ((codes "tidy", codes "007") ∷ (codes "wait", codes "30") ∷ (codes "progress", codes "true") ∷ [])).mode
+    ≡ record no_ways { tidy = 7; wait = 30; progress = true }
 request_of_tidying = refl
 
 -- each option that takes a path has its own

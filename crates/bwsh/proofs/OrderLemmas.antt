@@ -1,19 +1,22 @@
--- Lemmas on the orders of a batch file.
-use Rattle.std.proofs.Common.{◌≡◌, ◌+◌, ℕ, suc, Bool, true, false, length, Option, Some, None, arith, List, [], ◌∷◌, ◌++◌, map, refl, sym, ap, ◌∙◌, append_assoc, append-nil, length-append, ap₂}
-use Rattle.std.specs.Prelude.{if◌then◌else◌}
-use Rattle.std.specs.List.{AllByRecursion, flat_map}
+-- Lemmas on lines and the orders that they make.
+use Rattle.std.proofs.Common.{◌≡◌, ◌+◌, ◌||◌, ◌&&◌, ◌<◌, ◌⊎◌, ℕ, Bool, true, false, cond, ltb, length, not, Option, Some, None, Result, Ok, Err, IfErr, IsErrAnd, arith, List, [], ◌∷◌, ◌++◌, map, refl, sym, ap, ◌∙◌, append_assoc, append-nil, length-append, inl, inr, subst}
+use Rattle.std.specs.List.{AllByRecursion, flat_map, list_all, list_any}
 use Rattle.std.specs.declared.alloc.Global.{Global}
-use Rattle.keys.specs.Bytes.{Bytes}
+use Rattle.std.proofs.lemmas.Bool.{and_parts, lt-ltb, ltb-true}
 use Rattle.keys.specs.declared.command.Command.{Command}
+use Rattle.keys.specs.Bytes.{Bytes}
 use Rattle.bwsh.specs.declared.line.Line.{Line}
 use Rattle.bwsh.specs.declared.line.Line.TheVariants.{Blank, Go, Bad}
 use Rattle.bwsh.specs.declared.line.Line.TheVariants as line_variants
-use Rattle.bwsh.specs.declared.batch_file.Order.{Order}
-use Rattle.bwsh.specs.declared.batch_file.Order.TheVariants.{Batch, Flush, Clean, Upgrade, Verify, Numbers}
 use Rattle.bwsh.specs.declared.line.Why.{Why}
-use Rattle.bwsh.specs.KeptBatch.{command_in}
-use Rattle.bwsh.specs.Line.{bad_of, is_command, parse_line}
-use Rattle.bwsh.specs.BatchFile.{ended_by, first_bad, last_order, orders_of, streamed, unended, with_numbers, commands_of, commands_of_lines, batch_lines, IsBatch, IsForBatches}
+use Rattle.bwsh.specs.declared.order.Order.{Order}
+use Rattle.bwsh.specs.declared.order.Order.TheVariants.{Batch}
+use Rattle.bwsh.specs.declared.session.SessionError.{SessionError}
+use Rattle.bwsh.specs.declared.session.SessionError.TheVariants as errors
+use Rattle.bwsh.specs.BatchFile.{IsBatch, IsForBatches, IsReadError, IsWithin, asked, batch_lines, commands_of, commands_of_lines, first_bad, is_short, is_short_order, is_too_long, last_order, line_writes, or_too_long, orders_of, writes}
+use Rattle.bwsh.specs.BatchFile.Pending.{begun, skipped}
+
+-- ---- commands
 
 commands-last_order : (pending : List (Command Global)) → flat_map commands_of (last_order pending) ≡ pending ++ []
 commands-last_order [] = refl
@@ -27,18 +30,14 @@ commands-last_first (command ∷ commands) orders = refl
 -- the pending commands come first, and then those that the lines say
 pub commands-orders_of : (pending : List (Command Global)) (parsed : List Line) → flat_map commands_of (orders_of pending parsed) ≡ pending ++ commands_of_lines parsed
 commands-orders_of pending [] = commands-last_order pending
-commands-orders_of pending (Line.Command command ∷ rest) = commands-orders_of (pending ++ command ∷ []) rest ∙ append_assoc pending (command ∷ []) (commands_of_lines rest)
+commands-orders_of pending (line_variants.Command command ∷ rest) =
+    commands-orders_of (pending ++ command ∷ []) rest ∙ append_assoc pending (command ∷ []) (commands_of_lines rest)
 commands-orders_of pending (Go ∷ rest) = ap (λ (cs : List (Command Global)). pending ++ cs) (commands-orders_of [] rest)
-commands-orders_of pending (line_variants.Flush ∷ rest) =
-    commands-last_first pending (Flush ∷ orders_of [] rest) ∙ ap (λ (cs : List (Command Global)). pending ++ cs) (commands-orders_of [] rest)
-commands-orders_of pending (line_variants.Clean ∷ rest) =
-    commands-last_first pending (Clean ∷ orders_of [] rest) ∙ ap (λ (cs : List (Command Global)). pending ++ cs) (commands-orders_of [] rest)
-commands-orders_of pending (line_variants.Upgrade ∷ rest) =
-    commands-last_first pending (Upgrade ∷ orders_of [] rest) ∙ ap (λ (cs : List (Command Global)). pending ++ cs) (commands-orders_of [] rest)
-commands-orders_of pending (line_variants.Verify ∷ rest) =
-    commands-last_first pending (Verify ∷ orders_of [] rest) ∙ ap (λ (cs : List (Command Global)). pending ++ cs) (commands-orders_of [] rest)
+commands-orders_of pending (line_variants.Order order ∷ rest) =
+    commands-last_first pending (order ∷ orders_of [] rest) ∙ ap (λ (cs : List (Command Global)). pending ++ (commands_of order ++ cs)) (commands-orders_of [] rest)
 commands-orders_of pending (Blank ∷ rest) = commands-orders_of pending rest
 commands-orders_of pending (Bad why ∷ rest) = commands-orders_of pending rest
+commands-orders_of pending (line_variants.Lost ∷ rest) = commands-orders_of pending rest
 
 one_batch : (pending commands : List (Command Global)) (rest : List Line) → orders_of pending (batch_lines commands ++ rest) ≡ Batch (pending ++ commands) ∷ orders_of [] rest
 one_batch pending [] rest = ap (λ (cs : List (Command Global)). Batch cs ∷ orders_of [] rest) (sym (append-nil pending))
@@ -53,142 +52,158 @@ orders_of-batch_lines (commands ∷ batches) =
     one_batch [] commands (flat_map batch_lines batches)
     ∙ ap (λ (orders : List Order). Batch commands ∷ orders) (orders_of-batch_lines batches)
 
--- where no line says `flush`, `clean`, `upgrade` or `verify`, all orders are batches
+-- where each line says a command, `go` or nothing, all orders are batches
 batches-last_order : (pending : List (Command Global)) → AllByRecursion IsBatch (last_order pending)
 batches-last_order [] = tt
 batches-last_order (command ∷ commands) = (tt, tt)
 
 pub batches-orders_of : (pending : List (Command Global)) (parsed : List Line) → AllByRecursion IsForBatches parsed → AllByRecursion IsBatch (orders_of pending parsed)
 batches-orders_of pending [] only = batches-last_order pending
-batches-orders_of pending (Line.Command command ∷ rest) only = batches-orders_of (pending ++ command ∷ []) rest only.1
+batches-orders_of pending (line_variants.Command command ∷ rest) only = batches-orders_of (pending ++ command ∷ []) rest only.1
 batches-orders_of pending (Go ∷ rest) only = (tt, batches-orders_of [] rest only.1)
-batches-orders_of pending (line_variants.Flush ∷ rest) only = absurd only.0
-batches-orders_of pending (line_variants.Clean ∷ rest) only = absurd only.0
-batches-orders_of pending (line_variants.Upgrade ∷ rest) only = absurd only.0
-batches-orders_of pending (line_variants.Verify ∷ rest) only = absurd only.0
+batches-orders_of pending (line_variants.Order order ∷ rest) only = absurd only.0
 batches-orders_of pending (Blank ∷ rest) only = batches-orders_of pending rest only.1
 batches-orders_of pending (Bad why ∷ rest) only = batches-orders_of pending rest only.1
+batches-orders_of pending (line_variants.Lost ∷ rest) only = batches-orders_of pending rest only.1
 
--- ---- streams
+-- ---- what a text writes
 
--- the numbers come after all
-numbers-after_order : (numbers : Bool) (front rest : List Order) → front ++ with_numbers numbers rest ≡ with_numbers numbers (front ++ rest)
-numbers-after_order true front rest = sym (append_assoc front rest (Numbers ∷ []))
-numbers-after_order false front rest = refl
+writes-last_order : (pending : List (Command Global)) → list_any writes (last_order pending) ≡ false
+writes-last_order [] = refl
+writes-last_order (command ∷ commands) = refl
 
--- what a line that ends a batch orders, before what is ordered after it
-ended-first : (numbers : Bool) (pending : List (Command Global)) (order : Order) (later all : List Order) → later ≡ with_numbers numbers all
-    → last_order pending ++ order ∷ later ≡ with_numbers numbers (last_order pending ++ order ∷ all)
-ended-first numbers pending order later all e =
-    ap (λ (os : List Order). last_order pending ++ order ∷ os) e
-    ∙ ap (λ (os : List Order). last_order pending ++ os) (numbers-after_order numbers (order ∷ []) all)
-    ∙ numbers-after_order numbers (last_order pending) (order ∷ all)
+writes-last_first : (pending : List (Command Global)) (orders : List Order) → list_any writes (last_order pending ++ orders) ≡ list_any writes orders
+writes-last_first [] orders = refl
+writes-last_first (command ∷ commands) orders = refl
 
--- where no line is bad a stream orders all
-pub streamed-all : (numbers : Bool) (n : ℕ) (pending : List (Command Global)) (parsed : List Line) → first_bad n parsed ≡ None
-    → streamed numbers pending parsed ≡ with_numbers numbers (orders_of pending parsed)
-streamed-all numbers n pending [] good = refl
-streamed-all numbers n pending (Line.Command command ∷ rest) good = streamed-all numbers (n + 1) (pending ++ command ∷ []) rest good
-streamed-all numbers n pending (Go ∷ rest) good =
-    ap (λ (os : List Order). Batch pending ∷ os) (streamed-all numbers (n + 1) [] rest good) ∙ numbers-after_order numbers (Batch pending ∷ []) (orders_of [] rest)
-streamed-all numbers n pending (line_variants.Flush ∷ rest) good = ended-first numbers pending Flush _ (orders_of [] rest) (streamed-all numbers (n + 1) [] rest good)
-streamed-all numbers n pending (line_variants.Clean ∷ rest) good = ended-first numbers pending Clean _ (orders_of [] rest) (streamed-all numbers (n + 1) [] rest good)
-streamed-all numbers n pending (line_variants.Upgrade ∷ rest) good = ended-first numbers pending Upgrade _ (orders_of [] rest) (streamed-all numbers (n + 1) [] rest good)
-streamed-all numbers n pending (line_variants.Verify ∷ rest) good = ended-first numbers pending Verify _ (orders_of [] rest) (streamed-all numbers (n + 1) [] rest good)
-streamed-all numbers n pending (Blank ∷ rest) good = streamed-all numbers (n + 1) pending rest good
-streamed-all numbers n pending (Bad why ∷ rest) good = absurd (cc)
+-- an order of the lines writes where a line is such an order
+pub writes-orders_of : (pending : List (Command Global)) (parsed : List Line) → list_any writes (orders_of pending parsed) ≡ list_any line_writes parsed
+writes-orders_of pending [] = writes-last_order pending
+writes-orders_of pending (line_variants.Command command ∷ rest) = writes-orders_of (pending ++ command ∷ []) rest
+writes-orders_of pending (Go ∷ rest) = writes-orders_of [] rest
+writes-orders_of pending (line_variants.Order order ∷ rest) =
+    writes-last_first pending (order ∷ orders_of [] rest) ∙ ap (λ (b : Bool). writes order || b) (writes-orders_of [] rest)
+writes-orders_of pending (Blank ∷ rest) = writes-orders_of pending rest
+writes-orders_of pending (Bad why ∷ rest) = writes-orders_of pending rest
+writes-orders_of pending (line_variants.Lost ∷ rest) = writes-orders_of pending rest
 
--- up to a bad line it orders what the lines before it do, but for what these don't end
-ended-before : (pending : List (Command Global)) (order : Order) (later all last : List Order) → all ≡ later ++ last
-    → last_order pending ++ order ∷ all ≡ (last_order pending ++ order ∷ later) ++ last
-ended-before pending order later all last e =
-    ap (λ (os : List Order). last_order pending ++ order ∷ os) e ∙ sym (append_assoc (last_order pending) (order ∷ later) last)
+or_assoc : (a b c : Bool) → ((a || b) || c) ≡ (a || (b || c))
+or_assoc true b c = refl
+or_assoc false b c = refl
 
-pub streamed-before : (numbers : Bool) (n : ℕ) (pending : List (Command Global)) (front : List Line) → first_bad n front ≡ None → (why : Why) (rest : List Line)
-    → orders_of pending front ≡ streamed numbers pending (front ++ Bad why ∷ rest) ++ last_order (unended pending front)
-streamed-before numbers n pending [] good why rest = refl
-streamed-before numbers n pending (Line.Command command ∷ front) good why rest = streamed-before numbers (n + 1) (pending ++ command ∷ []) front good why rest
-streamed-before numbers n pending (Go ∷ front) good why rest = ap (λ (os : List Order). Batch pending ∷ os) (streamed-before numbers (n + 1) [] front good why rest)
-streamed-before numbers n pending (line_variants.Flush ∷ front) good why rest =
-    ended-before pending Flush (streamed numbers [] (front ++ Bad why ∷ rest)) _ _ (streamed-before numbers (n + 1) [] front good why rest)
-streamed-before numbers n pending (line_variants.Clean ∷ front) good why rest =
-    ended-before pending Clean (streamed numbers [] (front ++ Bad why ∷ rest)) _ _ (streamed-before numbers (n + 1) [] front good why rest)
-streamed-before numbers n pending (line_variants.Upgrade ∷ front) good why rest =
-    ended-before pending Upgrade (streamed numbers [] (front ++ Bad why ∷ rest)) _ _ (streamed-before numbers (n + 1) [] front good why rest)
-streamed-before numbers n pending (line_variants.Verify ∷ front) good why rest =
-    ended-before pending Verify (streamed numbers [] (front ++ Bad why ∷ rest)) _ _ (streamed-before numbers (n + 1) [] front good why rest)
-streamed-before numbers n pending (Blank ∷ front) good why rest = streamed-before numbers (n + 1) pending front good why rest
-streamed-before numbers n pending (Bad other ∷ front) good why rest = absurd (cc)
+or_false : (a : Bool) → (a || false) ≡ a
+or_false true = refl
+or_false false = refl
 
--- and this bad line is the first
-counted_on : (n k : ℕ) → n + 1 + k ≡ n + suc k
-counted_on n k = omega arith
+-- one line further, what was written so far and what is left write the same
+pub writes-next : (before after : Bool) (said : Line) (rest : List Line) (all : Bool) → (before || list_any line_writes (said ∷ rest)) ≡ all
+    → after ≡ (before || line_writes said) → (after || list_any line_writes rest) ≡ all
+writes-next before after said rest all e is = ap (λ (b : Bool). b || list_any line_writes rest) is ∙ or_assoc before (line_writes said) (list_any line_writes rest) ∙ e
 
-found_on : (n k : ℕ) (why : Why) (o : Option (ℕ × Why)) → o ≡ Some (n + 1 + k, why) → o ≡ Some (n + suc k, why)
-found_on n k why o e = e ∙ ap (λ (m : ℕ). Some (m, why)) (counted_on n k)
+-- after the last line, what was written is what the orders write
+pub writes-end : (before after : Bool) (parsed : List Line) → (before || list_any line_writes []) ≡ list_any line_writes parsed → after ≡ before
+    → after ≡ list_any writes (orders_of [] parsed)
+writes-end before after parsed e is = is ∙ sym (or_false before) ∙ e ∙ sym (writes-orders_of [] parsed)
 
-pub first_bad-after_order : (n : ℕ) (front : List Line) → first_bad n front ≡ None → (why : Why) (rest : List Line) → first_bad n (front ++ Bad why ∷ rest) ≡ Some (n + length front, why)
-first_bad-after_order n [] good why rest = ap (λ (m : ℕ). Some (m, why)) (omega arith)
-first_bad-after_order n (Line.Command command ∷ front) good why rest = found_on n (length front) why _ (first_bad-after_order (n + 1) front good why rest)
-first_bad-after_order n (Go ∷ front) good why rest = found_on n (length front) why _ (first_bad-after_order (n + 1) front good why rest)
-first_bad-after_order n (line_variants.Flush ∷ front) good why rest = found_on n (length front) why _ (first_bad-after_order (n + 1) front good why rest)
-first_bad-after_order n (line_variants.Clean ∷ front) good why rest = found_on n (length front) why _ (first_bad-after_order (n + 1) front good why rest)
-first_bad-after_order n (line_variants.Upgrade ∷ front) good why rest = found_on n (length front) why _ (first_bad-after_order (n + 1) front good why rest)
-first_bad-after_order n (line_variants.Verify ∷ front) good why rest = found_on n (length front) why _ (first_bad-after_order (n + 1) front good why rest)
-first_bad-after_order n (Blank ∷ front) good why rest = found_on n (length front) why _ (first_bad-after_order (n + 1) front good why rest)
-first_bad-after_order n (Bad other ∷ front) good why rest = absurd (cc)
+-- ---- the first bad line
 
-pub first_bad-from_one : (front : List Line) → first_bad 1 front ≡ None → (why : Why) (rest : List Line) → first_bad 1 (front ++ Bad why ∷ rest) ≡ Some (length front + 1, why)
-first_bad-from_one front good why rest = first_bad-after_order 1 front good why rest ∙ ap (λ (m : ℕ). Some (m, why)) (omega arith)
+-- a line that was read, and is neither bad nor lost, is as it says
+pub read_within : (said got : Line) → (got ≡ said) ⊎ (got ≡ line_variants.Lost) → IsWithin (got ∷ []) → got ≡ said
+read_within said got (inl e) within = e
+read_within said got (inr e) within = absurd (subst (λ (l : Line). IsWithin (l ∷ [])) e within)
 
--- ---- one line, in front of others
+first_bad-within : (n : ℕ) (said : Line) (rest : List Line) → IsWithin (said ∷ []) → first_bad n (said ∷ rest) ≡ first_bad (n + 1) rest
+first_bad-within n Blank rest within = refl
+first_bad-within n (line_variants.Command command) rest within = refl
+first_bad-within n Go rest within = refl
+first_bad-within n (line_variants.Order order) rest within = refl
+first_bad-within n (Bad why) rest within = absurd within
+first_bad-within n line_variants.Lost rest within = absurd within
 
-ordered_ahead : (pending : List (Command Global)) (order : Order) (rest : List Line) → last_order pending ++ order ∷ orders_of [] rest ≡ (last_order pending ++ order ∷ []) ++ orders_of [] rest
-ordered_ahead pending order rest = sym (append_assoc (last_order pending) (order ∷ []) (orders_of [] rest))
+-- then the first bad line is one of the others
+pub first_bad-next : (n : ℕ) (said got : Line) (rest : List Line) → (got ≡ said) ⊎ (got ≡ line_variants.Lost) → IsWithin (got ∷ [])
+    → first_bad n (said ∷ rest) ≡ first_bad (n + 1) rest
+first_bad-next n said got rest read within =
+    first_bad-within n said rest (subst (λ (l : Line). IsWithin (l ∷ [])) (read_within said got read within) within)
 
--- what lines order is what the first of them ends, and then what the others order
-pub orders_of-first : (pending : List (Command Global)) (parsed : Line) (rest : List Line) → orders_of pending (parsed ∷ rest) ≡ ended_by pending parsed ++ orders_of (unended pending (parsed ∷ [])) rest
-orders_of-first pending Blank rest = refl
-orders_of-first pending (Line.Command command) rest = refl
-orders_of-first pending Go rest = refl
-orders_of-first pending line_variants.Flush rest = ordered_ahead pending Flush rest
-orders_of-first pending line_variants.Clean rest = ordered_ahead pending Clean rest
-orders_of-first pending line_variants.Upgrade rest = ordered_ahead pending Upgrade rest
-orders_of-first pending line_variants.Verify rest = ordered_ahead pending Verify rest
-orders_of-first pending (Bad why) rest = refl
+-- an error for which no line is bad is right, whichever line is
+error_without_bad : (bad : Option (ℕ × Why)) (e : SessionError) → IsReadError None e → IsReadError bad e
+error_without_bad bad (errors.Words error) right = right
+error_without_bad bad (errors.Bad line why) right = absurd (let none : None ≡ Some (line, why) = right in cc)
+error_without_bad bad (errors.Fault fault) right = right
+error_without_bad bad errors.Device right = tt
 
-pub first_bad-next : (n : ℕ) (parsed : Line) (rest : List Line) → bad_of parsed ≡ None → first_bad n (parsed ∷ rest) ≡ first_bad (n + 1) rest
-first_bad-next n Blank rest good = refl
-first_bad-next n (Line.Command command) rest good = refl
-first_bad-next n Go rest good = refl
-first_bad-next n line_variants.Flush rest good = refl
-first_bad-next n line_variants.Clean rest good = refl
-first_bad-next n line_variants.Upgrade rest good = refl
-first_bad-next n line_variants.Verify rest good = refl
-first_bad-next n (Bad why) rest good = absurd (cc)
+error_of_line : (n : ℕ) (said : Line) (rest : List Line) (e : SessionError) → IsReadError (first_bad n (said ∷ [])) e → IsReadError (first_bad n (said ∷ rest)) e
+error_of_line n Blank rest e right = error_without_bad (first_bad (n + 1) rest) e right
+error_of_line n (line_variants.Command command) rest e right = error_without_bad (first_bad (n + 1) rest) e right
+error_of_line n Go rest e right = error_without_bad (first_bad (n + 1) rest) e right
+error_of_line n (line_variants.Order order) rest e right = error_without_bad (first_bad (n + 1) rest) e right
+error_of_line n (Bad why) rest e right = right
+error_of_line n line_variants.Lost rest e right = error_without_bad (first_bad (n + 1) rest) e right
 
--- what was ordered so far, and what the lines that are left order, stays the same
-pub orders-next : (orders more : List Order) (pending left : List (Command Global)) (parsed : Line) (rest : List Line) (all : List Order) → orders ++ orders_of pending (parsed ∷ rest) ≡ all
-    → more ≡ orders ++ ended_by pending parsed → left ≡ unended pending (parsed ∷ []) → more ++ orders_of left rest ≡ all
-orders-next orders more pending left parsed rest all e more_is left_is =
-    ap₂ (λ (os : List Order) (p : List (Command Global)). os ++ orders_of p rest) more_is left_is
-    ∙ append_assoc orders (ended_by pending parsed) (orders_of (unended pending (parsed ∷ [])) rest)
-    ∙ ap (λ (os : List Order). orders ++ os) (sym (orders_of-first pending parsed rest))
-    ∙ e
+-- an error of a line is one of the text, where this line is the first of those that are left
+pub read_error : (n : ℕ) (said got : Line) (rest : List Line) (bad : Option (ℕ × Why)) (e : SessionError) → (got ≡ said) ⊎ (got ≡ line_variants.Lost)
+    → first_bad n (said ∷ rest) ≡ bad → IsReadError (first_bad n (got ∷ [])) e → IsReadError bad e
+read_error n said got rest bad e (inl same) is right =
+    subst (λ (o : Option (ℕ × Why)). IsReadError o e) is (error_of_line n said rest e (subst (λ (l : Line). IsReadError (first_bad n (l ∷ [])) e) same right))
+read_error n said got rest bad e (inr lost) is right = error_without_bad bad e (subst (λ (l : Line). IsReadError (first_bad n (l ∷ [])) e) lost right)
 
-only_pending : (pending : List (Command Global)) (command : Command Global) (line : Bytes) → Line.Command command ≡ parse_line line → length (pending ++ command ∷ []) ≡ 1
-    → pending ++ command ∷ [] ≡ command_in (parse_line line)
-only_pending [] command line is one = ap command_in is
-only_pending (p ∷ ps) command line is one = absurd (omega (arith, one, length-append ps (command ∷ [])))
+pub handed_on : {X : Type 0} (r : Result X SessionError) (e : SessionError) (P : SessionError → Type 0) → IsErrAnd r (λ f. f ≡ e) → P e → IfErr r P
+handed_on (Ok x) e P h p = absurd h
+handed_on (Err f) e P h p = subst P (sym h) p
 
--- where one command is pending after a line, the line of the last command says it
-pub command_line_kept : (pending : List (Command Global)) (parsed : Line) (line before : Bytes) → parsed ≡ parse_line line → (length pending ≡ 1 → pending ≡ command_in (parse_line before))
-    → length (unended pending (parsed ∷ [])) ≡ 1 → unended pending (parsed ∷ []) ≡ command_in (parse_line (if is_command parsed then line else before))
-command_line_kept pending Blank line before is was one = was one
-command_line_kept pending (Line.Command command) line before is was one = only_pending pending command line is one
-command_line_kept pending Go line before is was one = absurd (cc)
-command_line_kept pending line_variants.Flush line before is was one = absurd (cc)
-command_line_kept pending line_variants.Clean line before is was one = absurd (cc)
-command_line_kept pending line_variants.Upgrade line before is was one = absurd (cc)
-command_line_kept pending line_variants.Verify line before is was one = absurd (cc)
-command_line_kept pending (Bad why) line before is was one = was one
+-- ---- a text is a stream that was read to its end
+
+too_long-more : (stream : Bool) (cs : List (Command Global)) (c : Command Global) → is_too_long stream cs ≡ true → is_too_long stream (cs ++ c ∷ []) ≡ true
+too_long-more false cs c long = long
+too_long-more true cs c long =
+    let many : 65535 < length cs = ltb-true 65535 (length cs) long in
+    lt-ltb 65535 (length (cs ++ c ∷ [])) (omega (arith, length-append cs (c ∷ [])))
+
+none_too_long : (stream : Bool) → is_too_long stream [] ≡ false
+none_too_long true = refl
+none_too_long false = refl
+
+not_short : (b rest : Bool) → b ≡ true → (not b && rest) ≡ false
+not_short true rest e = refl
+not_short false rest e = absurd (cc)
+
+-- a batch that is too long stays so, and stands among the orders
+long_last : (stream : Bool) (cs : List (Command Global)) (orders : List Order) → is_too_long stream cs ≡ true → is_short stream (last_order cs ++ orders) ≡ false
+long_last stream [] orders long = absurd (let none = none_too_long stream in cc)
+long_last stream (c ∷ cs) orders long = not_short (is_too_long stream (c ∷ cs)) (list_all (is_short_order stream) orders) long
+
+long_ordered : (stream : Bool) (cs : List (Command Global)) (parsed : List Line) → is_too_long stream cs ≡ true → is_short stream (orders_of cs parsed) ≡ false
+long_ordered stream cs [] long = ap (is_short stream) (sym (append-nil (last_order cs))) ∙ long_last stream cs [] long
+long_ordered stream cs (line_variants.Command command ∷ rest) long = long_ordered stream (cs ++ command ∷ []) rest (too_long-more stream cs command long)
+long_ordered stream cs (Go ∷ rest) long = not_short (is_too_long stream cs) (list_all (is_short_order stream) (orders_of [] rest)) long
+long_ordered stream cs (line_variants.Order order ∷ rest) long = long_last stream cs (order ∷ orders_of [] rest) long
+long_ordered stream cs (Blank ∷ rest) long = long_ordered stream cs rest long
+long_ordered stream cs (Bad why ∷ rest) long = long_ordered stream cs rest long
+long_ordered stream cs (line_variants.Lost ∷ rest) long = long_ordered stream cs rest long
+
+short_if : (b : Bool) (stream : Bool) (cs : List (Command Global)) (parsed : List Line) → is_too_long stream cs ≡ b → is_short stream (orders_of cs parsed) ≡ true → b ≡ false
+short_if true stream cs parsed is short = absurd (let long = long_ordered stream cs parsed is in cc)
+short_if false stream cs parsed is short = refl
+
+short_last : (stream : Bool) (cs : List (Command Global)) (order : Order) (orders : List Order) → is_short stream (last_order cs ++ order ∷ orders) ≡ true → is_short stream orders ≡ true
+short_last stream [] order orders short = (and_parts (is_short_order stream order) (is_short stream orders) short).1
+short_last stream (c ∷ cs) order orders short =
+    (and_parts (is_short_order stream order) (is_short stream orders) (and_parts (is_short_order stream (Batch (c ∷ cs))) (is_short stream (order ∷ orders)) short).1).1
+
+-- without a bad or lost line, and without a batch that is too long, the orders are those of the text
+pub asked-orders_of : (stream : Bool) (n : ℕ) (cs : List (Command Global)) (parsed : List Line) → IsWithin parsed → is_short stream (orders_of cs parsed) ≡ true
+    → asked stream n (begun cs) parsed ≡ orders_of cs parsed
+asked-orders_of stream n cs [] within short = refl
+asked-orders_of stream n cs (line_variants.Command command ∷ rest) within short =
+    let more = cs ++ command ∷ [] in
+    ap (λ (b : Bool). cond b (Batch more ∷ asked stream (n + 1) skipped rest) (asked stream (n + 1) (begun more) rest)) (short_if (is_too_long stream more) stream more rest refl short)
+    ∙ asked-orders_of stream (n + 1) more rest within short
+asked-orders_of stream n cs (Go ∷ rest) within short =
+    ap (λ (os : List Order). Batch cs ∷ os)
+    (asked-orders_of stream (n + 1) [] rest within (and_parts (is_short_order stream (Batch cs)) (is_short stream (orders_of [] rest)) short).1)
+asked-orders_of stream n cs (line_variants.Order order ∷ rest) within short =
+    ap (λ (os : List Order). last_order cs ++ order ∷ os) (asked-orders_of stream (n + 1) [] rest within (short_last stream cs order (orders_of [] rest) short))
+asked-orders_of stream n cs (Blank ∷ rest) within short = asked-orders_of stream (n + 1) cs rest within short
+asked-orders_of stream n cs (Bad why ∷ rest) within short = absurd within
+asked-orders_of stream n cs (line_variants.Lost ∷ rest) within short = absurd within

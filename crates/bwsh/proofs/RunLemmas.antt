@@ -1,14 +1,14 @@
 -- Lemmas on what orders print, and how they end.
-use Rattle.std.proofs.Common.{◌≡◌, ◌≢◌, ◌<◌, ◌+◌, ◌⊎◌, inl, inr, ℕ, zero, suc, length, drop, get_or, List, [], ◌∷◌, ◌++◌, map, Option, Some, None, Result, Ok, Err, refl, sym, ap, ◌∙◌, subst, append-nil, arith}
-use Rattle.std.specs.Prelude.{Bool, true, false, IsTrue, if◌then◌else◌, OnOk, take}
+use Rattle.std.proofs.Common.{◌≡◌, ◌≢◌, ◌<◌, ◌+◌, ◌⊎◌, inl, inr, ℕ, zero, suc, drop, List, [], ◌∷◌, ◌++◌, map, Option, Some, None, Result, Ok, Err, refl, sym, ap, ◌∙◌, subst, append-nil, arith}
+use Rattle.std.specs.Prelude.{Bool, true, false, IsTrue, IfErr, OnOk, if◌then◌else◌, take}
+use Rattle.std.specs.Option.{option_or}
 use Rattle.std.specs.List.{flat_map}
 use Rattle.std.specs.declared.alloc.Global.{Global}
-use Rattle.std.proofs.lemmas.List.{drop_more}
 use Rattle.std.specs.Io.KnownBytes.{Appends}
 use Rattle.std.proofs.KnownBytes.{Appends-nil}
 use Rattle.keys.specs.Step.{map_after_all}
 use Rattle.keys.specs.declared.fault.Fault.{Fault}
-use Rattle.keys.specs.declared.fault.Fault.TheVariants.{NoMemory, Device, Spent, Full, NothingToClean}
+use Rattle.keys.specs.declared.fault.Fault.TheVariants.{NoMemory, Device, Spent, Full}
 use Rattle.keys.specs.declared.command.Command.{Command}
 use Rattle.keys.specs.declared.settings.Settings.{Settings}
 use Rattle.keys.specs.declared.version.Version.{Version}
@@ -31,40 +31,47 @@ use Rattle.engine.specs.declared.step.Step as code_step
 use Rattle.engine.specs.declared.step.Step.TheVariants as called
 use Rattle.engine.specs.declared.step.Answer as code_answer
 use Rattle.engine.specs.declared.step.Answer.TheVariants as given
-use Rattle.verify.specs.Report.{report}
-use Rattle.verify.specs.declared.report.Report.{Report}
-use Rattle.bwsh.specs.declared.batch_file.Order.{Order}
-use Rattle.bwsh.specs.declared.batch_file.Order.TheVariants.{Batch, Flush, Clean, Upgrade, Verify, Numbers}
-use Rattle.bwsh.specs.declared.show.StoreNumbers.{StoreNumbers}
+use Rattle.bwsh.specs.declared.order.Order.{Order}
+use Rattle.bwsh.specs.declared.order.Order.TheVariants.{Batch, Lost, Flush, Clean, Upgrade, Tidy}
 use Rattle.bwsh.specs.declared.session.SessionError.{SessionError}
 use Rattle.bwsh.specs.declared.session.SessionError.TheVariants as errors
 use Rattle.bwsh.specs.declared.options.asked.Mode.{Mode}
-use Rattle.bwsh.specs.Session.{Stored, Seen, Reads, Tidying, AreLeft, AreTidiedOnce, AreUntidied, IsAsked, IsSeen, TidiesBy, later, no_tidying, untidied, step_in, left_by, refused_by, left_by_step, refusal_of_step, refusal_of, tidied_before, after_order, map_after, map_left, own_lines, answer_lines, accepted, orders_end, numbers_of, Prints, Runs, RunsOrder, LeavesStored}
-use Rattle.bwsh.specs.Shown.{shown_flushed, shown_cleaned, shown_upgraded, shown_report, shown_numbers, shown_answer}
-use Rattle.bwsh.proofs.Prints.{Prints-all, Prints-after_order, Prints-early}
+use Rattle.bwsh.specs.Session.{Stored, Seen, Reads, Tidying, AreTidiedOnce, AreUntidied, IsAsked, IsSeen, IsUntouched, MayFail, TidiesBy, later, no_tidying, untidied, step_in, left_by, left_unless, refused_by, left_by_step, refusal_of_step, refusal_of, tidied, tidied_before, after_order, by_batches, device_line, map_after, map_unless, own_lines, own_refusal, answer_then, answered, Batches, PrintsOwn, Runs, RunsAlone, RunsOrder, LeavesStored}
+use Rattle.bwsh.specs.Output.{BeginsWith, Writes}
+use Rattle.bwsh.specs.Shown.{shown_flushed, shown_cleaned, shown_upgraded, shown_answer}
 use Rattle.bwsh.proofs.StoreLemmas.{IsEndingOf}
 
 pub OnOk-always : {A B P : Type 0} (r : Result A B) → P → OnOk r P
 OnOk-always (Ok x) p = p
 OnOk-always (Err x) p = tt
 
--- orders one after the other leave the map of the last ones on that of the first
-pub map_left-append : (m : List (List ℕ × List ℕ)) (xs ys : List Order) → map_left m (xs ++ ys) ≡ map_left (map_left m xs) ys
-map_left-append m [] ys = refl
-map_left-append m (order ∷ xs) ys = map_left-append (map_after m order) xs ys
-
 -- ---- an order
-
-pub Runs-none : (settings : Settings) (st : Store) (shown : Reads) (old : Option (List ℕ)) → Runs settings st shown [] old old (Ok tt)
-unfolding Runs
-Runs-none settings st shown old = inl (refl, Appends-nil old)
 
 -- this is seen at the first order, and then that
 abbrev pub first_shown : Seen → Reads → ℕ → Seen
 first_shown file shown zero = file
 first_shown file shown (suc i) = shown i
 
-module _ (settings : Settings) (st : Store) (file : Seen) (order : Order) (old new : Option (List ℕ)) where
+-- it ends a session for another reason than a fault of an order alone: memory, where that isn't a refusal, or a device
+abbrev pub IsCut : Bool → SessionError → Type 0
+IsCut stream early = ((stream ≡ false) × (early ≡ errors.Fault NoMemory)) ⊎ (early ≡ errors.Device)
+
+-- nothing is printed then, but a beginning of the line of a failed device
+abbrev pub PrintsCut : Bool → Option (List ℕ) → Option (List ℕ) → SessionError → Type 0
+PrintsCut stream old new early =
+    ((stream ≡ false) × (early ≡ errors.Fault NoMemory) × Appends old new [])
+    ⊎ ((early ≡ errors.Device) × ((last : List ℕ) × BeginsWith (device_line stream) last × Appends old new last))
+
+pub PrintsCut-nothing : (stream : Bool) (old new : Option (List ℕ)) (early : SessionError) → Appends old new [] → IsCut stream early → PrintsCut stream old new early
+PrintsCut-nothing stream old new early a (inl (off, e)) = inl (off, e, a)
+PrintsCut-nothing stream old new early a (inr e) = inr (e, ([], (device_line stream, refl), a))
+
+-- some lines were written, or the output failed
+pub PrintsOwn-writes : (on : Bool) (old new : Option (List ℕ)) (lines : List (List ℕ)) (end : Result (Unit {0}) SessionError) → Writes old new lines end → PrintsOwn on old new lines (Ok tt) end
+PrintsOwn-writes on old new lines end (inl (e, a)) = inl (e, a)
+PrintsOwn-writes on old new lines end (inr (e, b)) = inr (inr (e, b))
+
+module _ (settings : Settings) (st : Store) (file : Seen) (order : Order) (stream : Bool) (old new : Option (List ℕ)) where
   -- the lines of the order, and what it leaves
   abbrev lines : List (List ℕ)
   lines = own_lines settings st file (contents st.tree) order
@@ -72,121 +79,174 @@ module _ (settings : Settings) (st : Store) (file : Seen) (order : Order) (old n
   abbrev left : Stored
   left = after_order settings st file order
 
-  -- what the order does where it is the only one
+  -- what the order does where it is the only one, and a refusal is an end
   abbrev AloneIs : Result (Unit {0}) SessionError → Type 0
-  AloneIs end = Runs settings st (λ i. file) (order ∷ []) old new end
+  AloneIs end = RunsAlone stream settings st file order old new end
 
-  -- the lines of the order alone, if it is accepted
-  abbrev lines_alone : List (List ℕ)
-  lines_alone = answer_lines settings st (λ i. file) (contents st.tree) (accepted settings st (λ i. file) (order ∷ []))
-
-  -- the order stops here for lack of memory, or by its right
-  pub stopped : (fault : Fault) → new ≡ old → (fault ≡ NoMemory) ⊎ (refusal_of settings st file order ≡ Some fault) → AloneIs (Err (errors.Fault fault))
-  unfolding Runs
-  stopped fault same (inl memory) =
-      rw same (inr (inl (ap (λ (f : Fault). Err (errors.Fault f)) memory, ([], (lines_alone, refl), Appends-nil old))))
-  stopped fault same (inr some) = rw (same, some) (inl (refl, Appends-nil old))
+  -- the order is refused
+  pub refused : (fault : Fault) → new ≡ old → refusal_of settings st file order ≡ Some fault → AloneIs (Err (errors.Fault fault))
+  unfolding RunsAlone
+  refused fault same some = rw (same, some) (inl (refl, Appends-nil old))
 
   -- a device fails before anything of it is written
   pub cut_off : new ≡ old → AloneIs (Err errors.Device)
-  unfolding Runs
-  cut_off same = rw same (inr (inr (refl, ([], (flat lines_alone, refl), Appends-nil old))))
+  unfolding RunsAlone
+  cut_off same = rw same (inr (inr (refl, ([], (flat (answer_then false (refusal_of settings st file order) file.told lines []), refl), Appends-nil old))))
 
   -- the order is answered
-  pub answered : (end : Result (Unit {0}) SessionError) → refusal_of settings st file order ≡ None → Prints old new lines (Ok tt) end → AloneIs end
-  unfolding Runs
-  answered end none p = rw none (subst (λ (l : List (List ℕ)). Prints old new l (Ok tt) end) (sym (append-nil lines)) p)
+  pub all_printed : (end : Result (Unit {0}) SessionError) → refusal_of settings st file order ≡ None → PrintsOwn stream old new lines (Ok tt) end → AloneIs end
+  unfolding RunsAlone
+  all_printed end none p = rw none (subst (λ (l : List (List ℕ)). PrintsOwn stream old new l (Ok tt) end) (sym (append-nil lines)) p)
 
-  module _ (rest : List Order) (shown : Reads) where
-    -- the lines that orders answer after it
-    abbrev further : Store → List (List ℕ)
-    further now = answer_lines settings now shown (map_after (contents st.tree) order) (accepted settings now shown rest)
+  -- what it prints where it isn't refused, and where it is
+  pub own_printed : (end : Result (Unit {0}) SessionError) → refusal_of settings st file order ≡ None → AloneIs end → PrintsOwn stream old new lines (Ok tt) end
+  unfolding RunsAlone
+  own_printed end none p =
+      let own : PrintsOwn stream old new (lines ++ []) (Ok tt) end = rw none at p in
+      subst (λ (l : List (List ℕ)). PrintsOwn stream old new l (Ok tt) end) (append-nil lines) own
 
-    -- it stops early: so do the orders that it stands before
-    stops_by : (early : SessionError) (r : Option Fault) → refusal_of settings st file order ≡ r → AloneIs (Err early) → Runs settings st (first_shown file shown) (order ∷ rest) old new (Err early)
-    unfolding Runs
-    stops_by early None none p =
-        let own : Prints old new (lines ++ []) (Ok tt) (Err early) = rw none at p in
-        rw none (Prints-early old new lines (further left.0) (orders_end settings left.0 shown rest) early
-        (subst (λ (l : List (List ℕ)). Prints old new l (Ok tt) (Err early)) (append-nil lines) own))
-    stops_by early (Some fault) some p =
-        let own : Prints old new [] (Err (errors.Fault fault)) (Err early) = rw some at p in
-        rw some own
+  pub none_printed : (end : Result (Unit {0}) SessionError) (fault : Fault) → refusal_of settings st file order ≡ Some fault → AloneIs end → PrintsOwn stream old new [] (Err (errors.Fault fault)) end
+  unfolding RunsAlone
+  none_printed end fault some p =
+      let own : PrintsOwn stream old new [] (Err (errors.Fault fault)) end = rw some at p in
+      own
 
-    pub Runs-stops : (early : SessionError) → AloneIs (Err early) → Runs settings st (first_shown file shown) (order ∷ rest) old new (Err early)
-    Runs-stops early p = stops_by early (refusal_of settings st file order) refl p
+  pub refused_printed : (end : Result (Unit {0}) SessionError) (fault : Fault) → refusal_of settings st file order ≡ Some fault → PrintsOwn stream old new [] (Err (errors.Fault fault)) end → AloneIs end
+  unfolding RunsAlone
+  refused_printed end fault some p = rw some p
 
-    -- all of it is done: what the rest prints comes after it
-    pub Runs-show_call : (now : Store) (last : Option (List ℕ)) (done : Unit {0}) (end : Result (Unit {0}) SessionError) → refusal_of settings st file order ≡ None → now ≡ left.0
-        → contents now.tree ≡ map_after (contents st.tree) order → AloneIs (Ok done) → Runs settings now shown rest new last end
-        → Runs settings st (first_shown file shown) (order ∷ rest) old last end
-    unfolding Runs
-    Runs-show_call now last done end none is holds p q =
-        let own : Prints old new (lines ++ []) (Ok tt) (Ok done) = rw none at p in
-        let printed = Prints-all old new lines (Ok tt) done (subst (λ (l : List (List ℕ)). Prints old new l (Ok tt) (Ok done)) (append-nil lines) own) in
-        let next = subst (λ (m : List (List ℕ × List ℕ)). Prints new last (answer_lines settings now shown m (accepted settings now shown rest)) (orders_end settings now shown rest) end) holds q in
-        let then_on = subst (λ (t : Store). Prints new last (further t) (orders_end settings t shown rest) end) is next in
-        rw none (Prints-after_order old new last lines (further left.0) (orders_end settings left.0 shown rest) end printed then_on)
+  -- it isn't refused where it is done
+  unrefused_of : (r : Option Fault) → refusal_of settings st file order ≡ r → (done : Unit {0}) → AloneIs (Ok done) → refusal_of settings st file order ≡ None
+  unrefused_of None none done p = none
+  unrefused_of (Some fault) some done p = by (none_printed (Ok done) fault some p)
+    where
+      by : PrintsOwn stream old new [] (Err (errors.Fault fault)) (Ok done) → refusal_of settings st file order ≡ None
+      by (inl (e, a)) = absurd (cc)
+      by (inr (inl (off, e, q))) = absurd (cc)
+      by (inr (inr (e, q))) = absurd (cc)
+
+  pub unrefused_by : (done : Unit {0}) → AloneIs (Ok done) → refusal_of settings st file order ≡ None
+  unrefused_by done p = unrefused_of (refusal_of settings st file order) refl done p
+
+-- an order alone that ends early: by its right, with nothing printed; or for another reason, with nothing printed either where it is refused
+pub data Early (stream : Bool) (now new : Option (List ℕ)) (r : Option Fault) (early : SessionError) : Type 0 where
+  by_right : (fault : Fault) → r ≡ Some fault → early ≡ errors.Fault fault → Appends now new [] → Early stream now new r early
+  refused_cut : (fault : Fault) → r ≡ Some fault → IsCut stream early → Appends now new [] → Early stream now new r early
+  cut : r ≡ None → IsCut stream early → Early stream now new r early
+
+nothing_front : (xs : List ℕ) → BeginsWith [] xs → xs ≡ []
+nothing_front [] b = refl
+nothing_front (x ∷ xs) (rest, e) = absurd (cc)
+
+no_lines : (xs : List (List ℕ)) → BeginsWith [] xs → xs ≡ []
+no_lines [] b = refl
+no_lines (x ∷ xs) (rest, e) = absurd (cc)
+
+pub same_ending : (early other : SessionError) → (let end : Result (Unit {0}) SessionError = Err early in end ≡ Err other) → early ≡ other
+same_ending early other e = cc
+
+never_ends : (early : SessionError) → (let end : Result (Unit {0}) SessionError = Err early in end ≡ Ok tt) → ⊥
+never_ends early e = cc
+
+-- of lines that are printed where it isn't refused
+early_of_none : (stream : Bool) (now new : Option (List ℕ)) (lines : List (List ℕ)) (early : SessionError) → PrintsOwn stream now new lines (Ok tt) (Err early) → Early stream now new None early
+early_of_none stream now new lines early (inl (e, a)) = absurd (never_ends early e)
+early_of_none stream now new lines early (inr (inl (off, e, q))) = cut refl (inl (off, same_ending early (errors.Fault NoMemory) e))
+early_of_none stream now new lines early (inr (inr (e, q))) = cut refl (inr (same_ending early errors.Device e))
+
+-- of nothing that is printed where it is
+early_of_some : (stream : Bool) (now new : Option (List ℕ)) (fault : Fault) (early : SessionError) → PrintsOwn stream now new [] (Err (errors.Fault fault)) (Err early) → Early stream now new (Some fault) early
+early_of_some stream now new fault early (inl (e, a)) = by_right fault refl (same_ending early (errors.Fault fault) e) a
+early_of_some stream now new fault early (inr (inl (off, e, (front, begins, a)))) =
+    refused_cut fault refl (inl (off, same_ending early (errors.Fault NoMemory) e)) (subst (λ (l : List (List ℕ)). Appends now new (flat l)) (no_lines front begins) a)
+early_of_some stream now new fault early (inr (inr (e, (front, begins, a)))) =
+    refused_cut fault refl (inr (same_ending early errors.Device e)) (subst (Appends now new) (nothing_front front begins) a)
+
+pub early_by : (settings : Settings) (st : Store) (file : Seen) (order : Order) (stream : Bool) (now new : Option (List ℕ)) (early : SessionError) (r : Option Fault) → refusal_of settings st file order ≡ r
+    → RunsAlone stream settings st file order now new (Err early) → Early stream now new r early
+early_by settings st file order stream now new early None none p =
+    early_of_none stream now new (own_lines settings st file (contents st.tree) order) early (own_printed settings st file order stream now new (Err early) none p)
+early_by settings st file order stream now new early (Some fault) some p =
+    early_of_some stream now new fault early (none_printed settings st file order stream now new (Err early) fault some p)
+
+-- all of it is done, so all was printed
+pub own_all : (stream : Bool) (old new : Option (List ℕ)) (lines : List (List ℕ)) (done : Unit {0}) → PrintsOwn stream old new lines (Ok tt) (Ok done) → Appends old new (flat lines)
+own_all stream old new lines done (inl (e, a)) = a
+own_all stream old new lines done (inr (inl (off, e, q))) = absurd (cc)
+own_all stream old new lines done (inr (inr (e, q))) = absurd (cc)
 
 -- an order that is refused for the same reason and answers the same lines, on another store or where something else is seen, does the same where it is the only one
-module _ (settings : Settings) (a b : Store) (f g : Seen) (order : Order) (refused : refusal_of settings a f order ≡ refusal_of settings b g order)
-    (lines_are : own_lines settings a f (contents a.tree) order ≡ own_lines settings b g (contents b.tree) order) (old new : Option (List ℕ)) (end : Result (Unit {0}) SessionError) where
-  alike_by : (r : Option Fault) → refusal_of settings b g order ≡ r → Runs settings b (λ i. g) (order ∷ []) old new end → Runs settings a (λ i. f) (order ∷ []) old new end
-  unfolding Runs
+module _ (settings : Settings) (a b : Store) (f g : Seen) (order : Order) (refused_so : refusal_of settings a f order ≡ refusal_of settings b g order)
+    (lines_are : own_lines settings a f (contents a.tree) order ≡ own_lines settings b g (contents b.tree) order) (stream : Bool) (old new : Option (List ℕ)) (end : Result (Unit {0}) SessionError) where
+  alike_by : (r : Option Fault) → refusal_of settings b g order ≡ r → RunsAlone stream settings b g order old new end → RunsAlone stream settings a f order old new end
   alike_by None none p =
-      let own : Prints old new (own_lines settings b g (contents b.tree) order ++ []) (Ok tt) end = rw none at p in
-      let here : refusal_of settings a f order ≡ None = refused ∙ none in
-      rw here (subst (λ (l : List (List ℕ)). Prints old new (l ++ []) (Ok tt) end) (sym lines_are) own)
-  alike_by (Some fault) some p =
-      let own : Prints old new [] (Err (errors.Fault fault)) end = rw some at p in
-      let here : refusal_of settings a f order ≡ Some fault = refused ∙ some in
-      rw here own
+      all_printed settings a f order stream old new end (refused_so ∙ none)
+      (subst (λ (l : List (List ℕ)). PrintsOwn stream old new l (Ok tt) end) (sym lines_are) (own_printed settings b g order stream old new end none p))
+  alike_by (Some fault) some p = refused_printed settings a f order stream old new end fault (refused_so ∙ some) (none_printed settings b g order stream old new end fault some p)
 
-  pub Runs-alike : Runs settings b (λ i. g) (order ∷ []) old new end → Runs settings a (λ i. f) (order ∷ []) old new end
+  pub Runs-alike : RunsAlone stream settings b g order old new end → RunsAlone stream settings a f order old new end
   Runs-alike p = alike_by (refusal_of settings b g order) refl p
 
 -- and leaves the same, if it leaves the same store
 pub LeavesStored-alike : (honest : Bool) (settings : Settings) (a b : Store) (f g : Seen) (order : Order) → refusal_of settings a f order ≡ refusal_of settings b g order
     → after_order settings a f order ≡ after_order settings b g order → contents a.tree ≡ contents b.tree → (now : Store) (bytes : List ℕ)
     → LeavesStored honest settings b g order now bytes → LeavesStored honest settings a f order now bytes
-LeavesStored-alike honest settings a b f g order refused after held now bytes leaves = record {
-  unrefused = refused ∙ leaves.unrefused;
+LeavesStored-alike honest settings a b f g order refused_so after held now bytes leaves = record {
   store = leaves.store ∙ ap (λ (at : Stored). at.0) (sym after);
   bytes = λ h. leaves.bytes h ∙ ap (λ (at : Stored). at.1) (sym after);
-  holds = leaves.holds ∙ ap (λ (m : List (List ℕ × List ℕ)). map_after m order) (sym held);
+  holds = leaves.holds ∙ ap (λ (r : Option Fault). map_unless r (contents b.tree) order) (sym refused_so) ∙ ap (λ (m : List (List ℕ × List ℕ)). map_unless (refusal_of settings a f order) m order) (sym held);
 }
+
+-- an order that is refused, and at which nothing is tidied, leaves all as it was
+pub LeavesStored-unmoved : (honest : Bool) (settings : Settings) (st was : Store) (at : Seen) (order : Order) (fault : Fault) → refusal_of settings st at order ≡ Some fault
+    → (file : List ℕ) → after_order settings st at order ≡ (was, file) → contents was.tree ≡ contents st.tree → (now : Store) (bytes : List ℕ) → now ≡ was → (IsTrue honest → bytes ≡ file)
+    → LeavesStored honest settings st at order now bytes
+LeavesStored-unmoved honest settings st was at order fault some file after held now bytes now_is bytes_are = record {
+  store = now_is ∙ ap (λ (q : Stored). q.0) (sym after);
+  bytes = λ h. bytes_are h ∙ ap (λ (q : Stored). q.1) (sym after);
+  holds = ap (λ (s : Store). contents s.tree) now_is ∙ held ∙ ap (λ (r : Option Fault). map_unless r (contents st.tree) order) (sym some);
+}
+
+-- ---- something else is seen
+
+-- it doesn't matter before an order what else is seen than how the store is tidied
+pub tidied_before-as : (order : Order) (settings : Settings) (f g : Seen) (at : Stored) → f.tidying ≡ g.tidying → f.merged ≡ g.merged → tidied_before order settings f at ≡ tidied_before order settings g at
+tidied_before-as Flush settings f g at tidying merged = ap (λ (t : Tidying). tidied settings t at) tidying
+tidied_before-as (Tidy most) settings f g at tidying merged = ap (λ (b : Batches). tidied settings (by_batches b) at) merged
+tidied_before-as _ settings f g at tidying merged = refl
+
+module _ (settings : Settings) (st : Store) (f g : Seen) (order : Order) (bytes : f.bytes ≡ g.bytes) (fails : f.fails ≡ g.fails) (tidying : f.tidying ≡ g.tidying) (merged : f.merged ≡ g.merged) where
+  before-as : tidied_before order settings f (st, f.bytes) ≡ tidied_before order settings g (st, g.bytes)
+  before-as =
+      tidied_before-as order settings f g (st, f.bytes) tidying merged
+      ∙ ap (λ (file : List ℕ). (let at : Stored = (st, file) in tidied_before order settings g at)) bytes
+
+  pub after_order-as : after_order settings st f order ≡ after_order settings st g order
+  unfolding after_order
+  after_order-as =
+      ap (λ (at : Stored). left_unless f.fails at (left_by_step settings at (step_in order))) before-as
+      ∙ ap (λ (r : Option Fault). (let at : Stored = tidied_before order settings g (st, g.bytes) in left_unless r at (left_by_step settings at (step_in order)))) fails
+
+  pub refusal_of-as : refusal_of settings st f order ≡ refusal_of settings st g order
+  unfolding refusal_of
+  refusal_of-as =
+      ap (λ (at : Stored). option_or f.fails (own_refusal settings at order)) before-as
+      ∙ ap (λ (r : Option Fault). option_or r (own_refusal settings (tidied_before order settings g (st, g.bytes)) order)) fails
 
 -- ---- what the disk shows is what was left
 
--- reads give these bytes, and the store is tidied so
+-- reads give these bytes, the store is tidied so, and nothing fails
 abbrev pub seen_with : Tidying → List ℕ → Seen
-seen_with batches file = record { bytes = file; ahead = file; tidying = batches }
+seen_with batches file = record { bytes = file; ahead = file; tidying = batches; merged = []; fails = None; told = [] }
 
 -- all stores are tidied so
 abbrev pub AreTidiedBy : Tidying → Reads → Type 0
 AreTidiedBy batches shown = (i : ℕ) → (shown i).tidying ≡ batches
 
--- what orders leave that begin with these bytes, before each of them
-abbrev pub left_shown : Tidying → Settings → Store → List ℕ → List Order → Reads
-left_shown batches settings st file [] = λ i. seen_with batches file
-left_shown batches settings st file (order ∷ rest) =
-    let left : Stored = after_order settings st (seen_with batches file) order in first_shown (seen_with batches file) (left_shown batches settings left.0 left.1 rest)
-
-pub AreLeft-left_shown : (batches : Tidying) (settings : Settings) (st : Store) (file : List ℕ) (orders : List Order) → AreLeft settings st file (left_shown batches settings st file orders) orders
-AreLeft-left_shown batches settings st file [] = tt
-AreLeft-left_shown batches settings st file (order ∷ rest) =
-    let left : Stored = after_order settings st (seen_with batches file) order in ((refl, refl), AreLeft-left_shown batches settings left.0 left.1 rest)
-
--- the stores are tidied so at the first order and later
+-- at the first order and later
 pub AreTidiedBy-first : (batches : Tidying) (file : List ℕ) (shown : Reads) → AreTidiedBy batches shown → AreTidiedBy batches (first_shown (seen_with batches file) shown)
 AreTidiedBy-first batches file shown all zero = refl
 AreTidiedBy-first batches file shown all (suc i) = all i
-
-pub AreTidiedBy-left_shown : (batches : Tidying) (settings : Settings) (st : Store) (file : List ℕ) (orders : List Order) → AreTidiedBy batches (left_shown batches settings st file orders)
-AreTidiedBy-left_shown batches settings st file [] = λ i. refl
-AreTidiedBy-left_shown batches settings st file (order ∷ rest) =
-    let left : Stored = after_order settings st (seen_with batches file) order in
-    AreTidiedBy-first batches file (left_shown batches settings left.0 left.1 rest) (AreTidiedBy-left_shown batches settings left.0 left.1 rest)
 
 -- so they are tidied once for each flush
 pub AreTidiedOnce-alike : (batches : Tidying) (shown : Reads) (orders : List Order) → AreTidiedBy batches shown → AreTidiedOnce shown orders
@@ -206,29 +266,59 @@ as_asked mode asked is = subst (IsAsked mode) (sym is) asked
 pub TidiesBy-none : (mode : Mode) (shown : Reads) (orders : List Order) → AreUntidied shown → TidiesBy mode shown orders
 TidiesBy-none mode shown orders none = (λ i. as_asked mode (no_tidying_asked mode) (none i), AreTidiedOnce-alike no_tidying shown orders none)
 
+-- these bytes are read, nothing is tidied, and this fails, if something does
+abbrev pub failing : Option Fault → List ℕ → Seen
+failing fails file = record { bytes = file; ahead = file; tidying = no_tidying; merged = []; fails = fails; told = [] }
+
 -- these bytes can be seen, where nothing is tidied, and they are what the disk shows if it is honest
-seen_left : (mode : Mode) (honest : Bool) (left file : List ℕ) → (IsTrue honest → file ≡ left) → IsSeen mode honest left (untidied file)
-seen_left mode honest left file is = (no_tidying_asked mode, λ h. (is h, is h))
+pub seen_left : (mode : Mode) (honest : Bool) (settings : Settings) (st : Store) (left file : List ℕ) (order : Order) → (IsTrue honest → file ≡ left) → IsSeen mode honest settings st left order (untidied file)
+seen_left mode honest settings st left file order is = (no_tidying_asked mode, tt, λ h. (is h, is h))
 
-seen_untidied : (mode : Mode) (honest : Bool) (left : List ℕ) → IsSeen mode honest left (untidied left)
-seen_untidied mode honest left = seen_left mode honest left left (λ h. refl)
+pub seen_untidied : (mode : Mode) (honest : Bool) (settings : Settings) (st : Store) (left : List ℕ) (order : Order) → IsSeen mode honest settings st left order (untidied left)
+seen_untidied mode honest settings st left order = seen_left mode honest settings st left left order (λ h. refl)
 
--- an order before which the store is tidied by no batches does what its step does
-untidied_before : (order : Order) (settings : Settings) (at : Stored) → tidied_before order settings no_tidying at ≡ at
-untidied_before (Batch cs) settings at = refl
-untidied_before Flush settings at = refl
-untidied_before Clean settings at = refl
-untidied_before Upgrade settings at = refl
-untidied_before Verify settings at = refl
-untidied_before Numbers settings at = refl
+-- it can be seen that something fails which may
+pub seen_failing : (mode : Mode) (honest : Bool) (settings : Settings) (st : Store) (left file : List ℕ) (order : Order) (fault : Fault) → MayFail mode.clean_when_full settings (st, file) order fault
+    → (IsTrue honest → file ≡ left) → IsSeen mode honest settings st left order (failing (Some fault) file)
+seen_failing mode honest settings st left file order fault may is = (no_tidying_asked mode, may, λ h. (is h, is h))
+
+-- an order before which nothing is tidied does what its step does
+pub untidied_before : (order : Order) (settings : Settings) (fails : Option Fault) (file : List ℕ) (at : Stored) → tidied_before order settings (failing fails file) at ≡ at
+untidied_before Flush settings fails file at = refl
+untidied_before (Tidy most) settings fails file at = refl
+untidied_before _ settings fails file at = refl
 
 pub after_order-untidied : (settings : Settings) (st : Store) (file : List ℕ) (order : Order) → after_order settings st (untidied file) order ≡ left_by_step settings (st, file) (step_in order)
 unfolding after_order
-after_order-untidied settings st file order = ap (λ (at : Stored). left_by_step settings at (step_in order)) (untidied_before order settings (st, file))
+after_order-untidied settings st file order = ap (λ (at : Stored). left_by_step settings at (step_in order)) (untidied_before order settings None file (st, file))
 
-refusal_of-untidied : (settings : Settings) (st : Store) (file : List ℕ) (order : Order) → refusal_of settings st (untidied file) order ≡ refusal_of_step settings (st, file) (step_in order)
+pub after_order-failing : (settings : Settings) (st : Store) (file : List ℕ) (order : Order) (fault : Fault) → after_order settings st (failing (Some fault) file) order ≡ (st, file)
+unfolding after_order
+after_order-failing settings st file order fault = untidied_before order settings (Some fault) file (st, file)
+
+pub refusal_of-failing : (settings : Settings) (st : Store) (at : Seen) (order : Order) (fault : Fault) → at.fails ≡ Some fault → refusal_of settings st at order ≡ Some fault
 unfolding refusal_of
-refusal_of-untidied settings st file order = ap (λ (at : Stored). refusal_of_step settings at (step_in order)) (untidied_before order settings (st, file))
+refusal_of-failing settings st at order fault fails =
+    ap (λ (r : Option Fault). option_or r (own_refusal settings (tidied_before order settings at (st, at.bytes)) order)) fails
+
+-- the refusal of a step is that of its order
+own_refusal-step : (settings : Settings) (order : Order) (at : Stored) (y : Step Global) → step_in order ≡ Some y → own_refusal settings at order ≡ refusal_of_step settings at (step_in order)
+own_refusal-step settings Lost at y is = absurd (cc)
+own_refusal-step settings _ at y is = refl
+
+refusal_of-untidied : (settings : Settings) (st : Store) (file : List ℕ) (order : Order) (y : Step Global) → step_in order ≡ Some y
+    → refusal_of settings st (untidied file) order ≡ refusal_of_step settings (st, file) (step_in order)
+unfolding refusal_of
+refusal_of-untidied settings st file order y is =
+    ap (λ (at : Stored). own_refusal settings at order) (untidied_before order settings None file (st, file)) ∙ own_refusal-step settings order (st, file) y is
+
+-- a step finds no memory
+pub memory_fails : (cleans : Bool) (settings : Settings) (at : Stored) (order : Order) (y : Step Global) → step_in order ≡ Some y → MayFail cleans settings at order NoMemory
+memory_fails cleans settings at Flush y is = inl refl
+memory_fails cleans settings at (Batch cs) y is = refl
+memory_fails cleans settings at Clean y is = refl
+memory_fails cleans settings at Upgrade y is = refl
+memory_fails cleans settings at _ y is = absurd (cc)
 
 -- ---- what a step answers
 
@@ -334,8 +424,7 @@ module _ (settings : Settings) (st : Store) where
       let same : (let z : Step Global = Step.Upgrade in z ≡ y) = cc in
       ap (λ (q : Stored). shown_upgraded q.0.sequence ∷ []) left
       ∙ sym (ap shown_answer (answered_by of_upgrade (after_upgrade settings st file) p (subst (λ (z : Step Global). steps_to file z p) (sym same) done)).0)
-  lines_of file Verify y p is done left = absurd (cc)
-  lines_of file Numbers y p is done left = absurd (cc)
+  lines_of file _ y p is done left = absurd (cc)
 
   -- a batch that is planned holds the map after its commands
   abbrev PlansHold : Type 0
@@ -365,17 +454,19 @@ module _ (settings : Settings) (st : Store) where
   map_of hold keep file Upgrade y p is done =
       let same : (let z : Step Global = Step.Upgrade in z ≡ y) = cc in
       upgrade-leaves settings st file p.1 (answered_by of_upgrade (after_upgrade settings st file) p (subst (λ (z : Step Global). steps_to file z p) (sym same) done)).1
-  map_of hold keep file Verify y p is done = absurd (cc)
-  map_of hold keep file Numbers y p is done = absurd (cc)
+  map_of hold keep file _ y p is done = absurd (cc)
 
 -- a step is played on a store whose disk had the bytes `seen`, for an order
 module _ (mode : Mode) (honest : Bool) (settings : Settings) (st : Store) (seen : List ℕ) (order : Order) (x : code_step.Step) (is : step_in order ≡ Some (step_of x)) where
   right_by : (file : List ℕ) (fault : Fault) → after_step (batching settings) settings st file (step_of x) ≡ Err fault → refusal_of settings st (untidied file) order ≡ Some fault
-  right_by file fault e = refusal_of-untidied settings st file order ∙ ap (refusal_of_step settings (st, file)) is ∙ ap refused_by e
+  right_by file fault e = refusal_of-untidied settings st file order (step_of x) is ∙ ap (refusal_of_step settings (st, file)) is ∙ ap refused_by e
 
-  late_by : (file : List ℕ) (old new : ℕ) (z : code_step.Step) (fault : Fault) → fault ≢ Device → z ≡ x → IsStepFault settings st file old new (step_of z) fault
-      → (fault ≡ NoMemory) ⊎ (refusal_of settings st (untidied file) order ≡ Some fault)
-  late_by file old new z fault other same (inl right) = inr (right_by file fault (subst (λ (y : code_step.Step). after_step (batching settings) settings st file (step_of y) ≡ Err fault) same right))
+  -- why it is refused: for lack of memory, or by its right
+  abbrev WhyRefused : List ℕ → Fault → Type 0
+  WhyRefused file fault = (fault ≡ NoMemory) ⊎ (after_step (batching settings) settings st file (step_of x) ≡ Err fault)
+
+  late_by : (file : List ℕ) (old new : ℕ) (z : code_step.Step) (fault : Fault) → fault ≢ Device → z ≡ x → IsStepFault settings st file old new (step_of z) fault → WhyRefused file fault
+  late_by file old new z fault other same (inl right) = inr (subst (λ (y : code_step.Step). after_step (batching settings) settings st file (step_of y) ≡ Err fault) same right)
   late_by file old new (called.Batch cs) fault other same (inr late) = inl late.0
   late_by file old new called.Flush fault other same (inr (inl memory)) = inl memory.0
   late_by file old new called.Flush fault other same (inr (inr device)) = absurd (other device.0)
@@ -384,26 +475,67 @@ module _ (mode : Mode) (honest : Bool) (settings : Settings) (st : Store) (seen 
   late_by file old new called.Clean fault other same (inr (several, inl memory)) = inl memory
   late_by file old new called.Clean fault other same (inr (several, inr device)) = absurd (other device.0)
 
-  why_by : (now : Store) (file : List ℕ) (old new place : ℕ) (fault : Fault) → place ≡ 0 → now ≡ st → fault ≢ Device → IsPlayFault settings now file old new (x ∷ []) place fault
-      → (fault ≡ NoMemory) ⊎ (refusal_of settings st (untidied file) order ≡ Some fault)
+  why_by : (now : Store) (file : List ℕ) (old new place : ℕ) (fault : Fault) → place ≡ 0 → now ≡ st → fault ≢ Device → IsPlayFault settings now file old new (x ∷ []) place fault → WhyRefused file fault
   why_by now file old new place fault first same other (inl memory) = inl memory.1
-  why_by now file old new place fault first same other (inr (z, rest, orders_left_is, refused)) =
+  why_by now file old new place fault first same other (inr (z, rest, orders_left_is, refused_so)) =
       let front : x ∷ [] ≡ z ∷ rest = subst (λ (n : ℕ). drop n (x ∷ []) ≡ z ∷ rest) first orders_left_is in
       let one : z ≡ x = cc in
-      late_by file old new z fault other one (subst (λ (s : Store). IsStepFault settings s file old new (step_of z) fault) same refused)
+      late_by file old new z fault other one (subst (λ (s : Store). IsStepFault settings s file old new (step_of z) fault) same refused_so)
+
+  -- it fails for want of memory, which leaves all as it was
+  module _ (text : Option (List ℕ)) (now : Store) (bytes : List ℕ) (same : now ≡ st) (unwritten : IsTrue honest → bytes ≡ seen) where
+    pub RunsOrder-memory : (fault : Fault) → fault ≡ NoMemory → RunsOrder mode honest settings st seen order text text (Err (errors.Fault fault)) now bytes
+    RunsOrder-memory fault memory =
+        let may : MayFail mode.clean_when_full settings (st, seen) order fault =
+        subst (MayFail mode.clean_when_full settings (st, seen) order) (sym memory) (memory_fails mode.clean_when_full settings (st, seen) order (step_of x) is) in
+        let some = refusal_of-failing settings st (failing (Some fault) seen) order fault refl in (
+          failing (Some fault) seen,
+          seen_failing mode honest settings st seen seen order fault may (λ h. refl),
+          refused settings st (failing (Some fault) seen) order mode.stream text text fault refl some,
+          λ other. LeavesStored-unmoved honest settings st st (failing (Some fault) seen) order fault some seen (after_order-failing settings st seen order fault) refl now bytes same unwritten,
+        )
+
+    -- by its right
+    RunsOrder-right : (file : List ℕ) → (IsTrue honest → file ≡ seen) → (fault : Fault) → after_step (batching settings) settings st file (step_of x) ≡ Err fault
+        → RunsOrder mode honest settings st seen order text text (Err (errors.Fault fault)) now bytes
+    RunsOrder-right file of_seen fault e =
+        let some = right_by file fault e in
+        let after : after_order settings st (untidied file) order ≡ (st, file) =
+        after_order-untidied settings st file order ∙ ap (left_by_step settings (st, file)) is ∙ ap (left_by (st, file)) e in (
+          untidied file,
+          seen_left mode honest settings st seen file order of_seen,
+          refused settings st (untidied file) order mode.stream text text fault refl some,
+          λ other. LeavesStored-unmoved honest settings st st (untidied file) order fault some file after refl now bytes same (λ h. unwritten h ∙ sym (of_seen h)),
+        )
+
+    RunsOrder-why : (file : List ℕ) → (IsTrue honest → file ≡ seen) → (fault : Fault) → WhyRefused file fault → RunsOrder mode honest settings st seen order text text (Err (errors.Fault fault)) now bytes
+    RunsOrder-why file of_seen fault (inl memory) = RunsOrder-memory fault memory
+    RunsOrder-why file of_seen fault (inr e) = RunsOrder-right file of_seen fault e
+
+  -- a device failed before anything of it was written
+  pub RunsOrder-device : (text : Option (List ℕ)) (now : Store) (bytes : List ℕ) → RunsOrder mode honest settings st seen order text text (Err errors.Device) now bytes
+  RunsOrder-device text now bytes = (
+    untidied seen,
+    seen_untidied mode honest settings st seen order,
+    cut_off settings st (untidied seen) order mode.stream text text refl,
+    λ other. absurd (other refl),
+  )
 
   -- it is refused: by its right, or for lack of memory, or since a device failed, before anything of it is written
   pub RunsOrder-refused : (text : Option (List ℕ)) (said : List code_answer.Answer) (now : Store) (file bytes : List ℕ) (old new place : ℕ) (fault : Fault) (early : SessionError) → place < 1
       → IsEndingOf fault early → IsPlayed honest settings st seen (map step_of (take place (x ∷ []))) said now
       → (IsTrue honest → file ≡ (let p : Played Global = plays (batching settings) settings st seen (map step_of (take place (x ∷ []))) in p.bytes))
+      → (IsTrue honest → fault ≢ Device → bytes ≡ (let p : Played Global = plays (batching settings) settings st seen (map step_of (take place (x ∷ []))) in p.bytes))
       → IsPlayFault settings now file old new (x ∷ []) place fault → RunsOrder mode honest settings st seen order text text (Err early) now bytes
-  RunsOrder-refused text said now file bytes old new place fault early below (inl device) played shown refused =
-      rw device.1 (untidied seen, seen_untidied mode honest seen, cut_off settings st (untidied seen) order text text refl, tt)
-  RunsOrder-refused text said now file bytes old new place fault early below (inr other) played shown refused =
+  RunsOrder-refused text said now file bytes old new place fault early below (inl device) played shown after refused_so =
+      subst (λ (e : SessionError). RunsOrder mode honest settings st seen order text text (Err e) now bytes) (sym device.1) (RunsOrder-device text now bytes)
+  RunsOrder-refused text said now file bytes old new place fault early below (inr other) played shown after refused_so =
       let first : place ≡ 0 = omega (arith, below) in
       let none_played = subst (λ (n : ℕ). IsPlayed honest settings st seen (map step_of (take n (x ∷ []))) said now) first played in
       let of_seen = subst (λ (n : ℕ). IsTrue honest → file ≡ (let p : Played Global = plays (batching settings) settings st seen (map step_of (take n (x ∷ []))) in p.bytes)) first shown in
-      rw other.1 (untidied file, seen_left mode honest seen file of_seen, stopped settings st (untidied file) order text text fault refl (why_by now file old new place fault first none_played.1 other.0 refused), tt)
+      let unwritten = λ (h : IsTrue honest). subst (λ (n : ℕ). bytes ≡ (let p : Played Global = plays (batching settings) settings st seen (map step_of (take n (x ∷ []))) in p.bytes)) first (after h other.0) in
+      subst (λ (e : SessionError). RunsOrder mode honest settings st seen order text text (Err e) now bytes) (sym other.1)
+      (RunsOrder-why text now bytes none_played.1 unwritten file of_seen fault (why_by now file old new place fault first none_played.1 other.0 refused_so))
 
   module _ (a : code_answer.Answer) (mid : Store) (bytes : List ℕ) (done : IsStepDone honest settings st seen (step_of x) a mid bytes) where
     abbrev outcome : Answer Global × Stored
@@ -413,7 +545,7 @@ module _ (mode : Mode) (honest : Bool) (settings : Settings) (st : Store) (seen 
     left_is = after_order-untidied settings st done.file order ∙ ap (left_by_step settings (st, done.file)) is ∙ ap (left_by (st, done.file)) done.done
 
     none : refusal_of settings st (untidied done.file) order ≡ None
-    none = refusal_of-untidied settings st done.file order ∙ ap (refusal_of_step settings (st, done.file)) is ∙ ap refused_by done.done
+    none = refusal_of-untidied settings st done.file order (step_of x) is ∙ ap (refusal_of_step settings (st, done.file)) is ∙ ap refused_by done.done
 
     -- on an honest disk it is done of what was there
     bytes_are : IsTrue honest → (alone settings st seen (step_of x)).bytes ≡ bytes
@@ -425,10 +557,9 @@ module _ (mode : Mode) (honest : Bool) (settings : Settings) (st : Store) (seen 
         (after_is : IsTrue honest → after ≡ (alone settings st seen (step_of x)).bytes) where
       leaves : LeavesStored honest settings st (untidied done.file) order now after
       leaves = record {
-        unrefused = none;
         store = now_is ∙ ap (λ (q : Stored). q.0) (sym left_is);
         bytes = λ h. after_is h ∙ bytes_are h ∙ ap (λ (q : Stored). q.1) (sym left_is);
-        holds = ap (λ (s : Store). contents s.tree) now_is ∙ holds;
+        holds = ap (λ (s : Store). contents s.tree) now_is ∙ holds ∙ ap (λ (r : Option Fault). map_unless r (contents st.tree) order) (sym none);
       }
 
       answers_of : (said : List code_answer.Answer) → said ≡ a ∷ [] → flat_map shown_answer (map answer_of said) ≡ own_lines settings st (untidied done.file) (contents st.tree) order
@@ -437,41 +568,68 @@ module _ (mode : Mode) (honest : Bool) (settings : Settings) (st : Store) (seen 
           ∙ sym (lines_of settings st done.file order (step_of x) outcome is done.done left_is)
 
       one_answered : (old new : Option (List ℕ)) (end : Result (Unit {0}) SessionError) (said : List code_answer.Answer) → said ≡ a ∷ []
-          → Prints old new (flat_map shown_answer (map answer_of said)) (Ok tt) end → RunsOrder mode honest settings st seen order old new end now after
+          → Writes old new (flat_map shown_answer (map answer_of said)) end → RunsOrder mode honest settings st seen order old new end now after
       one_answered old new end said said_is p =
-          let printed = subst (λ (l : List (List ℕ)). Prints old new l (Ok tt) end) (answers_of said said_is) p in
-          (untidied done.file, seen_left mode honest seen done.file done.shown, answered settings st (untidied done.file) order old new end none printed, OnOk-always end leaves)
+          let printed = subst (λ (l : List (List ℕ)). PrintsOwn mode.stream old new l (Ok tt) end) (answers_of said said_is) (PrintsOwn-writes mode.stream old new (flat_map shown_answer (map answer_of said)) end p) in (
+            untidied done.file,
+            seen_left mode honest settings st seen done.file order done.shown,
+            all_printed settings st (untidied done.file) order mode.stream old new end none printed,
+            λ other. leaves,
+          )
 
   -- it is played, and its answers are written
   pub RunsOrder-answered : PlansHold settings st → CleansKeep settings st → (said : List code_answer.Answer) (now : Store) (after : List ℕ)
       → IsPlayed honest settings st seen (step_of x ∷ []) said now → (IsTrue honest → after ≡ (alone settings st seen (step_of x)).bytes)
-      → (old new : Option (List ℕ)) (end : Result (Unit {0}) SessionError) → Prints old new (flat_map shown_answer (map answer_of said)) (Ok tt) end
+      → (old new : Option (List ℕ)) (end : Result (Unit {0}) SessionError) → Writes old new (flat_map shown_answer (map answer_of said)) end
       → RunsOrder mode honest settings st seen order old new end now after
   RunsOrder-answered hold keep said now after (a, rest, said_is, mid, bytes, done, ended) after_is old new end p =
       let holds = map_of settings st hold keep done.file order (step_of x) (answer_of a, (mid, bytes)) is done.done in
       one_answered a mid bytes done holds now ended.1 after after_is old new end said (said_is ∙ ap (λ (r : List code_answer.Answer). a ∷ r) ended.0) p
 
--- it ends since the log is full for a step, or since there is nothing to clean
-abbrev pub IsNoRoom : Result (Unit {0}) SessionError → Type 0
-IsNoRoom end = (end ≡ Err (errors.Fault Full)) ⊎ (end ≡ Err (errors.Fault NothingToClean))
+  -- so it leaves the map of its order
+  pub answered_holds : PlansHold settings st → CleansKeep settings st → (said : List code_answer.Answer) (now : Store) → IsPlayed honest settings st seen (step_of x ∷ []) said now
+      → contents now.tree ≡ map_after (contents st.tree) order
+  answered_holds hold keep said now (a, rest, said_is, mid, bytes, done, ended) =
+      ap (λ (s : Store). contents s.tree) ended.1 ∙ map_of settings st hold keep done.file order (step_of x) (answer_of a, (mid, bytes)) is done.done
 
-no_device : (early : SessionError) → early ≡ errors.Device → IsNoRoom (Err early) → ⊥
-no_device early device (inl full) = cc
-no_device early device (inr nothing) = cc
+-- ---- what a refusal leaves
 
--- a step that is refused leaves all as it was, but where a call of the disk failed; here there was no room for it
-pub refused_leaves : (honest : Bool) (settings : Settings) (st : Store) (seen : List ℕ) (x : code_step.Step) (said : List code_answer.Answer) (now : Store) (bytes : List ℕ) (place : ℕ)
-    (fault : Fault) (early : SessionError) (had_failed has_failed : Bool) → place < 1 → IsEndingOf fault early → IsPlayed honest settings st seen (map step_of (take place (x ∷ []))) said now
-    → (IsTrue honest → fault ≢ Device → bytes ≡ (let p : Played Global = plays (batching settings) settings st seen (map step_of (take place (x ∷ []))) in p.bytes))
-    → (fault ≢ Device → has_failed ≡ had_failed) → IsNoRoom (Err early)
-    → (now ≡ st) × (has_failed ≡ had_failed) × (IsTrue honest → bytes ≡ seen)
-refused_leaves honest settings st seen x said now bytes place fault early had_failed has_failed below (inl device) played shown counted full =
-    absurd (no_device early device.1 full)
-refused_leaves honest settings st seen x said now bytes place fault early had_failed has_failed below (inr other) played shown counted full =
+-- the step is refused, and the store is as it was
+pub refused_store : (honest : Bool) (settings : Settings) (st : Store) (seen : List ℕ) (x : code_step.Step) (said : List code_answer.Answer) (now : Store) (place : ℕ) → place < 1
+    → IsPlayed honest settings st seen (map step_of (take place (x ∷ []))) said now → now ≡ st
+refused_store honest settings st seen x said now place below played =
     let first : place ≡ 0 = omega (arith, below) in
     let none_played = subst (λ (n : ℕ). IsPlayed honest settings st seen (map step_of (take n (x ∷ []))) said now) first played in
-    let left = λ (h : IsTrue honest). subst (λ (n : ℕ). bytes ≡ (let p : Played Global = plays (batching settings) settings st seen (map step_of (take n (x ∷ []))) in p.bytes)) first (shown h other.0) in
-    (none_played.1, counted other.0, left)
+    none_played.1
+
+-- what was written of an answer ends for no other reason than that the output failed
+pub written_ends : (P : Type 0) (old new : Option (List ℕ)) (lines : List (List ℕ)) (end : Result (Unit {0}) SessionError) → Writes old new lines end → IfErr end (λ early. early ≢ errors.Device → P)
+written_ends P old new lines (Ok done) w = tt
+written_ends P old new lines (Err early) (inl (e, a)) = absurd (cc)
+written_ends P old new lines (Err early) (inr (e, b)) = λ other. absurd (other (same_ending early errors.Device e))
+
+-- no device failed in a call of the store where none did in the session
+pub no_device_in : (fault : Fault) (early : SessionError) → IsEndingOf fault early → early ≢ errors.Device → fault ≢ Device
+no_device_in fault early (inl device) other = absurd (other device.1)
+no_device_in fault early (inr ended) other = ended.0
+
+pub err_device : {A : Type 0} (early : SessionError) → (let end : Result A SessionError = Err early in end ≢ Err errors.Device) → early ≢ errors.Device
+err_device {A} early other device = other (ap (λ (x : SessionError). (let end : Result A SessionError = Err x in end)) device)
+
+pub device_err : {A : Type 0} (early : SessionError) → early ≢ errors.Device → (let end : Result A SessionError = Err early in end ≢ Err errors.Device)
+device_err {A} early other e = let same : early ≡ errors.Device = cc in other same
+
+-- a step that is refused leaves all as it was, but where a call of the disk failed
+pub refused_leaves : (honest : Bool) (settings : Settings) (st : Store) (seen : List ℕ) (x : code_step.Step) (said : List code_answer.Answer) (now : Store) (bytes : List ℕ) (place : ℕ)
+    (fault : Fault) (had_failed has_failed : Bool) → place < 1 → IsPlayed honest settings st seen (map step_of (take place (x ∷ []))) said now
+    → (IsTrue honest → fault ≢ Device → bytes ≡ (let p : Played Global = plays (batching settings) settings st seen (map step_of (take place (x ∷ []))) in p.bytes))
+    → (fault ≢ Device → has_failed ≡ had_failed) → fault ≢ Device
+    → (now ≡ st) × (has_failed ≡ had_failed) × (IsTrue honest → bytes ≡ seen)
+refused_leaves honest settings st seen x said now bytes place fault had_failed has_failed below played shown counted other =
+    let first : place ≡ 0 = omega (arith, below) in
+    let none_played = subst (λ (n : ℕ). IsPlayed honest settings st seen (map step_of (take n (x ∷ []))) said now) first played in
+    let left = λ (h : IsTrue honest). subst (λ (n : ℕ). bytes ≡ (let p : Played Global = plays (batching settings) settings st seen (map step_of (take n (x ∷ []))) in p.bytes)) first (shown h other) in
+    (none_played.1, counted other, left)
 
 -- ---- a clean by what was read of the log
 
@@ -481,7 +639,7 @@ module _ {D : Type 0} (view : D → View) (failures : D → ℕ) (before after :
 
   -- it is done, and its line is written
   pub RunsOrder-cleaned : CleansKeep before.settings before.store → (head : ℕ) → IsDoneClean view failures before after head → (mode : Mode) (old new : Option (List ℕ))
-      (end : Result (Unit {0}) SessionError) → Prints old new (shown_cleaned head ∷ []) (Ok tt) end
+      (end : Result (Unit {0}) SessionError) → Writes old new (shown_cleaned head ∷ []) end
       → RunsOrder mode (view before.disk).is_honest before.settings before.store seen_before Clean old new end after.store (view after.disk).seen
   RunsOrder-cleaned keep head clean mode old new end p =
       let (bytes, done) = clean.step in
@@ -490,87 +648,35 @@ module _ {D : Type 0} (view : D → View) (failures : D → ℕ) (before after :
       (map_of_clean before.settings before.store keep done.file outcome done.done) after.store refl (view after.disk).seen
       (λ h. sym (ap (λ (q : Played Global). q.bytes) (alone_is before.settings before.store seen_before Step.Clean _ (clean.bytes h)))) old new end (given.Cleaned head ∷ []) refl p
 
+  -- a clean keeps the map
+  pub cleaned_holds : CleansKeep before.settings before.store → (head : ℕ) → IsDoneClean view failures before after head → contents after.store.tree ≡ contents before.store.tree
+  cleaned_holds keep head clean =
+      let (bytes, done) = clean.step in
+      let outcome : Answer Global × Stored = (Answer.Cleaned head, (after.store, bytes)) in
+      map_of_clean before.settings before.store keep done.file outcome done.done
+
   -- it is refused, and nothing is written
   pub RunsOrder-uncleaned : (fault : Fault) → IsRefusedClean view failures before after fault → (early : SessionError) → IsEndingOf fault early → (mode : Mode) (text : Option (List ℕ))
       → RunsOrder mode (view before.disk).is_honest before.settings before.store seen_before Clean text text (Err early) after.store (view after.disk).seen
-  RunsOrder-uncleaned fault refused early ending mode text =
-      let (file, shown, why) = refused.why in
-      RunsOrder-refused mode (view before.disk).is_honest before.settings before.store seen_before Clean called.Clean refl text [] before.store file (view after.disk).seen
-      (failures before.disk) (failures after.disk) 0 fault early (omega arith) ending (refl, refl) shown (inr (called.Clean, [], refl, why))
+  RunsOrder-uncleaned fault refused_so early (inl device) mode text =
+      subst (λ (e : SessionError). RunsOrder mode (view before.disk).is_honest before.settings before.store seen_before Clean text text (Err e) after.store (view after.disk).seen) (sym device.1)
+      (RunsOrder-device mode (view before.disk).is_honest before.settings before.store seen_before Clean called.Clean refl text after.store (view after.disk).seen)
+  RunsOrder-uncleaned fault refused_so early (inr other) mode text =
+      let (file, shown, why) = refused_so.why in
+      subst (λ (e : SessionError). RunsOrder mode (view before.disk).is_honest before.settings before.store seen_before Clean text text (Err e) after.store (view after.disk).seen) (sym other.1)
+      (RunsOrder-why mode (view before.disk).is_honest before.settings before.store seen_before Clean called.Clean refl text after.store (view after.disk).seen refused_so.store
+      (λ h. (refused_so.same h other.0).seen) file shown fault
+      (late_by mode (view before.disk).is_honest before.settings before.store seen_before Clean called.Clean refl file (failures before.disk) (failures after.disk) called.Clean fault other.0 refl why))
 
-  -- it leaves all as it was, but where a call of the disk failed; here there was no room for it
-  pub uncleaned_leaves : (fault : Fault) → IsRefusedClean view failures before after fault → (early : SessionError) → IsEndingOf fault early → IsNoRoom (Err early)
-      → (after.store ≡ before.store) × (after.has_failed ≡ before.has_failed) × (IsTrue (view before.disk).is_honest → (view after.disk).seen ≡ seen_before)
-  uncleaned_leaves fault refused early (inl device) full = absurd (no_device early device.1 full)
-  uncleaned_leaves fault refused early (inr other) full = (refused.store, (refused.counted other.0).0, λ h. (refused.same h other.0).seen)
-
--- what is printed for a step that was done ends so for no want of room
-pub Prints-never_full : (old new : Option (List ℕ)) (lines : List (List ℕ)) (end : Result (Unit {0}) SessionError) → Prints old new lines (Ok tt) end → IsNoRoom end → ⊥
-Prints-never_full old new lines end (inl (e, a)) (inl full) = cc
-Prints-never_full old new lines end (inl (e, a)) (inr nothing) = cc
-Prints-never_full old new lines end (inr (inl (e, a))) (inl full) = cc
-Prints-never_full old new lines end (inr (inl (e, a))) (inr nothing) = cc
-Prints-never_full old new lines end (inr (inr (e, a))) (inl full) = cc
-Prints-never_full old new lines end (inr (inr (e, a))) (inr nothing) = cc
+  -- it leaves all as it was, but where a call of the disk failed
+  pub uncleaned_leaves : (fault : Fault) → IsRefusedClean view failures before after fault → fault ≢ Device → IsUntouched view before after
+  uncleaned_leaves fault refused_so other = (refused_so.store, (refused_so.counted other).0, λ h. (refused_so.same h other).seen)
 
 -- what orders can end by before anything of them is done
-abbrev pub IsCut : SessionError → Type 0
-IsCut early = (early ≡ errors.Fault NoMemory) ⊎ (early ≡ errors.Device)
-
-pub Runs-cut : (settings : Settings) (st : Store) (shown : Reads) (orders : List Order) (old new : Option (List ℕ)) → Appends old new [] → (early : SessionError) → IsCut early
-    → Runs settings st shown orders old new (Err early)
+pub Runs-ended : (on stream : Bool) (settings : Settings) (st : Store) (shown : Reads) (orders : List Order) (old new : Option (List ℕ)) (early : SessionError) → PrintsCut stream old new early
+    → Runs on stream settings st shown orders old new (Err early)
 unfolding Runs
-Runs-cut settings st shown orders old new none early (inl e) =
-    inr (inl (ap (λ (x : SessionError). Err x) e, ([], (answer_lines settings st shown (contents st.tree) (accepted settings st shown orders), refl), none)))
-Runs-cut settings st shown orders old new none early (inr e) =
-    inr (inr (ap (λ (x : SessionError). Err x) e, ([], (flat (answer_lines settings st shown (contents st.tree) (accepted settings st shown orders)), refl), none)))
-
--- memory is refused before anything of an order is done
-pub RunsOrder-forgone : (mode : Mode) (honest : Bool) (settings : Settings) (st : Store) (seen : List ℕ) (order : Order) (old : Option (List ℕ)) → RunsOrder mode honest settings st seen order old old (Err (errors.Fault NoMemory)) st seen
-RunsOrder-forgone mode honest settings st seen order old = (untidied seen, seen_untidied mode honest seen, stopped settings st (untidied seen) order old old NoMemory refl (inl refl), tt)
-
--- ---- what a verify answers
-
-module _ (mode : Mode) (honest : Bool) (settings : Settings) (st : Store) (seen : List ℕ) (order : Order) (order_is : order ≡ Verify) where
-  never_refused : (file : Seen) → refusal_of settings st file Verify ≡ None
-  unfolding refusal_of
-  never_refused file = refl
-
-  pub RunsOrder-unverified : (old : Option (List ℕ)) (fault : Fault) → fault ≡ NoMemory → RunsOrder mode honest settings st seen order old old (Err (errors.Fault fault)) st seen
-  RunsOrder-unverified old fault e = (untidied seen, seen_untidied mode honest seen, stopped settings st (untidied seen) order old old fault refl (inl e), tt)
-
-  unmoved : LeavesStored honest settings st (untidied seen) Verify st seen
-  unfolding after_order refusal_of
-  unmoved = record { unrefused = refl; store = refl; bytes = λ h. refl; holds = refl }
-
-  pub RunsOrder-verified : (old new : Option (List ℕ)) (end : Result (Unit {0}) SessionError) (request : Report) → request ≡ report st.tree → Prints old new (shown_report request ∷ []) (Ok tt) end
-      → RunsOrder mode honest settings st seen order old new end st seen
-  RunsOrder-verified old new end request is p =
-      let printed = subst (λ (r : Report). Prints old new (shown_report r ∷ []) (Ok tt) end) is p in
-      subst (λ (o : Order). RunsOrder mode honest settings st seen o old new end st seen) (sym order_is)
-      (untidied seen, seen_untidied mode honest seen, answered settings st (untidied seen) Verify old new end (never_refused (untidied seen)) printed, OnOk-always end unmoved)
-
--- ---- the numbers of the store
-
-module _ (mode : Mode) (honest : Bool) (settings : Settings) (st : Store) (seen : List ℕ) (order : Order) (order_is : order ≡ Numbers) where
-  numbers_given : (file : Seen) → refusal_of settings st file Numbers ≡ None
-  unfolding refusal_of
-  numbers_given file = refl
-
-  still : LeavesStored honest settings st (untidied seen) Numbers st seen
-  unfolding after_order refusal_of
-  still = record { unrefused = refl; store = refl; bytes = λ h. refl; holds = refl }
-
-  pub RunsOrder-uncounted : (old : Option (List ℕ)) (fault : Fault) → fault ≡ NoMemory → RunsOrder mode honest settings st seen order old old (Err (errors.Fault fault)) st seen
-  RunsOrder-uncounted old fault e = (untidied seen, seen_untidied mode honest seen, stopped settings st (untidied seen) order old old fault refl (inl e), tt)
-
-  pub RunsOrder-counted : (old new : Option (List ℕ)) (end : Result (Unit {0}) SessionError) (numbers : StoreNumbers) → numbers ≡ numbers_of settings st
-      → Prints old new (shown_numbers numbers ∷ []) (Ok tt) end → RunsOrder mode honest settings st seen order old new end st seen
-  RunsOrder-counted old new end numbers is p =
-      let printed = subst (λ (n : StoreNumbers). Prints old new (shown_numbers n ∷ []) (Ok tt) end) is p in
-      subst (λ (o : Order). RunsOrder mode honest settings st seen o old new end st seen) (sym order_is)
-      (untidied seen, seen_untidied mode honest seen, answered settings st (untidied seen) Numbers old new end (numbers_given (untidied seen)) printed, OnOk-always end still)
-
--- the orders from this place on
-pub orders_left : (orders : List Order) (i : ℕ) (order : Order) → i < length orders → order ≡ get_or orders i order → drop i orders ≡ order ∷ drop (i + 1) orders
-orders_left orders i order h is = drop_more orders i order h ∙ ap (λ (o : Order). o ∷ drop (i + 1) orders) (sym is)
+Runs-ended on stream settings st shown orders old new early (inl (off, e, none)) =
+    inr (inl (off, ap (λ (x : SessionError). Err x) e, ([], (answered on settings st shown (contents st.tree) orders, refl), none)))
+Runs-ended on stream settings st shown orders old new early (inr (e, (last, ends, a))) =
+    inr (inr (ap (λ (x : SessionError). Err x) e, ([], last, (flat (answered on settings st shown (contents st.tree) orders), refl), ends, a)))

@@ -1,6 +1,6 @@
 -- The store that a session opens.
 use Rattle.std.proofs.Common.{◌≡◌, ◌≢◌, ◌⊎◌, inl, inr, ◌≤◌, ℕ, false, sym, List, [], Option, None, Some, Ok, Err, refl, ap, ◌∙◌, subst, arith}
-use Rattle.std.specs.Prelude.{IsTrue, length, MatchOption, nat_lt}
+use Rattle.std.specs.Prelude.{IsTrue, length, replicate, MatchOption, nat_lt}
 use Rattle.std.proofs.lemmas.Bool.Decides.{nat_tests}
 use Rattle.keys.specs.Limits.{first_bad_field}
 use Rattle.keys.specs.declared.fault.Fault.{Fault}
@@ -20,7 +20,8 @@ use Rattle.engine.specs.State.{State}
 use Rattle.bwsh.specs.declared.session.SessionError.{SessionError}
 use Rattle.bwsh.specs.declared.session.SessionError.TheVariants.{Device}
 use Rattle.bwsh.specs.declared.session.SessionError.TheVariants as errors
-use Rattle.bwsh.specs.Session.{Start, IsCopyEnd, Opens, IsUnopened, start_unless, start_by, first_stored, new_start, found_start}
+use Rattle.bwsh.specs.Options.{Request, Text}
+use Rattle.bwsh.specs.Session.{Start, IsCopyEnd, IsStartBy, Opens, IsUnopened, start_unless, start_by, first_stored, new_start, found_start}
 
 -- an ending for a fault: a device's is reported as such
 abbrev pub IsEndingOf : Fault → SessionError → Type 0
@@ -105,3 +106,12 @@ Opens-found view file old x e kept read seen =
 pub IsUnopened-found : (file : List ℕ) (old new : ℕ) (f : Fault) (early : SessionError) → (store_of_disk file ≡ Err f) ⊎ IsLate old new f → IsEndingOf f early → IsUnopened (found_start file) early
 IsUnopened-found file old new f early (inl own) ending = right (found_start file) f early (ap (start_by file) own) ending
 IsUnopened-found file old new f early (inr later) ending = late (found_start file) old new f early later ending
+
+-- ---- the start that the words give
+
+-- in memory
+pub IsStartBy-memory : (request : Request) → request.disk ≡ None
+    → IsStartBy request.settings request.disk request.create None (new_start request.settings (replicate (disk_size request.settings) 0))
+IsStartBy-memory request none =
+    let start : Start = new_start request.settings (replicate (disk_size request.settings) 0) in
+    subst (λ (d : Option Text). IsStartBy request.settings d request.create None start) (sym none) refl

@@ -1,9 +1,9 @@
 -- Lemmas on stores that are tidied before their flushes.
-use Rattle.std.proofs.Common.{◌≡◌, ◌≢◌, ◌⊎◌, inl, inr, ℕ, List, [], ◌∷◌, ◌++◌, map, Option, None, Result, Ok, Err, refl, sym, ap, ◌∙◌, subst, append_assoc}
-use Rattle.std.specs.Prelude.{Bool, true, false, not, ◌&&◌, if◌then◌else◌, nat_eq, IsTrue, OnOk}
+use Rattle.std.proofs.Common.{◌≡◌, ◌≢◌, ◌⊎◌, inl, inr, ℕ, List, [], ◌∷◌, ◌++◌, map, Option, Some, None, Result, Ok, Err, refl, sym, ap, ◌∙◌, subst, append_assoc}
+use Rattle.std.specs.Prelude.{Bool, true, false, not, ◌&&◌, if◌then◌else◌, nat_eq, is_err, IfSome, IsTrue}
 use Rattle.std.specs.List.{flat_map}
 use Rattle.std.specs.declared.alloc.Global.{Global}
-use Rattle.std.proofs.lemmas.Result.{on_ok_weaker}
+use Rattle.std.specs.Option.{option_or}
 use Rattle.std.proofs.lemmas.Slice.Eq.{bytes_eq-Decides}
 use Rattle.keys.proofs.RunLemmas.{map_after_all-append}
 use Rattle.keys.specs.Step.{replies_to, map_after_all}
@@ -27,16 +27,16 @@ use Rattle.engine.specs.Compacted.{IsCompacted, compacted}
 use Rattle.engine.specs.Room.{is_bloated, is_two_thirds_full}
 use Rattle.engine.specs.State.{State}
 use Rattle.engine.specs.Tidied.{IsTidied}
-use Rattle.bwsh.specs.declared.batch_file.Order.{Order}
-use Rattle.bwsh.specs.declared.batch_file.Order.TheVariants.{Batch, Flush, Clean, Upgrade, Verify, Numbers}
+use Rattle.bwsh.specs.declared.order.Order.{Order}
+use Rattle.bwsh.specs.declared.order.Order.TheVariants.{Batch, Flush, Clean}
 use Rattle.bwsh.specs.declared.options.asked.Mode.{Mode}
 use Rattle.bwsh.specs.declared.session.SessionError.{SessionError}
 use Rattle.bwsh.specs.declared.session.SessionError.TheVariants as errors
 use Rattle.bwsh.specs.BatchFile.{commands_of}
-use Rattle.bwsh.specs.Session.{Batches, IsAsked, IsByBatches, LeavesStored, Prints, Reads, Runs, RunsOrder, Seen, Stored, Tidying, TidiesTo, answer_lines, after_order, by_batches, compacted_if, compacting, if_it_holds, is_same_map, later, left_by, left_by_step, map_after, no_tidying, own_lines, refusal_of, refusal_of_step, refused_by, step_in, tidied, tidied_tree, tree_of_batches}
+use Rattle.bwsh.specs.Session.{Batches, IsAsked, IsByBatches, LeavesStored, MayFail, Reads, RunsOrder, Seen, Stored, Tidying, TidiesTo, answer_lines, after_order, by_batches, compacted_if, compacting, if_it_holds, is_same_map, later, left_by, left_by_step, left_unless, map_after, map_unless, no_tidying, own_lines, own_refusal, refusal_of, refusal_of_step, refused_by, step_in, tidied, tidied_tree, tree_of_batches}
 use Rattle.bwsh.specs.Shown.{shown_cleaned, shown_flushed, shown_reply}
-use Rattle.bwsh.proofs.Prints.{Prints-all, front-whole}
-use Rattle.bwsh.proofs.RunLemmas.{LeavesStored-alike, OnOk-always, Runs-alike, answered, answering, committed_unless, of_clean}
+use Rattle.bwsh.proofs.Prints.{front-whole}
+use Rattle.bwsh.proofs.RunLemmas.{LeavesStored-alike, LeavesStored-unmoved, Runs-alike, all_printed, answering, committed_unless, of_clean, own_all, own_printed, refusal_of-failing, refused, unrefused_by}
 
 -- ---- maps
 
@@ -147,11 +147,7 @@ compacts settings st now bloated is = compacted_then settings st st now [] (λ f
 
 map_after-is : (m : Rows) (order : Order) → map_after_all m (commands_of order) ≡ map_after m order
 map_after-is m (Batch cs) = refl
-map_after-is m Flush = refl
-map_after-is m Clean = refl
-map_after-is m Upgrade = refl
-map_after-is m Verify = refl
-map_after-is m Numbers = refl
+map_after-is m _ = refl
 
 -- a batch prints the replies of the map after the commands that were ordered before it
 pub replies-anywhere : (settings : Settings) (st : Store) (shown : Reads) (m : Rows) (front : List Order) (commands : List (Command Global)) (rest : List Order)
@@ -215,11 +211,6 @@ TidiesTo-compacted mode settings st mid now room (batches, unasked, are) (inr (f
       leaves = compacted_then settings st mid now batches are bloated is;
     }
 
--- a test that is not off is on
-pub on_by : (b : Bool) → not b ≡ false → b ≡ true
-on_by true e = refl
-on_by false e = absurd (cc)
-
 -- the same of a store on its disk
 pub TidiesTo-after : {D : Type 0} (mode : Mode) (x y z : State D) → mode.clean_when_full ≡ true → y.settings ≡ x.settings → IsByBatches mode x.settings x.store y.store
     → (z ≡ y) ⊎ (IsTrue (is_two_thirds_full y.settings y.store) × IsTrue (is_bloated y.settings y.store.tree) × IsCompacted y.settings y.store z.store) → TidiesTo mode x.settings x.store z.store
@@ -249,11 +240,17 @@ module _ (settings : Settings) (batches : Tidying) (under st : Store) (are : IsT
     -- a flush of the tidied store leaves what one leaves before which the store is tidied, and is refused for the same reason
     after_flush_of : after_order settings under (record seen { tidying = batches }) Flush ≡ after_order settings st seen Flush
     unfolding after_order
-    after_flush_of = ap (λ (at : Stored). left_by_step settings at (step_in Flush)) at_hand
+    after_flush_of = ap (λ (at : Stored). left_unless seen.fails at (left_by_step settings at (step_in Flush))) at_hand
 
     refusal_flush_of : refusal_of settings under (record seen { tidying = batches }) Flush ≡ refusal_of settings st seen Flush
     unfolding refusal_of
-    refusal_flush_of = ap (λ (at : Stored). refusal_of_step settings at (step_in Flush)) at_hand
+    refusal_flush_of = ap (λ (at : Stored). option_or seen.fails (own_refusal settings at Flush)) at_hand
+
+-- a flush that can fail so where flushes make themselves no room can where they do
+fails_too : (cleans : Bool) (settings : Settings) (at other : Stored) (o : Option Fault) → IfSome o (MayFail false settings at Flush) → IfSome o (MayFail cleans settings other Flush)
+fails_too cleans settings at other None may = tt
+fails_too cleans settings at other (Some fault) (inl memory) = inl memory
+fails_too cleans settings at other (Some fault) (inr (on, frees, right)) = absurd (cc)
 
 pub RunsOrder-tidied : (mode : Mode) (honest : Bool) (settings : Settings) (batches : Tidying) → IsAsked mode batches → (under st : Store) → IsTidiedBy settings batches under st
     → (left : List ℕ) (old new : Option (List ℕ)) (end : Result (Unit {0}) SessionError) (now : Store) (bytes : List ℕ)
@@ -263,12 +260,12 @@ RunsOrder-tidied mode honest settings batches unasked under st are left old new 
     let plain : seen.tidying ≡ no_tidying = plain_of mode seen.tidying is.0 in
     let too : Seen = record seen { tidying = batches } in
     let after = after_flush_of settings batches under st are seen plain in
-    let refused = refusal_flush_of settings batches under st are seen plain in (
+    let refused_so = refusal_flush_of settings batches under st are seen plain in (
       (
         too,
-        (unasked, is.1),
-        Runs-alike settings under st too seen Flush refused (ap (λ (at : Stored). shown_flushed at.0.sequence ∷ []) after) old new end runs,
-        on_ok_weaker end (LeavesStored-alike honest settings under st too seen Flush refused after (sym (held_by settings batches under st are)) now bytes) leaves,
+        (unasked, fails_too mode.clean_when_full settings (st, seen.bytes) (under, seen.bytes) seen.fails is.1, is.2),
+        Runs-alike settings under st too seen Flush refused_so (ap (λ (at : Stored). shown_flushed at.0.sequence ∷ []) after) mode.stream old new end runs,
+        λ other. LeavesStored-alike honest settings under st too seen Flush refused_so after (sym (held_by settings batches under st are)) now bytes (leaves other),
       ),
       refl,
     )
@@ -283,22 +280,59 @@ flush_tidied mode b honest b_is s settings s_is shows seen shows_is first st by 
     let own = subst (λ (f : List ℕ). RunsOrder (untidy mode) honest settings st f Flush old new end now bytes) shows_is of_settings in
     (RunsOrder-tidied mode honest settings by.tidying by.asked first st by.leaves seen old new end now bytes own).0
 
+-- ---- a flush that fails
+
+-- these bytes are read, the store is tidied so, and this fails
+abbrev pub failing_flush : Tidying → List ℕ → Fault → Seen
+failing_flush batches file fault = record { bytes = file; ahead = file; tidying = batches; merged = []; fails = Some fault; told = [] }
+
+pub after_flush-failing : (settings : Settings) (st : Store) (batches : Tidying) (file : List ℕ) (fault : Fault)
+    → after_order settings st (failing_flush batches file fault) Flush ≡ tidied settings batches (st, file)
+unfolding after_order
+after_flush-failing settings st batches file fault = refl
+
 -- ---- memory that is refused when the flush is done
 
--- the lines of a flush that was answered, with whatever is seen
-lines_of_flush : (settings : Settings) (st : Store) (old new : Option (List ℕ)) (seen : Seen) (done : Unit {0}) → refusal_of settings st seen Flush ≡ None → Runs settings st (λ i. seen) (Flush ∷ []) old new (Ok done)
-    → Prints old new (own_lines settings st seen (contents st.tree) Flush) (Ok tt) (Ok done)
-unfolding Runs
-lines_of_flush settings st old new seen done none runs = rw none at runs
-
+-- in a session that isn't a stream, for there the flush isn't tried then
 pub RunsOrder-late : (mode : Mode) (honest : Bool) (settings : Settings) (st : Store) (left : List ℕ) (old new : Option (List ℕ)) (done : Unit {0}) (end : Result (Unit {0}) SessionError)
-    (now : Store) (bytes : List ℕ) → RunsOrder mode honest settings st left Flush old new (Ok done) now bytes → (end ≡ Ok tt) ⊎ (end ≡ Err (errors.Fault NoMemory))
+    (now : Store) (bytes : List ℕ) → RunsOrder mode honest settings st left Flush old new (Ok done) now bytes → (end ≡ Ok tt) ⊎ ((mode.stream ≡ false) × (end ≡ Err (errors.Fault NoMemory)))
     → RunsOrder mode honest settings st left Flush old new end now bytes
 RunsOrder-late mode honest settings st left old new done end now bytes one (inl e) = rw e one
-RunsOrder-late mode honest settings st left old new done end now bytes (seen, is, runs, leaves) (inr e) =
+RunsOrder-late mode honest settings st left old new done end now bytes (seen, is, runs, leaves) (inr (off, e)) =
     let lines : List (List ℕ) = own_lines settings st seen (contents st.tree) Flush in
-    let all = Prints-all old new lines (Ok tt) done (lines_of_flush settings st old new seen done leaves.unrefused runs) in
-    (seen, is, answered settings st seen Flush old new end leaves.unrefused (inr (inl (e, (lines, front-whole lines, all)))), OnOk-always end leaves)
+    let none = unrefused_by settings st seen Flush mode.stream old new done runs in
+    let all = own_all mode.stream old new lines done (own_printed settings st seen Flush mode.stream old new (Ok done) none runs) in (
+      seen,
+      is,
+      all_printed settings st seen Flush mode.stream old new end none (inr (inl (off, e, (lines, front-whole lines, all)))),
+      λ other. leaves (λ device. absurd (cc)),
+    )
+
+-- memory that was refused in tidying ends such a session
+pub late_or : (stream : Bool) (r : Result (Unit {0}) SessionError) → (r ≡ Ok tt) ⊎ (r ≡ Err (errors.Fault NoMemory)) → (stream ≡ false) ⊎ (is_err r ≡ false)
+    → (r ≡ Ok tt) ⊎ ((stream ≡ false) × (r ≡ Err (errors.Fault NoMemory)))
+late_or stream r (inl e) how = inl e
+late_or stream r (inr e) (inl off) = inr (off, e)
+late_or stream r (inr e) (inr fine) =
+    let no : true ≡ false = subst (λ (x : Result (Unit {0}) SessionError). is_err x ≡ false) e fine in absurd (cc)
+
+pub refused_if : (r : Result (Unit {0}) SessionError) → (r ≡ Ok tt) ⊎ (r ≡ Err (errors.Fault NoMemory)) → is_err r ≡ true → r ≡ Err (errors.Fault NoMemory)
+refused_if r (inr e) failed = e
+refused_if r (inl e) failed =
+    let no : false ≡ true = subst (λ (x : Result (Unit {0}) SessionError). is_err x ≡ true) e failed in absurd (cc)
+
+-- memory is refused when the store is tidied: the flush is refused, and the store stays as it was tidied
+pub RunsOrder-untidied : (mode : Mode) (honest : Bool) (settings : Settings) (st : Store) (left : List ℕ) (old : Option (List ℕ)) (fault : Fault) → MayFail mode.clean_when_full settings (st, left) Flush fault
+    → (now : Store) → TidiesTo mode settings st now → (bytes : List ℕ) → (IsTrue honest → bytes ≡ left) → RunsOrder mode honest settings st left Flush old old (Err (errors.Fault fault)) now bytes
+RunsOrder-untidied mode honest settings st left old fault may now by bytes same =
+    let at = failing_flush by.tidying left fault in (
+      at,
+      (by.asked, may, λ h. (refl, refl)),
+      refused settings st at Flush mode.stream old old fault refl (refusal_of-failing settings st at Flush fault refl),
+      λ other.
+          LeavesStored-unmoved honest settings st now at Flush fault (refusal_of-failing settings st at Flush fault refl) left (after_flush-failing settings st by.tidying left fault ∙ by.leaves left)
+          (held_by settings by.tidying st now by.leaves) now bytes refl same,
+    )
 
 -- ---- a clean of a store that was tidied
 
@@ -363,19 +397,42 @@ tidied-cleaned settings batches at =
     ∙ sym (step_clean-any_tree settings at (tidied_tree settings batches at.0.tree))
     ∙ ap (λ (q : Stored). left_by_step settings q (step_in Clean)) (sym (tidied-is settings batches at))
 
+retreed_unless : (tree : Tree) (r : Option Fault) (at done : Stored) → left_unless r (retreed tree at) (retreed tree done) ≡ retreed tree (left_unless r at done)
+retreed_unless tree None at done = refl
+retreed_unless tree (Some fault) at done = refl
+
 module _ (settings : Settings) (st : Store) (seen : Seen) where
   after_clean-any_tree : (tree : Tree) → after_order settings (with_tree st tree) seen Clean ≡ retreed tree (after_order settings st seen Clean)
   unfolding after_order
-  after_clean-any_tree tree = step_clean-any_tree settings (st, seen.bytes) tree
+  after_clean-any_tree tree =
+      let at : Stored = (st, seen.bytes) in
+      ap (λ (done : Stored). left_unless seen.fails (retreed tree at) done) (step_clean-any_tree settings at tree)
+      ∙ retreed_unless tree seen.fails at (left_by_step settings at (step_in Clean))
 
   refusal_clean-any_tree : (tree : Tree) → refusal_of settings (with_tree st tree) seen Clean ≡ refusal_of settings st seen Clean
   unfolding refusal_of
   refusal_clean-any_tree tree =
-      ap (λ (r : Result Stored Fault). refused_by (answering of_clean r)) (clean-any_tree settings st tree seen.bytes)
-      ∙ refused-any_tree settings st tree seen.bytes (after_clean settings st seen.bytes)
+      ap (λ (r : Result Stored Fault). option_or seen.fails (refused_by (answering of_clean r))) (clean-any_tree settings st tree seen.bytes)
+      ∙ ap (λ (r : Option Fault). option_or seen.fails r) (refused-any_tree settings st tree seen.bytes (after_clean settings st seen.bytes))
 
   keeps_tree : (after_order settings st seen Clean).0.tree ≡ st.tree
   keeps_tree = ap (λ (at : Stored). at.0.tree) (after_clean-any_tree st.tree)
+
+  -- it is refused by its right as a step is, or it finds no memory
+  pub clean_refused : (cleans : Bool) (fault : Fault) → IfSome seen.fails (MayFail cleans settings (st, seen.bytes) Clean) → refusal_of settings st seen Clean ≡ Some fault
+      → (fault ≡ NoMemory) ⊎ (refusal_of_step settings (st, seen.bytes) (step_in Clean) ≡ Some fault)
+  unfolding refusal_of
+  clean_refused cleans fault may some = by seen.fails may some
+    where
+      by : (o : Option Fault) → IfSome o (MayFail cleans settings (st, seen.bytes) Clean) → option_or o (refusal_of_step settings (st, seen.bytes) (step_in Clean)) ≡ Some fault
+          → (fault ≡ NoMemory) ⊎ (refusal_of_step settings (st, seen.bytes) (step_in Clean) ≡ Some fault)
+      by None m e = inr e
+      by (Some other) memory e = let same : other ≡ fault = cc in inl (sym same ∙ memory)
+
+-- a clean leaves the map, whether it is refused or not
+map_unless-clean : (r : Option Fault) (m : Rows) → map_unless r m Clean ≡ m
+map_unless-clean None m = refl
+map_unless-clean (Some fault) m = refl
 
 -- what a clean of the tidied store prints and leaves, one of the store does, which is tidied then
 module _ (mode : Mode) (honest : Bool) (settings : Settings) (batches : Tidying) (under st : Store) (are : IsTidiedBy settings batches under st) (left : List ℕ) (old new : Option (List ℕ))
@@ -386,10 +443,9 @@ module _ (mode : Mode) (honest : Bool) (settings : Settings) (batches : Tidying)
 
   leaves_under : (seen : Seen) → LeavesStored honest settings with_its_tree seen Clean now bytes → LeavesStored honest settings under seen Clean (after_order settings under seen Clean).0 bytes
   leaves_under seen leaves = record {
-    unrefused = sym (refusal_clean-any_tree settings under seen st.tree) ∙ leaves.unrefused;
     store = refl;
     bytes = λ h. leaves.bytes h ∙ ap (λ (at : Stored). at.1) (after_clean-any_tree settings under seen st.tree);
-    holds = ap contents (keeps_tree settings under seen);
+    holds = ap contents (keeps_tree settings under seen) ∙ sym (map_unless-clean (refusal_of settings under seen Clean) (contents under.tree));
   }
 
   tidied_under : (seen : Seen) → LeavesStored honest settings with_its_tree seen Clean now bytes → IsTidiedBy settings batches (after_order settings under seen Clean).0 now
@@ -402,16 +458,21 @@ module _ (mode : Mode) (honest : Bool) (settings : Settings) (batches : Tidying)
       ∙ ap (λ (s : Store). (let at : Stored = (s, file) in at)) (sym now_is)
 
   by_its_tree : RunsOrder mode honest settings with_its_tree left Clean old new end now bytes
-      → (cleaned : Store) × RunsOrder mode honest settings under left Clean old new end cleaned bytes × OnOk end (IsTidiedBy settings batches cleaned now)
+      → (cleaned : Store) × RunsOrder mode honest settings under left Clean old new end cleaned bytes × (end ≢ Err errors.Device → IsTidiedBy settings batches cleaned now)
   by_its_tree (seen, is, runs, leaves) =
-      let refused = sym (refusal_clean-any_tree settings under seen st.tree) in
+      let refused_so = sym (refusal_clean-any_tree settings under seen st.tree) in
       let lines = ap (λ (at : Stored). shown_cleaned at.0.head ∷ []) (sym (after_clean-any_tree settings under seen st.tree)) in (
         (after_order settings under seen Clean).0,
-        (seen, is, Runs-alike settings under with_its_tree seen seen Clean refused lines old new end runs, on_ok_weaker end (leaves_under seen) leaves),
-        on_ok_weaker end (tidied_under seen) leaves,
+        (
+          seen,
+          is,
+          Runs-alike settings under with_its_tree seen seen Clean refused_so lines mode.stream old new end runs,
+          λ other. leaves_under seen (leaves other),
+        ),
+        λ other. tidied_under seen (leaves other),
       )
 
   pub clean_under : RunsOrder mode honest settings st left Clean old new end now bytes
-      → (cleaned : Store) × RunsOrder mode honest settings under left Clean old new end cleaned bytes × OnOk end (IsTidiedBy settings batches cleaned now)
+      → (cleaned : Store) × RunsOrder mode honest settings under left Clean old new end cleaned bytes × (end ≢ Err errors.Device → IsTidiedBy settings batches cleaned now)
   clean_under one =
       by_its_tree (subst (λ (s : Store). RunsOrder mode honest settings s left Clean old new end now bytes) (under_its_tree settings batches under st are) one)

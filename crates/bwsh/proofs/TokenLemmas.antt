@@ -29,3 +29,7 @@ shown-plain (b ∷ bs) h =
 pub shown_token-plain : (bs : List ℕ) → nat_eq (length bs) 0 ≡ false → list_all stands_for_itself bs ≡ true → shown_token bs ≡ bs
 shown_token-plain [] not_empty h = absurd (cc)
 shown_token-plain (b ∷ bs) not_empty h = shown-plain (b ∷ bs) h
+
+pub shown_token-some : (bs : List ℕ) → nat_eq (length bs) 0 ≡ false → shown_token bs ≡ flat_map shown_byte bs
+shown_token-some [] not_empty = absurd (cc)
+shown_token-some (b ∷ bs) not_empty = refl

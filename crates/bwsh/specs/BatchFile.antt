@@ -1,27 +1,30 @@
--- Batch files: what the lines of a file say, all of them together.
-use Rattle.std.specs.Prelude.{◌≡◌, ◌≢◌, ⊤, ℕ, ◌+◌, Bool, true, false, List, [], ◌∷◌, ◌++◌, map, Option, Some, None}
+-- Lines, and the orders that they make, all of them together.
+use Rattle.std.specs.Prelude.{◌≡◌, ◌⊎◌, ⊤, ℕ, ◌+◌, ◌&&◌, nat_lt, Bool, not, true, false, List, [], ◌∷◌, ◌++◌, map, filter, length, if◌then◌else◌, Option, Some, None}
+use Rattle.std.specs.List.{list_all}
 use Rattle.std.specs.declared.alloc.Global.{Global}
-use Rattle.std.specs.Io.BufRead.{take_through, drop_through}
+use Rattle.std.specs.Io.BufRead.{ends_with_byte}
 use Rattle.keys.specs.declared.command.Command.{Command}
+use Rattle.keys.specs.declared.fault.Fault.TheVariants.{NoMemory}
 use Rattle.bstr.specs.Text.{lines_of, without_terminator}
 use Rattle.keys.specs.Bytes.{Bytes}
 use Rattle.bwsh.specs.declared.line.Line.{Line}
-use Rattle.bwsh.specs.declared.line.Line.TheVariants.{Go, Bad}
+use Rattle.bwsh.specs.declared.line.Line.TheVariants.{Blank, Go, Bad}
 use Rattle.bwsh.specs.declared.line.Line.TheVariants as line_variants
 use Rattle.bwsh.specs.declared.line.Why.{Why}
-use Rattle.bwsh.specs.declared.batch_file.Order.{Order}
-use Rattle.bwsh.specs.declared.batch_file.Order.TheVariants.{Batch, Flush, Clean, Upgrade, Verify, Numbers}
-use Rattle.bwsh.specs.declared.batch_file.ParseError.{ParseError}
-use Rattle.bwsh.specs.declared.batch_file.ParseError.TheVariants as faults
+use Rattle.bwsh.specs.declared.order.Order.{Order}
+use Rattle.bwsh.specs.declared.order.Order.TheVariants.{Batch, BadLine, Lost, Flush, Clean, Upgrade, Numbers}
+use Rattle.bwsh.specs.declared.session.SessionError.{SessionError}
+use Rattle.bwsh.specs.declared.session.SessionError.TheVariants as errors
 use Rattle.bwsh.specs.Line.{parse_line}
 
--- the lines of a text, each without the LF or CR LF at its end
-abbrev pub lines : Bytes → List Bytes
-lines text = map without_terminator (lines_of text)
+-- the pieces of a text that are lines, each with its end: in a stream those that a line feed ends, and else the last one too
+abbrev pub pieces : Bool → Bytes → List Bytes
+pieces false text = lines_of text
+pieces true text = filter (ends_with_byte 10) (lines_of text)
 
--- what the lines of a text say
-abbrev pub parse_text : Bytes → List Line
-parse_text text = map parse_line (lines text)
+-- what the lines of a text say, in a stream or not
+abbrev pub parse_text : Bool → Bytes → List Line
+parse_text stream text = map (λ piece. parse_line stream (without_terminator piece)) (pieces stream text)
 
 -- the number of the first bad line, and what is wrong with it, where the first of these lines has the number n
 abbrev pub first_bad : ℕ → List Line → Option (ℕ × Why)
@@ -34,79 +37,97 @@ abbrev pub last_order : List (Command Global) → List Order
 last_order [] = []
 last_order (command ∷ commands) = Batch (command ∷ commands) ∷ []
 
--- what is ordered by lines that say this, after commands that are pending
+-- what is ordered by lines that say this, none of which is bad or lost, after commands that are pending
 abbrev pub orders_of : List (Command Global) → List Line → List Order
 orders_of pending [] = last_order pending
-orders_of pending (Line.Command command ∷ rest) = orders_of (pending ++ command ∷ []) rest
+orders_of pending (line_variants.Command command ∷ rest) = orders_of (pending ++ command ∷ []) rest
 orders_of pending (Go ∷ rest) = Batch pending ∷ orders_of [] rest
-orders_of pending (line_variants.Flush ∷ rest) = last_order pending ++ Flush ∷ orders_of [] rest
-orders_of pending (line_variants.Clean ∷ rest) = last_order pending ++ Clean ∷ orders_of [] rest
-orders_of pending (line_variants.Upgrade ∷ rest) = last_order pending ++ Upgrade ∷ orders_of [] rest
-orders_of pending (line_variants.Verify ∷ rest) = last_order pending ++ Verify ∷ orders_of [] rest
+orders_of pending (line_variants.Order order ∷ rest) = last_order pending ++ order ∷ orders_of [] rest
 orders_of pending (_ ∷ rest) = orders_of pending rest
+
+-- the batch that no line has ended yet: its commands; or it was answered already, and the rest of it is skipped
+pub data Pending : Type 0 where
+  begun : List (Command Global) → Pending
+  skipped : Pending
+
+-- these are more commands than a batch may have, which a stream refuses at once
+abbrev pub is_too_long : Bool → List (Command Global) → Bool
+is_too_long stream commands = stream && nat_lt 65535 (length commands)
+
+-- an order, and what is ordered after it; where it is the batch that is too long, its rest is skipped
+abbrev pub or_too_long : Bool → List (Command Global) → (Pending → List Order) → List Order
+or_too_long stream cs next = if is_too_long stream cs then Batch cs ∷ next skipped else next (begun cs)
+
+-- What is ordered by lines that say this, the first of which has the number n, in a stream or not. A line that is bad or lost is answered at once,
+-- and its batch isn't run.
+abbrev pub asked : Bool → ℕ → Pending → List Line → List Order
+asked stream n (begun cs) [] = last_order cs
+asked stream n skipped [] = []
+asked stream n (begun cs) (line_variants.Command command ∷ rest) = or_too_long stream (cs ++ command ∷ []) (λ pending. asked stream (n + 1) pending rest)
+asked stream n (begun cs) (Go ∷ rest) = Batch cs ∷ asked stream (n + 1) (begun []) rest
+asked stream n (begun cs) (line_variants.Order order ∷ rest) = last_order cs ++ order ∷ asked stream (n + 1) (begun []) rest
+asked stream n (begun cs) (Bad why ∷ rest) = BadLine n why ∷ asked stream (n + 1) skipped rest
+asked stream n (begun cs) (line_variants.Lost ∷ rest) = Lost ∷ asked stream (n + 1) skipped rest
+asked stream n (begun cs) (Blank ∷ rest) = asked stream (n + 1) (begun cs) rest
+asked stream n skipped (Go ∷ rest) = asked stream (n + 1) (begun []) rest
+asked stream n skipped (line_variants.Order order ∷ rest) = order ∷ asked stream (n + 1) (begun []) rest
+asked stream n skipped (_ ∷ rest) = asked stream (n + 1) skipped rest
 
 -- these, and then the order to print the numbers, where it is asked for
 abbrev pub with_numbers : Bool → List Order → List Order
 with_numbers false orders = orders
 with_numbers true orders = orders ++ Numbers ∷ []
 
--- what is ordered by lines that say this, up to the first bad one, after commands that are pending: at the end these are run, and then the
--- numbers are printed, where they are asked for; at a bad line they are not run
-abbrev pub streamed : Bool → List (Command Global) → List Line → List Order
-streamed numbers pending [] = with_numbers numbers (last_order pending)
-streamed numbers pending (Bad why ∷ rest) = []
-streamed numbers pending (Line.Command command ∷ rest) = streamed numbers (pending ++ command ∷ []) rest
-streamed numbers pending (Go ∷ rest) = Batch pending ∷ streamed numbers [] rest
-streamed numbers pending (line_variants.Flush ∷ rest) = last_order pending ++ Flush ∷ streamed numbers [] rest
-streamed numbers pending (line_variants.Clean ∷ rest) = last_order pending ++ Clean ∷ streamed numbers [] rest
-streamed numbers pending (line_variants.Upgrade ∷ rest) = last_order pending ++ Upgrade ∷ streamed numbers [] rest
-streamed numbers pending (line_variants.Verify ∷ rest) = last_order pending ++ Verify ∷ streamed numbers [] rest
-streamed numbers pending (_ ∷ rest) = streamed numbers pending rest
+-- the orders of a session, where its lines say this
+abbrev pub orders_in : Bool → Bool → List Line → List Order
+orders_in stream numbers parsed = with_numbers numbers (asked stream 1 (begun []) parsed)
 
--- what is ordered by a line that says this, after commands that are pending, where it ends their batch; else nothing
-abbrev pub ended_by : List (Command Global) → Line → List Order
-ended_by pending Go = Batch pending ∷ []
-ended_by pending line_variants.Flush = last_order pending ++ Flush ∷ []
-ended_by pending line_variants.Clean = last_order pending ++ Clean ∷ []
-ended_by pending line_variants.Upgrade = last_order pending ++ Upgrade ∷ []
-ended_by pending line_variants.Verify = last_order pending ++ Verify ∷ []
-ended_by pending _ = []
+-- lines were read that say this: each is as it says, or was lost, since it found no memory
+abbrev pub AreRead : List Line → List Line → Type 0
+AreRead [] [] = ⊤
+AreRead (said ∷ rest) (got ∷ left) = ((got ≡ said) ⊎ (got ≡ line_variants.Lost)) × AreRead rest left
+AreRead _ _ = ⊥
 
--- the next line of known bytes is this, with its line feed, and these are left; or there is none, since there are no bytes
-abbrev pub IsNextLine : Option Bytes → Option Bytes → Bytes → Bool → Type 0
-IsNextLine None left line more = ⊤
-IsNextLine (Some bytes) left line true = (bytes ≢ []) × (line ≡ take_through 10 bytes) × (left ≡ Some (drop_through 10 bytes))
-IsNextLine (Some bytes) left line false = bytes ≡ []
+-- none of these lines is bad or lost
+abbrev pub IsWithin : List Line → Type 0
+IsWithin [] = ⊤
+IsWithin (Bad why ∷ rest) = ⊥
+IsWithin (line_variants.Lost ∷ rest) = ⊥
+IsWithin (_ ∷ rest) = IsWithin rest
 
--- this is what the next line of known bytes says, and these are left; or there is no line, since there are no bytes
-abbrev pub IsReadLine : Option Bytes → Option Bytes → Option Line → Type 0
-IsReadLine known left None = (line : Bytes) × IsNextLine known left line false
-IsReadLine known left (Some parsed) = (line : Bytes) × IsNextLine known left line true × (parsed ≡ parse_line (without_terminator line))
+-- none of these lines ends a batch
+abbrev pub IsInBatch : List Line → Type 0
+IsInBatch [] = ⊤
+IsInBatch (Go ∷ rest) = ⊥
+IsInBatch (line_variants.Order order ∷ rest) = ⊥
+IsInBatch (_ ∷ rest) = IsInBatch rest
 
--- the commands of a batch that lines which say this don't end, after commands that are pending
-abbrev pub unended : List (Command Global) → List Line → List (Command Global)
-unended pending [] = pending
-unended pending (Line.Command command ∷ rest) = unended (pending ++ command ∷ []) rest
-unended pending (Go ∷ rest) = unended [] rest
-unended pending (line_variants.Flush ∷ rest) = unended [] rest
-unended pending (line_variants.Clean ∷ rest) = unended [] rest
-unended pending (line_variants.Upgrade ∷ rest) = unended [] rest
-unended pending (line_variants.Verify ∷ rest) = unended [] rest
-unended pending (_ ∷ rest) = unended pending rest
+-- a batch, if the order is one, isn't too long for a stream
+abbrev pub is_short_order : Bool → Order → Bool
+is_short_order stream (Batch cs) = not (is_too_long stream cs)
+is_short_order stream _ = true
 
--- the fault is that of the first bad line, or that memory was refused
-abbrev pub IsRightFault : List Line → ParseError → Type 0
-IsRightFault parsed (faults.Bad n why) = first_bad 1 parsed ≡ Some (n, why)
-IsRightFault parsed faults.Memory = Unit {0}
+abbrev pub is_short : Bool → List Order → Bool
+is_short stream orders = list_all (is_short_order stream) orders
+
+-- a session whose text has this first bad line, if it has one, can end so before anything is run
+abbrev pub IsReadError : Option (ℕ × Why) → SessionError → Type 0
+IsReadError bad (errors.Words error) = ⊥
+IsReadError bad (errors.Bad line why) = bad ≡ Some (line, why)
+IsReadError bad (errors.Fault fault) = fault ≡ NoMemory
+IsReadError bad errors.Device = Unit {0}
 
 -- the order writes to the disk of its store
 abbrev pub writes : Order → Bool
-writes (Batch commands) = false
 writes Flush = true
 writes Clean = true
 writes Upgrade = true
-writes Verify = false
-writes Numbers = false
+writes _ = false
+
+-- the line is such an order
+abbrev pub line_writes : Line → Bool
+line_writes (line_variants.Order order) = writes order
+line_writes _ = false
 
 -- the order is a flush
 abbrev pub is_flush : Order → Bool
@@ -116,11 +137,7 @@ is_flush _ = false
 -- the order is a batch
 abbrev pub IsBatch : Order → Type 0
 IsBatch (Batch commands) = ⊤
-IsBatch Flush = ⊥
-IsBatch Clean = ⊥
-IsBatch Upgrade = ⊥
-IsBatch Verify = ⊥
-IsBatch Numbers = ⊥
+IsBatch _ = ⊥
 
 -- the order is no clean
 abbrev pub IsNoClean : Order → Type 0
@@ -134,27 +151,21 @@ cleans_nothing _ = true
 
 -- the line orders nothing but batches
 abbrev pub IsForBatches : Line → Type 0
-IsForBatches line_variants.Flush = ⊥
-IsForBatches line_variants.Clean = ⊥
-IsForBatches line_variants.Upgrade = ⊥
-IsForBatches line_variants.Verify = ⊥
+IsForBatches (line_variants.Order order) = ⊥
 IsForBatches _ = ⊤
 
 -- the commands of an order
 abbrev pub commands_of : Order → List (Command Global)
 commands_of (Batch commands) = commands
-commands_of Flush = []
-commands_of Clean = []
-commands_of Upgrade = []
-commands_of Verify = []
-commands_of Numbers = []
+commands_of _ = []
 
 -- the commands that lines say
 abbrev pub commands_of_lines : List Line → List (Command Global)
 commands_of_lines [] = []
-commands_of_lines (Line.Command command ∷ rest) = command ∷ commands_of_lines rest
+commands_of_lines (line_variants.Command command ∷ rest) = command ∷ commands_of_lines rest
+commands_of_lines (line_variants.Order order ∷ rest) = commands_of order ++ commands_of_lines rest
 commands_of_lines (_ ∷ rest) = commands_of_lines rest
 
 -- what the lines of these commands and a line `go` after them say
 abbrev pub batch_lines : List (Command Global) → List Line
-batch_lines commands = map (λ command. Line.Command command) commands ++ Go ∷ []
+batch_lines commands = map (λ command. line_variants.Command command) commands ++ Go ∷ []

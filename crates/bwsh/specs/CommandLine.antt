@@ -41,9 +41,9 @@ with_settings app = with_rule (with_rule (with_rule (with_rule (with_rule (with_
 
 -- with those for the work of a session and for its files
 abbrev pub with_work : App → App
-with_work app = with_rule (with_rule (with_rule (with_rule (with_rule app
+with_work app = with_rule (with_rule (with_rule (with_rule (with_rule (with_rule app
     (number_rule (codes "workers") (codes "1"))) (number_rule (codes "grain") (codes "64")))
-    (number_rule (codes "tidy") (codes "0"))) (text_rule (codes "disk"))) (text_rule (codes "copy-to"))
+    (number_rule (codes "tidy") (codes "0"))) (number_rule (codes "wait") (codes "0"))) (text_rule (codes "disk"))) (text_rule (codes "copy-to"))
 
 -- with those that take no value
 abbrev pub with_flags : App → App
@@ -54,12 +54,12 @@ with_flags app = with_rule (with_rule (with_rule (with_rule (with_rule (with_rul
 
 -- the program with its options
 abbrev pub bwsh : App
-bwsh = with_rule (with_rule (with_rule (with_rule (with_rule (with_rule (with_rule (with_rule (with_rule (with_rule (with_rule (with_rule (with_rule (with_rule (with_rule (with_rule (with_rule (with_rule plain_bwsh
+bwsh = with_rule (with_rule (with_rule (with_rule (with_rule (with_rule (with_rule (with_rule (with_rule (with_rule (with_rule (with_rule (with_rule (with_rule (with_rule (with_rule (with_rule (with_rule (with_rule plain_bwsh
     (number_rule (codes "fan") (codes "16"))) (number_rule (codes "chain") (codes "4")))
     (number_rule (codes "max-key") (codes "64"))) (number_rule (codes "max-value") (codes "256")))
     (number_rule (codes "seg-size") (codes "65536"))) (number_rule (codes "segments") (codes "64")))
     (number_rule (codes "workers") (codes "1"))) (number_rule (codes "grain") (codes "64")))
-    (number_rule (codes "tidy") (codes "0"))) (text_rule (codes "disk"))) (text_rule (codes "copy-to"))) (flag_rule (codes "create"))) (flag_rule (codes "version")))
+    (number_rule (codes "tidy") (codes "0"))) (number_rule (codes "wait") (codes "0"))) (text_rule (codes "disk"))) (text_rule (codes "copy-to"))) (flag_rule (codes "create"))) (flag_rule (codes "version")))
     (flag_rule (codes "explain"))) (flag_rule (codes "stat"))) (flag_rule (codes "clean-when-full"))) (flag_rule (codes "stream")))
     (flag_rule (codes "progress"))
 
@@ -67,7 +67,7 @@ bwsh = with_rule (with_rule (with_rule (with_rule (with_rule (with_rule (with_ru
 abbrev pub number_defaults : List (Text × Text)
 number_defaults = (codes "fan", codes "16") ∷ (codes "chain", codes "4") ∷ (codes "max-key", codes "64")
     ∷ (codes "max-value", codes "256") ∷ (codes "seg-size", codes "65536") ∷ (codes "segments", codes "64")
-    ∷ (codes "workers", codes "1") ∷ (codes "grain", codes "64") ∷ (codes "tidy", codes "0") ∷ []
+    ∷ (codes "workers", codes "1") ∷ (codes "grain", codes "64") ∷ (codes "tidy", codes "0") ∷ (codes "wait", codes "0") ∷ []
 
 -- an option of these as a parse reads it
 abbrev pub built_number : Text × Text → Rule

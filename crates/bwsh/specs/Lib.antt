@@ -1,11 +1,12 @@
 pub mod BatchFile
 pub mod CommandLine
-pub mod KeptBatch
 pub mod Line
 pub mod Number
 pub mod Options
-pub mod Progress
+pub mod Output
 pub mod Session
 pub mod Shown
+pub mod Source
+pub mod StoreDisk
 pub mod Token
 pub mod Words

@@ -1,5 +1,5 @@
 -- What a line of a batch file says.
-use Rattle.std.specs.Prelude.{ℕ, Bool, true, false, List, [], ◌∷◌, Option, Some, None, Result, Ok, Err, codes, nat_eq, if◌then◌else◌}
+use Rattle.std.specs.Prelude.{ℕ, Bool, ◌&&◌, List, [], ◌∷◌, Option, Some, None, Result, Ok, Err, codes, nat_eq, if◌then◌else◌}
 use Rattle.std.specs.List.{starts_with}
 use Rattle.std.specs.Option.{ok_or, option_map, option_zip}
 use Rattle.std.specs.Str.{bytes_eq}
@@ -8,7 +8,10 @@ use Rattle.keys.specs.Bytes.{Bytes}
 use Rattle.keys.specs.declared.command.Command.{Command}
 use Rattle.keys.specs.declared.command.Command.TheVariants.{Get, Put, Add, Del, Scan, Wipe}
 use Rattle.bwsh.specs.declared.line.Line.{Line}
-use Rattle.bwsh.specs.declared.line.Line.TheVariants.{Blank, Go, Flush, Clean, Upgrade, Verify, Bad}
+use Rattle.bwsh.specs.declared.line.Line.TheVariants.{Blank, Go, Bad}
+use Rattle.bwsh.specs.declared.line.Line.TheVariants as line_variants
+use Rattle.bwsh.specs.declared.order.Order.{Order}
+use Rattle.bwsh.specs.declared.order.Order.TheVariants.{Flush, Clean, Upgrade, Verify, Stat, Copy, Tidy, Back, Prefix, Help}
 use Rattle.bwsh.specs.declared.line.Why.{Why}
 use Rattle.bwsh.specs.declared.line.Why.TheVariants.{UnknownCommand, WordCount, BadToken, BadNumber}
 use Rattle.bwsh.specs.Number.{number_in}
@@ -21,16 +24,6 @@ why_text UnknownCommand = codes "unknown command"
 why_text WordCount = codes "wrong number of words"
 why_text BadToken = codes "bad token"
 why_text BadNumber = codes "bad number"
-
--- the line is a command
-abbrev pub is_command : Line → Bool
-is_command (Line.Command command) = true
-is_command _ = false
-
--- what is wrong with a line that says this, if it is bad
-abbrev pub bad_of : Line → Option Why
-bad_of (Bad why) = Some why
-bad_of _ = None
 
 -- the key that these words are
 abbrev pub only_key : List Bytes → Result (Bytes) Why
@@ -51,17 +44,21 @@ command_or_bad command (Err why) = Bad why
 abbrev pub bound_of : Bytes → Option (Option Bytes)
 bound_of token = if bytes_eq token (codes "*") then Some None else option_map (λ key. Some key) (token_bytes token)
 
--- what is said by a lower bound, an upper bound and a limit after `scan`, each if it is there
-abbrev pub scan_by : Option Bytes → Option (Option Bytes) → Option ℕ → Line
-scan_by None hi limit = Bad BadToken
-scan_by (Some lo) None limit = Bad BadToken
-scan_by (Some lo) (Some hi) None = Bad BadNumber
-scan_by (Some lo) (Some hi) (Some limit) = Line.Command (Scan lo hi limit)
+-- a lower bound, an upper bound and a limit, where each of them is there
+abbrev pub range_by : Option Bytes → Option (Option Bytes) → Option ℕ → Result (Bytes × Option Bytes × ℕ) Why
+range_by None hi limit = Err BadToken
+range_by (Some lo) None limit = Err BadToken
+range_by (Some lo) (Some hi) None = Err BadNumber
+range_by (Some lo) (Some hi) (Some limit) = Ok (lo, hi, limit)
+
+-- the bounds and the limit that these words are
+abbrev pub range_and_limit : List Bytes → Result (Bytes × Option Bytes × ℕ) Why
+range_and_limit (lo ∷ hi ∷ limit ∷ []) = range_by (token_bytes lo) (bound_of hi) (number_in limit)
+range_and_limit _ = Err WordCount
 
 -- what is said by these words after `scan`
 abbrev pub parse_scan : List Bytes → Line
-parse_scan (lo ∷ hi ∷ limit ∷ []) = scan_by (token_bytes lo) (bound_of hi) (number_in limit)
-parse_scan _ = Bad WordCount
+parse_scan following = command_or_bad (λ (lo, hi, limit). Scan lo hi limit) (range_and_limit following)
 
 -- what is said by a lower bound and an upper bound after `wipe`, each if it is there
 abbrev pub wipe_by : Option Bytes → Option (Option Bytes) → Line
@@ -83,28 +80,80 @@ if_alone parsed _ = Bad WordCount
 abbrev pub parse_order : Bytes → List Bytes → Line
 parse_order word following =
     if bytes_eq word (codes "go") then if_alone Go following else (
-    if bytes_eq word (codes "flush") then if_alone Flush following else (
-    if bytes_eq word (codes "clean") then if_alone Clean following else (
-    if bytes_eq word (codes "upgrade") then if_alone Upgrade following else (
-    if bytes_eq word (codes "verify") then if_alone Verify following else
+    if bytes_eq word (codes "flush") then if_alone (line_variants.Order Flush) following else (
+    if bytes_eq word (codes "clean") then if_alone (line_variants.Order Clean) following else (
+    if bytes_eq word (codes "upgrade") then if_alone (line_variants.Order Upgrade) following else (
+    if bytes_eq word (codes "verify") then if_alone (line_variants.Order Verify) following else
     Bad UnknownCommand))))
 
--- what is said by this word and those after it
-abbrev pub parse_command : Bytes → List Bytes → Line
-parse_command word following =
+-- what is said by a path and a number of segments after `.copy`, each if it is there
+abbrev pub copy_by : Option Bytes → Option (Option ℕ) → Line
+copy_by None segments = Bad BadToken
+copy_by (Some path) None = Bad BadNumber
+copy_by (Some path) (Some segments) = line_variants.Order (Copy path segments)
+
+-- what is said by these words after `.copy`
+abbrev pub parse_copy : List Bytes → Line
+parse_copy (path ∷ []) = copy_by (token_bytes path) (Some None)
+parse_copy (path ∷ segments ∷ []) = copy_by (token_bytes path) (option_map (λ n. Some n) (number_in segments))
+parse_copy _ = Bad WordCount
+
+-- what is said by these words after `.tidy`
+abbrev pub tidy_by : Option ℕ → Line
+tidy_by None = Bad BadNumber
+tidy_by (Some most) = line_variants.Order (Tidy most)
+
+abbrev pub parse_tidy : List Bytes → Line
+parse_tidy (most ∷ []) = tidy_by (number_in most)
+parse_tidy _ = Bad WordCount
+
+-- what is said by these words after `.back`: they are those after `scan`
+abbrev pub back_of : Result (Bytes × Option Bytes × ℕ) Why → Line
+back_of (Ok (lo, hi, limit)) = line_variants.Order (Back lo hi limit)
+back_of (Err why) = Bad why
+
+abbrev pub parse_back : List Bytes → Line
+parse_back following = back_of (range_and_limit following)
+
+-- what is said by the first bytes of keys and a limit after `.prefix`, each if it is there
+abbrev pub prefix_by : Option Bytes → Option ℕ → Line
+prefix_by None limit = Bad BadToken
+prefix_by (Some bytes) None = Bad BadNumber
+prefix_by (Some bytes) (Some limit) = line_variants.Order (Prefix bytes limit)
+
+-- what is said by these words after `.prefix`
+abbrev pub parse_prefix : List Bytes → Line
+parse_prefix (bytes ∷ limit ∷ []) = prefix_by (token_bytes bytes) (number_in limit)
+parse_prefix _ = Bad WordCount
+
+-- what is said by this word, which begins with a dot, and those after it
+abbrev pub parse_dot : Bytes → List Bytes → Line
+parse_dot word following =
+    if bytes_eq word (codes ".stat") then if_alone (line_variants.Order Stat) following else (
+    if bytes_eq word (codes ".help") then if_alone (line_variants.Order Help) following else (
+    if bytes_eq word (codes ".tidy") then parse_tidy following else (
+    if bytes_eq word (codes ".copy") then parse_copy following else (
+    if bytes_eq word (codes ".back") then parse_back following else (
+    if bytes_eq word (codes ".prefix") then parse_prefix following else
+    Bad UnknownCommand)))))
+
+-- what is said by this word and those after it; words that begin with a dot are known in a stream
+abbrev pub parse_command : Bool → Bytes → List Bytes → Line
+parse_command dots word following =
     if bytes_eq word (codes "put") then command_or_bad (λ (k, v). Put k v) (key_and_value following) else (
     if bytes_eq word (codes "add") then command_or_bad (λ (k, v). Add k v) (key_and_value following) else (
     if bytes_eq word (codes "get") then command_or_bad Get (only_key following) else (
     if bytes_eq word (codes "del") then command_or_bad Del (only_key following) else (
     if bytes_eq word (codes "scan") then parse_scan following else (
     if bytes_eq word (codes "wipe") then parse_wipe following else
+    if dots && starts_with nat_eq word (codes ".") then parse_dot word following else
     parse_order word following)))))
 
 -- what a line of these words says: nothing where there are none, or where the first begins with `#`
-abbrev pub parse_words : List Bytes → Line
-parse_words [] = Blank
-parse_words (word ∷ following) = if starts_with nat_eq word (codes "#") then Blank else parse_command word following
+abbrev pub parse_words : Bool → List Bytes → Line
+parse_words dots [] = Blank
+parse_words dots (word ∷ following) = if starts_with nat_eq word (codes "#") then Blank else parse_command dots word following
 
--- what the line says
-abbrev pub parse_line : Bytes → Line
-parse_line line = parse_words (words_of line)
+-- what the line says, in a stream or not
+abbrev pub parse_line : Bool → Bytes → Line
+parse_line dots line = parse_words dots (words_of line)

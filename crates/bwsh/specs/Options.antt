@@ -1,5 +1,5 @@
 -- What the words of the command line ask for.
-use Rattle.std.specs.Prelude.{◌≡◌, ◌⊎◌, ◌==◌, ◌||◌, ℕ, Bool, true, false, not, List, [], ◌∷◌, ◌++◌, Option, Some, None, if◌then◌else◌, unwrap_or, option_map, find, slice_get, map, string_bytes, String, codes, pos}
+use Rattle.std.specs.Prelude.{◌≡◌, ◌⊎◌, ◌==◌, ◌||◌, ◌&&◌, ℕ, Bool, true, false, not, List, [], ◌∷◌, ◌++◌, Option, Some, None, if◌then◌else◌, unwrap_or, option_map, find, slice_get, map, string_bytes, String, codes, pos}
 use Rattle.std.specs.List.{list_any}
 use Rattle.std.specs.Str.{bytes_eq, chars}
 use Rattle.std.specs.Str.Parse.{digits_value, without_leading_sign}
@@ -25,7 +25,7 @@ texts = map string_bytes
 -- the options that take a number
 abbrev pub number_names : List Text
 number_names = codes "fan" ∷ codes "chain" ∷ codes "max-key" ∷ codes "max-value" ∷ codes "seg-size" ∷ codes "segments"
-    ∷ codes "workers" ∷ codes "grain" ∷ codes "tidy" ∷ []
+    ∷ codes "workers" ∷ codes "grain" ∷ codes "tidy" ∷ codes "wait" ∷ []
 
 -- the option takes a number
 abbrev pub takes_number : Text → Bool
@@ -175,6 +175,7 @@ mode_of given = record {
   clean_when_full = is_given (codes "clean-when-full") given;
   stream = is_given (codes "stream") given;
   tidy = number_or 0 (codes "tidy") given;
+  wait = number_or 0 (codes "wait") given;
   progress = is_given (codes "progress") given;
 }
 
@@ -234,9 +235,13 @@ AsksToExplain words = (request : Request) × AsksFor words request × (request.m
 abbrev pub AsksToStream : List Text → Type 0
 AsksToStream words = (request : Request) × AsksFor words request × (request.mode.stream ≡ true)
 
--- the words ask for progress
-abbrev pub AsksForProgress : List Text → Type 0
-AsksForProgress words = (request : Request) × AsksFor words request × (request.mode.progress ≡ true)
+-- in these ways a session writes to standard error while it runs
+abbrev pub reports : Mode → Bool
+reports mode = mode.progress || (mode.stream && mode.explain)
+
+-- the words ask for that
+abbrev pub AsksForReports : List Text → Type 0
+AsksForReports words = (request : Request) × AsksFor words request × (reports request.mode ≡ true)
 
 -- the words ask for a text, and for nothing to be read: for help, or for the version
 abbrev pub AsksForText : List Text → Type 0

@@ -1,5 +1,5 @@
--- What a session starts on, what it runs and prints, and how it ends.
-use Rattle.std.specs.Prelude.{◌≡◌, ◌⊎◌, ◌+◌, ◌-◌, ◌&&◌, ◌||◌, nat_eq, ℕ, zero, suc, max, ◌/◌, Bool, not, true, false, IsTrue, ⊤, List, [], ◌∷◌, ◌++◌, map, is_some, codes, replicate, if◌then◌else◌, Option, Some, None, IfSome, Result, Ok, Err, IfOk, IfErr, OnOk}
+-- What a session starts on, what it runs and answers, and how it ends.
+use Rattle.std.specs.Prelude.{◌≡◌, ◌≢◌, ◌⊎◌, ◌+◌, ◌-◌, ◌&&◌, ◌||◌, nat_eq, ℕ, zero, suc, max, ◌/◌, Bool, not, true, false, IsTrue, ⊤, List, [], ◌∷◌, ◌++◌, map, take, is_some, codes, replicate, if◌then◌else◌, unwrap_or, Option, Some, None, IfSome, Result, Ok, Err, IfOk, IfErr, OnOk}
 use Rattle.std.specs.Bool.{MatchBool}
 use Rattle.std.specs.Option.{option_map, option_or}
 use Rattle.std.specs.Str.{bytes_eq}
@@ -16,8 +16,11 @@ use Rattle.keys.specs.declared.settings.Settings.{Settings}
 use Rattle.keys.specs.declared.settings.Field.{Field}
 use Rattle.keys.specs.declared.fault.Fault.{Fault}
 use Rattle.keys.specs.declared.fault.Fault.TheVariants.{BadCrew, BadSettings, Full, NoMemory, NothingToClean}
+use Rattle.keys.specs.declared.fault.Fault.TheVariants as faults
 use Rattle.mapping.specs.Tree.{Store, Tree, with_tree}
 use Rattle.mapping.specs.Levels.{contents}
+use Rattle.scan.specs.Back.{rows_back}
+use Rattle.scan.specs.Prefix.{with_prefix}
 use Rattle.verify.specs.Report.{report}
 use Rattle.cleaner.specs.PagesRead.{PagesRead}
 use Rattle.flush_log.specs.Disk.{View}
@@ -32,22 +35,21 @@ use Rattle.engine.specs.Cleans.{IsReadFor}
 use Rattle.engine.specs.Room.{is_bloated, is_overfull, is_tight, is_worth, live_known}
 use Rattle.engine.specs.State.{State}
 use Rattle.engine.specs.Steps.{Step, Stepped, batching, after_step}
+use Rattle.engine.specs.Tidied.{counted_pages, IsTidyFault}
 use Rattle.bwsh.specs.declared.line.Line.{Line}
 use Rattle.bwsh.specs.declared.line.Why.{Why}
 use Rattle.bwsh.specs.declared.options.asked.Mode.{Mode}
-use Rattle.bwsh.specs.declared.batch_file.Order.{Order}
-use Rattle.bwsh.specs.declared.batch_file.Order.TheVariants.{Batch, Flush, Clean, Upgrade, Verify, Numbers}
-use Rattle.bwsh.specs.declared.batch_file.ParseError.{ParseError}
-use Rattle.bwsh.specs.declared.batch_file.ParseError.TheVariants as faults
+use Rattle.bwsh.specs.declared.order.Order.{Order}
+use Rattle.bwsh.specs.declared.order.Order.TheVariants.{Batch, BadLine, Lost, Flush, Clean, Upgrade, Verify, Numbers, Stat, Copy, Tidy, Back, Prefix, Help}
 use Rattle.bwsh.specs.declared.session.SessionError.{SessionError}
 use Rattle.bwsh.specs.declared.session.SessionError.TheVariants.{Words, Bad, Device}
 use Rattle.bwsh.specs.declared.session.SessionError.TheVariants as errors
 use Rattle.bwsh.specs.declared.show.StoreNumbers.{StoreNumbers}
-use Rattle.bwsh.specs.BatchFile.{IsNoClean, parse_text, first_bad, orders_of, streamed, with_numbers}
+use Rattle.bwsh.specs.BatchFile.{AreRead, IsNoClean, IsReadError, first_bad, orders_in, parse_text}
 use Rattle.bwsh.specs.Line.{why_text}
-use Rattle.bwsh.specs.Options.{Text, Request, AsksFor, AsksForProgress, AsksForText, AsksToExplain, AreRefused, copy_of}
-use Rattle.bwsh.specs.Progress.{ProgressText, shown_message}
-use Rattle.bwsh.specs.Shown.{shown_reply, shown_flushed, shown_cleaned, shown_upgraded, shown_report, shown_numbers}
+use Rattle.bwsh.specs.Options.{Text, Request, AsksFor, AsksForReports, AsksForText, AsksToExplain, AreRefused, copy_of}
+use Rattle.bwsh.specs.Output.{BeginsWith, IsBegun}
+use Rattle.bwsh.specs.Shown.{help_lines, shown_reply, shown_rows, shown_flushed, shown_cleaned, shown_upgraded, shown_report, shown_numbers, shown_settings, shown_tidied, shown_copied}
 
 -- the exit status of a session that ends before all is done
 abbrev pub status_of : SessionError → ℕ
@@ -61,10 +63,18 @@ abbrev pub status_of_end : Result (Unit {0}) SessionError → ℕ
 status_of_end (Ok done) = 0
 status_of_end (Err early) = status_of early
 
+-- the line that answers a bad line of a stream
+abbrev pub bad_line : ℕ → Why → Bytes
+bad_line line why = codes "line " ++ decimal line ++ codes ": " ++ why_text why ++ 10 ∷ []
+
+-- the line that answers what is refused by a fault of which this is told
+abbrev pub fault_line : Bytes → Bytes
+fault_line told = codes "fault " ++ told ++ 10 ∷ []
+
 -- what an ending prints, with its line feed, where a clause can say it
 abbrev pub error_text : SessionError → Option Bytes
 error_text (Words error) = None
-error_text (Bad line why) = Some (codes "line " ++ decimal line ++ codes ": " ++ why_text why ++ 10 ∷ [])
+error_text (Bad line why) = Some (bad_line line why)
 error_text (errors.Fault fault) = None
 error_text Device = Some (codes "fault 9 Device" ++ 10 ∷ [])
 
@@ -80,11 +90,6 @@ unread_text = codes "error: a word of the command line is no text" ++ 10 ∷ []
 -- what is printed for the version, with its line feed
 abbrev pub version_text : Bytes
 version_text = codes "bwsh 0.1.0" ++ 10 ∷ []
-
--- the ending of a session whose text is not read
-abbrev pub error_of_parse : ParseError → SessionError
-error_of_parse (faults.Bad line why) = Bad line why
-error_of_parse faults.Memory = errors.Fault NoMemory
 
 -- a store, and the bytes of its disk
 abbrev pub Stored : Type 0
@@ -160,15 +165,19 @@ no_tidying = record { batches = []; compacts = false }
 
 -- What is seen at an order: what a read of the disk gives that the order makes, what a reading of the log gives that decides on cleans before
 -- it, and how the store is tidied before it, if it is a flush. At a clean this is how it is tidied before the flush for which the clean makes
--- room.
+-- room. Then by which batches the store is tidied, if the order asks for that; for which fault it fails, if it does, that isn't the store's own:
+-- it finds no memory, or the file of a copy fails; and what is told of its refusal, if it is refused.
 pub record Seen : Type 0 where
   pub bytes : Bytes
   pub ahead : Bytes
   pub tidying : Tidying
+  pub merged : Batches
+  pub fails : Option Fault
+  pub told : Bytes
 
--- these bytes, where nothing is tidied
+-- these bytes, where nothing is tidied and nothing fails
 abbrev pub untidied : Bytes → Seen
-untidied file = record { bytes = file; ahead = file; tidying = no_tidying }
+untidied file = record { bytes = file; ahead = file; tidying = no_tidying; merged = []; fails = None; told = [] }
 
 -- what is seen at each order, counted from 0
 abbrev pub Reads : Type 0
@@ -184,8 +193,7 @@ step_in (Batch commands) = Some (Step.Batch commands)
 step_in Flush = Some Step.Flush
 step_in Clean = Some Step.Clean
 step_in Upgrade = Some Step.Upgrade
-step_in Verify = None
-step_in Numbers = None
+step_in _ = None
 
 -- what a step leaves of what is stored, and why it is refused, if it is
 abbrev pub left_by : Stored → Stepped Global → Stored
@@ -233,37 +241,41 @@ tidied_tree settings tidying t = compacted_if tidying.compacts settings (tree_of
 abbrev pub tidied : Settings → Tidying → Stored → Stored
 tidied settings tidying at = (with_tree at.0 (tidied_tree settings tidying at.0.tree), at.1)
 
--- what it leaves before an order: before a flush the store is tidied, and before no other order
-abbrev pub tidied_before : Order → Settings → Tidying → Stored → Stored
-tidied_before Flush settings tidying at = tidied settings tidying at
-tidied_before _ settings tidying at = at
+-- what it leaves before an order: before a flush the store is tidied, and by an order that asks for it
+abbrev pub tidied_before : Order → Settings → Seen → Stored → Stored
+tidied_before Flush settings seen at = tidied settings seen.tidying at
+tidied_before (Tidy most) settings seen at = tidied settings (by_batches seen.merged) at
+tidied_before _ settings seen at = at
 
--- what an order leaves of a store at which this is seen
+-- why a store that was tidied for the order refuses it by its right, if it does; a batch that lost a line is refused for want of memory
+abbrev pub own_refusal : Settings → Stored → Order → Option Fault
+own_refusal settings at Lost = Some NoMemory
+own_refusal settings at order = refusal_of_step settings at (step_in order)
+
+-- what is left by an order that fails so, or that is done
+abbrev pub left_unless : Option Fault → Stored → Stored → Stored
+left_unless None at done = done
+left_unless (Some fault) at done = at
+
+-- what an order leaves of a store at which this is seen; one that is refused leaves the store as it was tidied for it
 unfoldable pub after_order : Settings → Store → Seen → Order → Stored
-after_order settings st seen order = left_by_step settings (tidied_before order settings seen.tidying (st, seen.bytes)) (step_in order)
+after_order settings st seen order =
+    left_unless seen.fails (tidied_before order settings seen (st, seen.bytes))
+    (left_by_step settings (tidied_before order settings seen (st, seen.bytes)) (step_in order))
 
--- why a store of these settings, at which this is seen, refuses the order by its right, if it does
+-- why the order is refused, where this is seen, if it is
 unfoldable pub refusal_of : Settings → Store → Seen → Order → Option Fault
-refusal_of settings st seen order = refusal_of_step settings (tidied_before order settings seen.tidying (st, seen.bytes)) (step_in order)
+refusal_of settings st seen order = option_or seen.fails (own_refusal settings (tidied_before order settings seen (st, seen.bytes)) order)
 
 -- the map that an order leaves
 abbrev pub map_after : Pairs Bytes → Order → Pairs Bytes
 map_after m (Batch commands) = map_after_all m commands
-map_after m Flush = m
-map_after m Clean = m
-map_after m Upgrade = m
-map_after m Verify = m
-map_after m Numbers = m
+map_after m _ = m
 
--- the map that orders leave, one after the other
-abbrev pub map_left : Pairs Bytes → List Order → Pairs Bytes
-map_left m [] = m
-map_left m (order ∷ rest) = map_left (map_after m order) rest
-
--- and from this start
-abbrev pub map_left_from : Start → List Order → Pairs Bytes
-map_left_from (Ok p) orders = map_left (contents p.1.0.tree) orders
-map_left_from (Err fault) orders = []
+-- the map after an order that is refused so, or isn't
+abbrev pub map_unless : Option Fault → Pairs Bytes → Order → Pairs Bytes
+map_unless None m order = map_after m order
+map_unless (Some fault) m order = m
 
 -- the numbers of a store of these settings
 abbrev pub numbers_of : Settings → Store → StoreNumbers
@@ -279,7 +291,7 @@ numbers_of settings st = record {
 
 -- the lines that an order answers, with their line feeds, where the store holds this map before it, and this is seen at it:
 -- to a batch the replies of the map, the lines of each as one text; to a flush and to an upgrade the sequence number that it leaves;
--- to a clean the head segment; to a verify the report on the tree; and the numbers of the store
+-- to a clean the head segment; to a verify the report on the tree; the numbers of the store; and to what a stream asks for what it asks
 abbrev pub own_lines : Settings → Store → Seen → Pairs Bytes → Order → List Bytes
 own_lines settings st seen m (Batch commands) = map shown_reply (replies_to m commands)
 own_lines settings st seen m Flush = shown_flushed (after_order settings st seen Flush).0.sequence ∷ []
@@ -287,6 +299,14 @@ own_lines settings st seen m Clean = shown_cleaned (after_order settings st seen
 own_lines settings st seen m Upgrade = shown_upgraded (after_order settings st seen Upgrade).0.sequence ∷ []
 own_lines settings st seen m Verify = shown_report (report st.tree) ∷ []
 own_lines settings st seen m Numbers = shown_numbers (numbers_of settings st) ∷ []
+own_lines settings st seen m (BadLine line why) = bad_line line why ∷ []
+own_lines settings st seen m Lost = []
+own_lines settings st seen m Stat = shown_numbers (numbers_of settings st) ∷ shown_settings settings ∷ []
+own_lines settings st seen m (Copy path segments) = shown_copied (report st.tree).pairs ∷ []
+own_lines settings st seen m (Tidy most) = shown_tidied (counted_pages st.tree - counted_pages (after_order settings st seen (Tidy most)).0.tree) ∷ []
+own_lines settings st seen m (Back lo hi limit) = shown_rows (rows_back lo hi limit m) ∷ []
+own_lines settings st seen m (Prefix bytes limit) = shown_rows (take limit (with_prefix bytes m)) ∷ []
+own_lines settings st seen m Help = help_lines ∷ []
 
 -- the lines that orders answer one after the other, of a store at which this is seen at each; each leaves its store and its
 -- map to the next
@@ -299,11 +319,6 @@ answer_lines settings st shown m (order ∷ rest) =
 -- the text of these lines
 abbrev pub printed : Settings → Store → Reads → Pairs Bytes → List Order → Bytes
 printed settings st shown m orders = flat (answer_lines settings st shown m orders)
-
--- all that these orders print from this start, were each accepted: nothing, where there is no store
-abbrev pub printed_by : Start → Reads → List Order → Bytes
-printed_by (Ok p) shown orders = printed p.0 p.1.0 shown (contents p.1.0.tree) orders
-printed_by (Err fault) shown orders = []
 
 -- why a store refuses the first of the orders that it refuses, if there is one; each that is accepted leaves its store to the next
 abbrev pub first_refusal : Settings → Store → Reads → List Order → Option Fault
@@ -318,6 +333,30 @@ accepted settings st shown (order ∷ rest) =
     if is_some (refusal_of settings st (shown 0) order) then []
     else order ∷ accepted settings (after_order settings st (shown 0) order).0 (later shown) rest
 
+-- what answers an order that is refused so, or isn't, and those after it: where a session goes on after a refusal it is one line
+abbrev pub answer_then : Bool → Option Fault → Bytes → List Bytes → List Bytes → List Bytes
+answer_then on None told own rest = own ++ rest
+answer_then true (Some fault) told own rest = fault_line told ∷ rest
+answer_then false (Some fault) told own rest = []
+
+-- what answers these orders, of a session that goes on after a refusal or ends at the first one
+abbrev pub answered : Bool → Settings → Store → Reads → Pairs Bytes → List Order → List Bytes
+answered on settings st shown m [] = []
+answered on settings st shown m (order ∷ rest) =
+    answer_then on (refusal_of settings st (shown 0) order) (shown 0).told (own_lines settings st (shown 0) m order)
+    (answered on settings (after_order settings st (shown 0) order).0 (later shown) (map_unless (refusal_of settings st (shown 0) order) m order) rest)
+
+-- the map that these orders leave, whichever are refused
+abbrev pub map_kept : Settings → Store → Reads → Pairs Bytes → List Order → Pairs Bytes
+map_kept settings st shown m [] = m
+map_kept settings st shown m (order ∷ rest) =
+    map_kept settings (after_order settings st (shown 0) order).0 (later shown) (map_unless (refusal_of settings st (shown 0) order) m order) rest
+
+-- and from this start
+abbrev pub map_kept_from : Start → Reads → List Order → Pairs Bytes
+map_kept_from (Ok p) shown orders = map_kept p.0 p.1.0 shown (contents p.1.0.tree) orders
+map_kept_from (Err fault) shown orders = []
+
 -- it is refused since the log is full
 abbrev pub is_full : Option Fault → Bool
 is_full (Some Full) = true
@@ -329,9 +368,9 @@ makes_no_room (Some Full) = true
 makes_no_room (Some NothingToClean) = true
 makes_no_room _ = false
 
--- a store, at which this is seen, can be cleaned to make room
+-- a store, at which this is seen, can be cleaned; where a clean is refused, it makes no room, or the flush for which it is run fails as it does
 abbrev pub can_clean : Settings → Store → Seen → Bool
-can_clean settings st seen = not (makes_no_room (refusal_of settings st seen Clean))
+can_clean settings st seen = not (is_some (refusal_of settings st seen Clean))
 
 -- how many cleans are run in a row before a flush is tried again, in a log of this many segments: an eighth of them, and at least one
 abbrev pub row_of_cleans : ℕ → ℕ
@@ -435,9 +474,11 @@ AreUntidied shown = (i : ℕ) → (shown i).tidying ≡ no_tidying
 abbrev pub IsAsked : Mode → Tidying → Type 0
 IsAsked mode tidying = (mode.tidy ≡ 0 → tidying.batches ≡ []) × (mode.clean_when_full ≡ false → tidying.compacts ≡ false)
 
--- stores are tidied in the same way
-abbrev pub AreTidiedAlike : Reads → Reads → Type 0
-AreTidiedAlike shown other = (i : ℕ) → (shown i).tidying ≡ (other i).tidying
+-- stores are tidied in the same way, and fail in the same way
+abbrev pub AreSeenAlike : Reads → Reads → Type 0
+AreSeenAlike shown other =
+    (i : ℕ) → ((shown i).tidying ≡ (other i).tidying) × ((shown i).merged ≡ (other i).merged)
+    × ((shown i).fails ≡ (other i).fails) × ((shown i).told ≡ (other i).told)
 
 -- a flush and the cleans that make room for it are of a store that is tidied once: at a clean the same is seen of it as at the next order
 abbrev pub AreTidiedOnce : Reads → List Order → Type 0
@@ -458,94 +499,67 @@ pub record TidiesTo (mode : Mode) (settings : Settings) (old now : Store) : Type
 abbrev pub IsByBatches : Mode → Settings → Store → Store → Type 0
 IsByBatches mode settings old now = (batches : Batches) × (mode.tidy ≡ 0 → batches ≡ []) × ((file : Bytes) → tidied settings (by_batches batches) (old, file) ≡ (now, file))
 
+-- a copy of a store that holds this map, under these settings, is refused so: by its pairs, or by a flush of all of them
+abbrev pub IsCopyRefusal : Settings → Pairs Bytes → Fault → Type 0
+IsCopyRefusal settings m fault = IsPutFault settings m fault ⊎ IsFilledFault settings m fault
+
+-- the settings of a copy that has this number of segments, or as many as its store
+abbrev pub copy_settings : Settings → Option ℕ → Settings
+copy_settings settings segments = record settings { segments = unwrap_or segments settings.segments }
+
+-- why an order of what is stored can fail, where flushes make themselves room or don't: it finds no memory; or it is a flush, and a clean in front of it is
+-- refused so; or it is a copy, which is refused, or whose file fails; or the store can't be tidied. A bad line and the lines of help need nothing.
+abbrev pub MayFail : Bool → Settings → Stored → Order → Fault → Type 0
+MayFail cleans settings at (BadLine line why) fault = ⊥
+MayFail cleans settings at Help fault = ⊥
+MayFail cleans settings at Flush fault =
+    (fault ≡ NoMemory) ⊎ ((cleans ≡ true) × (makes_no_room (Some fault) ≡ false) × (refusal_of_step settings at (Some Step.Clean) ≡ Some fault))
+MayFail cleans settings at (Copy path segments) fault =
+    (fault ≡ NoMemory) ⊎ (fault ≡ faults.Device) ⊎ IsCopyRefusal (copy_settings settings segments) (contents at.0.tree) fault
+    ⊎ ((field : Field) × (first_bad_field (copy_settings settings segments) ≡ Some field) × (fault ≡ BadSettings field))
+MayFail cleans settings at (Tidy most) fault = IsTidyFault settings fault
+MayFail cleans settings at order fault = fault ≡ NoMemory
+
+-- each of these orders fails only as it can
+abbrev pub AreFailing : Bool → Settings → Store → Reads → List Order → Type 0
+AreFailing cleans settings st shown [] = ⊤
+AreFailing cleans settings st shown (order ∷ rest) =
+    IfSome (shown 0).fails (MayFail cleans settings (st, (shown 0).bytes) order) × AreFailing cleans settings (after_order settings st (shown 0) order).0 (later shown) rest
+
+-- the same from this start
+abbrev pub AreFailingFrom : Bool → Start → Reads → List Order → Type 0
+AreFailingFrom cleans (Ok p) shown orders = AreFailing cleans p.0 p.1.0 shown orders
+AreFailingFrom cleans (Err fault) shown orders = ⊤
+
 -- this can be seen at each of these orders, where the words give this: the disk shows in memory what was left, in a file anything
 abbrev pub IsShown : Request → Start → Reads → List Order → Type 0
-IsShown request start shown orders = TidiesBy request.mode shown orders × (request.disk ≡ None → AreLeftFrom start shown orders)
-
--- whether all is done, whatever else is returned then
-abbrev pub without_value : {X : Type 0} → Result X SessionError → Result (Unit {0}) SessionError
-without_value (Ok x) = Ok tt
-without_value (Err early) = Err early
+IsShown request start shown orders =
+    TidiesBy request.mode shown orders × AreFailingFrom request.mode.clean_when_full start shown orders × (request.disk ≡ None → AreLeftFrom start shown orders)
 
 -- an end for this reason, or with all done
 abbrev pub stopped_by : Option SessionError → Result (Unit {0}) SessionError
 stopped_by None = Ok tt
 stopped_by (Some early) = Err early
 
--- how orders end by their right: at the first that the store refuses, or with all done
-abbrev pub orders_end : Settings → Store → Reads → List Order → Result (Unit {0}) SessionError
-orders_end settings st shown orders = stopped_by (option_map (λ fault. errors.Fault fault) (first_refusal settings st shown orders))
+-- how orders end by their right: with all done, where the session goes on after a refusal; else at the first that is refused, if one is
+abbrev pub orders_end : Bool → Settings → Store → Reads → List Order → Result (Unit {0}) SessionError
+orders_end true settings st shown orders = Ok tt
+orders_end false settings st shown orders = stopped_by (option_map (λ fault. errors.Fault fault) (first_refusal settings st shown orders))
 
--- how a session with this first bad line, if there is one, ends by its right, that starts so and would run these orders: a bad
--- line goes before the fault of a start that has no store
-abbrev pub end_after : Option (ℕ × Why) → Start → Reads → List Order → Result (Unit {0}) SessionError
-end_after (Some bad) start shown orders = Err (Bad bad.0 bad.1)
-end_after None (Err fault) shown orders = Err (errors.Fault fault)
-end_after None (Ok p) shown orders = orders_end p.0 p.1.0 shown orders
+-- how a session ends by its right that starts so and runs these orders
+abbrev pub end_from : Bool → Start → Reads → List Order → Result (Unit {0}) SessionError
+end_from on (Err fault) shown orders = Err (errors.Fault fault)
+end_from on (Ok p) shown orders = orders_end on p.0 p.1.0 shown orders
 
 -- the lines that it prints by its right
-abbrev pub lines_after : Option (ℕ × Why) → Start → Reads → List Order → List Bytes
-lines_after (Some bad) start shown orders = []
-lines_after None (Err fault) shown orders = []
-lines_after None (Ok p) shown orders = answer_lines p.0 p.1.0 shown (contents p.1.0.tree) (accepted p.0 p.1.0 shown orders)
+abbrev pub lines_from : Bool → Start → Reads → List Order → List Bytes
+lines_from on (Err fault) shown orders = []
+lines_from on (Ok p) shown orders = answered on p.0 p.1.0 shown (contents p.1.0.tree) orders
 
--- an end for this bad line
-abbrev pub bad_line_error : ℕ × Why → SessionError
-bad_line_error bad = Bad bad.0 bad.1
-
--- how a stream with this first bad line, if there is one, ends by its right, that starts so and runs these orders up to it: at a start that
--- has no store, else at the first order that the store refuses, else at the bad line, or with all done
-abbrev pub end_streamed : Option (ℕ × Why) → Start → Reads → List Order → Result (Unit {0}) SessionError
-end_streamed bad (Err fault) shown orders = Err (errors.Fault fault)
-end_streamed bad (Ok p) shown orders =
-    stopped_by (option_or (option_map (λ fault. errors.Fault fault) (first_refusal p.0 p.1.0 shown orders)) (option_map bad_line_error bad))
-
--- the orders of a session on this text that starts so: what its lines order, and then the numbers, where the words ask for them; and among
--- them the cleans that make room for flushes, where they ask for these
-abbrev pub session_orders : Request → Start → Reads → Bytes → List Order
-session_orders request start shown text = run_from request.mode.clean_when_full start shown (with_numbers request.mode.stat (orders_of [] (parse_text text)))
-
--- how a session on this text ends by its right
-abbrev pub session_end : Request → Start → Reads → Bytes → Result (Unit {0}) SessionError
-session_end request start shown text = end_after (first_bad 1 (parse_text text)) start shown (session_orders request start shown text)
-
--- the lines that a session on this text prints by its right
-abbrev pub session_lines : Request → Start → Reads → Bytes → List Bytes
-session_lines request start shown text = lines_after (first_bad 1 (parse_text text)) start shown (session_orders request start shown text)
-
--- the same of a stream of lines that say this, up to the first bad one: what it runs, how it ends, and the lines that it prints
-abbrev pub stream_orders : Request → Start → Reads → List Line → List Order
-stream_orders request start shown parsed = run_from request.mode.clean_when_full start shown (streamed request.mode.stat [] parsed)
-
-abbrev pub stream_end : Request → Start → Reads → List Line → Result (Unit {0}) SessionError
-stream_end request start shown parsed = end_streamed (first_bad 1 parsed) start shown (stream_orders request start shown parsed)
-
-abbrev pub stream_lines : Request → Start → Reads → List Line → List Bytes
-stream_lines request start shown parsed = lines_after None start shown (stream_orders request start shown parsed)
-
--- what is run of this text, by a stream or not
-abbrev pub run_by : Bool → Request → Start → Reads → Bytes → List Order
-run_by true request start shown text = stream_orders request start shown (parse_text text)
-run_by false request start shown text = session_orders request start shown text
-
--- and by a session that is asked for this
-abbrev pub orders_run : Request → Start → Reads → Bytes → List Order
-orders_run request start shown text = run_by request.mode.stream request start shown text
-
--- a session whose text has this first bad line, if it has one, can end so before anything is run
-abbrev pub IsReadError : Option (ℕ × Why) → SessionError → Type 0
-IsReadError bad (Words error) = ⊥
-IsReadError bad (Bad line why) = bad ≡ Some (line, why)
-IsReadError bad (errors.Fault fault) = fault ≡ NoMemory
-IsReadError bad Device = Unit {0}
-
--- the list begins so
-abbrev pub BeginsWith : {X : Type 0} → List X → List X → Type 0
-BeginsWith {X} xs front = (rest : List X) × (xs ≡ front ++ rest)
-
--- known bytes grow by a beginning of this text
-abbrev pub IsBegun : Option Bytes → Option Bytes → Bytes → Type 0
-IsBegun old new text = (front : Bytes) × BeginsWith text front × Appends old new front
+-- the orders of a session of lines that say this and that starts so, with the numbers, where the words ask for them, and the cleans among them that
+-- make room for flushes, where they ask for these
+abbrev pub session_orders : Request → Start → Reads → List Line → List Order
+session_orders request start shown parsed = run_from request.mode.clean_when_full start shown (orders_in request.mode.stream request.mode.stat parsed)
 
 -- known bytes grow by a beginning of what is reported of this end, where a clause can say what that is, and of this after it
 abbrev pub IsReportedWith : Bytes → Result (Unit {0}) SessionError → Option Bytes → Option Bytes → Type 0
@@ -555,42 +569,23 @@ IsReportedWith more end old new = IfSome (reported_text end) (λ text. IsBegun o
 abbrev pub IsReported : List Bytes → Result (Unit {0}) SessionError → Option Bytes → Option Bytes → Type 0
 IsReported words end old new = (more : Bytes) × (AsksToExplain words ⊎ (more ≡ [])) × IsReportedWith more end old new
 
--- known bytes grow by what is written to show some sights one after the other, or by a beginning of that
-abbrev pub IsProgress : Option Bytes → Option Bytes → Type 0
-IsProgress old new = (messages : List ProgressText) × IsBegun old new (flat (map shown_message messages))
-
--- what holds these contents gets progress while it is shown: some sights, one after the other, or a beginning of that, where it is shown no
--- more (as after a write that failed); where it isn't shown, nothing
-abbrev pub Shows : {E : Type 0} → (E → Option Bytes) → Bool → E → Bool → E → Type 0
-Shows contents false old on new = (on ≡ false) × (new ≡ old)
-Shows contents true old true new = (messages : List ProgressText) × Appends (contents old) (contents new) (flat (map shown_message messages))
-Shows contents true old false new = IsProgress (contents old) (contents new)
-
--- it gets nothing but progress, where that is asked for, and else nothing
-abbrev pub ShowsOnly : {E : Type 0} → (E → Option Bytes) → Bool → E → E → Type 0
-ShowsOnly contents false old new = new ≡ old
-ShowsOnly contents true old new = IsProgress (contents old) (contents new)
-
--- it is as it was; or it got progress and nothing else, and the words ask for that
+-- it is as it was, or the words ask for reports, or for an explanation, and a note was written
 abbrev pub IsQuiet : {E : Type 0} → (E → Option Bytes) → List Bytes → E → E → Type 0
-IsQuiet contents words old new = (new ≡ old) ⊎ (AsksForProgress words × IsProgress (contents old) (contents new))
+IsQuiet contents words old new =
+    (new ≡ old) ⊎ AsksForReports words ⊎ (AsksToExplain words × ((note : Bytes) × IsBegun (contents old) (contents new) note))
 
--- an end is reported, where the words ask for progress after some of that
-abbrev pub IsReportedAfterProgress : List Bytes → Result (Unit {0}) SessionError → Option Bytes → Option Bytes → Type 0
-IsReportedAfterProgress words end old new =
-    IsReported words end old new ⊎ (AsksForProgress words × ((shown : Option Bytes) × IsProgress old shown × IsReported words end shown new))
+-- the line that answers the order at which the disk of the store failed, where the session goes on after other faults
+abbrev pub device_line : Bool → Bytes
+device_line false = []
+device_line true = codes "fault 9 Device" ++ 10 ∷ []
 
--- known bytes grow by all of the lines where the end is the right one; memory can be refused after some whole lines, and a device can fail
--- anywhere
-abbrev pub Prints : Option Bytes → Option Bytes → List Bytes → Result (Unit {0}) SessionError → Result (Unit {0}) SessionError → Type 0
-Prints old new lines right end =
+-- known bytes grow by all of the lines where the end is the right one; memory can be refused after some whole lines, but in a stream, where that is a
+-- refusal like any other; and a device can fail anywhere, and if that is the disk of the store, that may be the last answer of a stream
+abbrev pub Prints : Bool → Option Bytes → Option Bytes → List Bytes → Result (Unit {0}) SessionError → Result (Unit {0}) SessionError → Type 0
+Prints on old new lines right end =
     ((end ≡ right) × Appends old new (flat lines))
-    ⊎ ((end ≡ Err (errors.Fault NoMemory)) × ((front : List Bytes) × BeginsWith lines front × Appends old new (flat front)))
-    ⊎ ((end ≡ Err Device) × ((front : Bytes) × BeginsWith (flat lines) front × Appends old new front))
-
--- a copy of a store that holds this map, under these settings, is refused so: by its pairs, or by a flush of all of them
-abbrev pub IsCopyRefusal : Settings → Pairs Bytes → Fault → Type 0
-IsCopyRefusal settings m fault = IsPutFault settings m fault ⊎ IsFilledFault settings m fault
+    ⊎ ((on ≡ false) × (end ≡ Err (errors.Fault NoMemory)) × ((front : List Bytes) × BeginsWith lines front × Appends old new (flat front)))
+    ⊎ ((end ≡ Err Device) × ((front : Bytes) × (last : Bytes) × BeginsWith (flat lines) front × BeginsWith (device_line on) last × Appends old new (front ++ last)))
 
 -- why there is no copy: it is refused so, or there is no memory, or a device failed
 abbrev pub IsCopyEnd : Settings → Pairs Bytes → SessionError → Type 0
@@ -619,65 +614,136 @@ IsEndAfter plain end = (end ≡ plain) ⊎ ((plain ≡ Ok tt) × ((fault : Fault
 
 -- The same of a session whose orders leave this map, and which is to leave a copy under some settings, if it is: where it isn't, word for word.
 -- Where it is, nothing else is printed; and where all orders are done, the right end can be why a copy of this map is refused.
-abbrev pub PrintsCopied : Option Settings → Pairs Bytes → Option Bytes → Option Bytes → List Bytes → Result (Unit {0}) SessionError → Result (Unit {0}) SessionError → Type 0
-PrintsCopied None m old new lines right end = Prints old new lines right end
-PrintsCopied (Some settings) m old new lines right end =
-    (refused : Option Fault) × IfSome refused (IsCopyRefusal settings m) × Prints old new lines (end_copied refused right) end
+abbrev pub PrintsCopied : Option Settings → Pairs Bytes → Bool → Option Bytes → Option Bytes → List Bytes → Result (Unit {0}) SessionError → Result (Unit {0}) SessionError → Type 0
+PrintsCopied None m on old new lines right end = Prints on old new lines right end
+PrintsCopied (Some settings) m on old new lines right end =
+    (refused : Option Fault) × IfSome refused (λ fault. (fault ≡ NoMemory) ⊎ IsCopyRefusal settings m fault) × Prints on old new lines (end_copied refused right) end
 
--- what these orders print of a store of these settings, at which this is seen at each, and how they end, is right but for
--- memory and devices
-unfoldable pub Runs : Settings → Store → Reads → List Order → Option Bytes → Option Bytes → Result (Unit {0}) SessionError → Type 0
-Runs settings st shown orders old new end =
-    Prints old new (answer_lines settings st shown (contents st.tree) (accepted settings st shown orders))
-    (orders_end settings st shown orders) end
+-- what these orders print of a store of these settings, at which this is seen at each, and how they end, is right but for memory and devices, where
+-- they go on after a refusal or end at the first, in a stream or not
+unfoldable pub Runs : Bool → Bool → Settings → Store → Reads → List Order → Option Bytes → Option Bytes → Result (Unit {0}) SessionError → Type 0
+Runs on stream settings st shown orders old new end =
+    Prints stream old new (answered on settings st shown (contents st.tree) orders) (orders_end on settings st shown orders) end
+
+-- the same of one order of these lines that ends so by its right, before the line for its device
+abbrev pub PrintsOwn : Bool → Option Bytes → Option Bytes → List Bytes → Result (Unit {0}) SessionError → Result (Unit {0}) SessionError → Type 0
+PrintsOwn on old new lines right end =
+    ((end ≡ right) × Appends old new (flat lines))
+    ⊎ ((on ≡ false) × (end ≡ Err (errors.Fault NoMemory)) × ((front : List Bytes) × BeginsWith lines front × Appends old new (flat front)))
+    ⊎ ((end ≡ Err Device) × IsBegun old new (flat lines))
+
+-- so it is for this order of a store of these settings, at which this is seen, in a stream or not: a refusal is an end
+unfoldable pub RunsAlone : Bool → Settings → Store → Seen → Order → Option Bytes → Option Bytes → Result (Unit {0}) SessionError → Type 0
+RunsAlone on settings st seen order old new end =
+    PrintsOwn on old new (answer_then false (refusal_of settings st seen order) seen.told (own_lines settings st seen (contents st.tree) order) [])
+    (stopped_by (option_map (λ fault. errors.Fault fault) (refusal_of settings st seen order))) end
 
 -- this can be seen at each of these orders, in such ways: the disk shows, if it is honest, what was left, and these bytes before the first
 abbrev pub AreSeen : Mode → Bool → Settings → Store → Bytes → Reads → List Order → Type 0
-AreSeen mode honest settings st left shown orders = TidiesBy mode shown orders × (IsTrue honest → AreLeft settings st left shown orders)
+AreSeen mode honest settings st left shown orders =
+    TidiesBy mode shown orders × AreFailing mode.clean_when_full settings st shown orders × (IsTrue honest → AreLeft settings st left shown orders)
 
--- so it is in such ways, in which flushes make themselves room or don't, where some such reads are seen at each order that is run
-abbrev pub RunsOn : Mode → Bool → Settings → Store → Bytes → List Order → Option Bytes → Option Bytes → Result (Unit {0}) SessionError → Type 0
-RunsOn mode honest settings st left orders old new end =
+-- where they end so with all done, this is the map that they leave
+abbrev pub LeavesMap : Settings → Store → Reads → List Order → Result (Unit {0}) SessionError → Pairs Bytes → Type 0
+LeavesMap settings st shown orders end held = OnOk end (held ≡ map_kept settings st shown (contents st.tree) orders)
+
+-- so it is in such ways, in which flushes make themselves room or don't, where some such reads are seen at each order that is run; and where all is
+-- done, this map is left
+abbrev pub RunsOn : Mode → Bool → Settings → Store → Bytes → List Order → Option Bytes → Option Bytes → Result (Unit {0}) SessionError → Pairs Bytes → Type 0
+RunsOn mode honest settings st left orders old new end held =
     (shown : Reads) × AreSeen mode honest settings st left shown (run_of mode.clean_when_full settings st shown orders)
-    × Runs settings st shown (run_of mode.clean_when_full settings st shown orders) old new end
+    × Runs mode.stream mode.stream settings st shown (run_of mode.clean_when_full settings st shown orders) old new end
+    × LeavesMap settings st shown (run_of mode.clean_when_full settings st shown orders) end held
 
--- the order is accepted, where this is seen, and leaves this store, with its map; and on an honest disk these bytes
+-- what these orders print after the line that answers a refusal of which this is told, and how they end, is right but for memory and devices
+unfoldable pub RunsAfter : Bytes → Bool → Settings → Store → Reads → List Order → Option Bytes → Option Bytes → Result (Unit {0}) SessionError → Type 0
+RunsAfter told on settings st shown orders old new end =
+    Prints on old new (fault_line told ∷ answered on settings st shown (contents st.tree) orders) (orders_end on settings st shown orders) end
+
+-- the same of that line and of what comes after it
+abbrev pub RunsTold : Bytes → Mode → Bool → Settings → Store → Bytes → List Order → Option Bytes → Option Bytes → Result (Unit {0}) SessionError → Pairs Bytes → Type 0
+RunsTold told mode honest settings st left orders old new end held =
+    (shown : Reads) × AreSeen mode honest settings st left shown (run_of mode.clean_when_full settings st shown orders)
+    × RunsAfter told mode.stream settings st shown (run_of mode.clean_when_full settings st shown orders) old new end
+    × LeavesMap settings st shown (run_of mode.clean_when_full settings st shown orders) end held
+
+-- the same, where it ends with all done and this store is left
+abbrev pub RunsAll : Mode → Bool → Settings → Store → Bytes → List Order → Option Bytes → Option Bytes → Result (Unit {0}) SessionError → Store → Type 0
+RunsAll mode honest settings st left orders old new end now = RunsOn mode honest settings st left orders old new end (contents now.tree)
+
+-- the order leaves this store, whether it is done or refused, with its map; and on an honest disk these bytes
 pub record LeavesStored (honest : Bool) (settings : Settings) (st : Store) (seen : Seen) (order : Order) (now : Store) (left : Bytes) : Type 0 where
-  pub unrefused : refusal_of settings st seen order ≡ None
   pub store : now ≡ (after_order settings st seen order).0
   pub bytes : IsTrue honest → left ≡ (after_order settings st seen order).1
-  pub holds : contents now.tree ≡ map_after (contents st.tree) order
+  pub holds : contents now.tree ≡ map_unless (refusal_of settings st seen order) (contents st.tree) order
 
--- this can be seen at an order, in such ways: the disk shows, if it is honest, these bytes
-abbrev pub IsSeen : Mode → Bool → Bytes → Seen → Type 0
-IsSeen mode honest left seen = IsAsked mode seen.tidying × (IsTrue honest → IsLeft left seen)
+-- this can be seen at an order of a store, in such ways: the disk shows, if it is honest, these bytes
+abbrev pub IsSeen : Mode → Bool → Settings → Store → Bytes → Order → Seen → Type 0
+IsSeen mode honest settings st left order seen =
+    IsAsked mode seen.tidying × IfSome seen.fails (MayFail mode.clean_when_full settings (st, seen.bytes) order) × (IsTrue honest → IsLeft left seen)
 
--- What one order prints, and how it ends, is right but for memory and devices, where something is seen that can be, in such ways.
--- Where all of it is done it leaves this store, and on an honest disk the bytes that come last.
+-- What one order prints, and how it ends, is right but for devices, where something is seen that can be, in such ways: a refusal is an end. Unless a
+-- device fails it leaves this store, and on an honest disk the bytes that come last.
 abbrev pub RunsOrder : Mode → Bool → Settings → Store → Bytes → Order → Option Bytes → Option Bytes → Result (Unit {0}) SessionError → Store → Bytes → Type 0
 RunsOrder mode honest settings st left order old new end now bytes =
-    (seen : Seen) × IsSeen mode honest left seen × Runs settings st (λ i. seen) (order ∷ []) old new end
-    × OnOk end (LeavesStored honest settings st seen order now bytes)
+    (seen : Seen) × IsSeen mode honest settings st left order seen × RunsAlone mode.stream settings st seen order old new end
+    × (end ≢ Err Device → LeavesStored honest settings st seen order now bytes)
 
--- What these orders print, and how they end, is right in front of any others that are run next: all of them are done, and the others go on
--- with this store and, on an honest disk, these bytes; or they stop early, and so do all.
+-- these orders go on, after what was printed, with any others that are run next on this store and, on an honest disk, these bytes
+abbrev pub GoesOn : Mode → Bool → Settings → Store → Bytes → List Order → Option Bytes → Option Bytes → Store → Bytes → Type 0
+GoesOn mode honest settings st left orders old new now bytes =
+    (rest : List Order) (last : Option Bytes) (end : Result (Unit {0}) SessionError) (held : Pairs Bytes) → RunsOn mode honest settings now bytes rest new last end held
+    → RunsOn mode honest settings st left (orders ++ rest) old last end held
+
+-- these orders stop early, whatever others there are
+abbrev pub Stops : Mode → Bool → Settings → Store → Bytes → List Order → Option Bytes → Option Bytes → SessionError → Type 0
+Stops mode honest settings st left orders old new early = (rest : List Order) (held : Pairs Bytes) → RunsOn mode honest settings st left (orders ++ rest) old new (Err early) held
+
+-- What follows a refusal, in a session that goes on and in one that ends: the line of the fault is printed, and what others print; or all stop, and if
+-- that is for a device, its line may be printed.
+abbrev pub RunsRefused : Bool → Mode → Bool → Settings → Store → Bytes → List Order → Option Bytes → Option Bytes → SessionError → Store → Bytes → Type 0
+RunsRefused true mode honest settings st left orders old new (errors.Fault fault) now bytes =
+    (told : Bytes) (rest : List Order) (last : Option Bytes) (end : Result (Unit {0}) SessionError) (held : Pairs Bytes) → RunsTold told mode honest settings now bytes rest new last end held
+    → RunsOn mode honest settings st left (orders ++ rest) old last end held
+RunsRefused true mode honest settings st left orders old new Device now bytes =
+    (more : Bytes) (printed : Option Bytes) → BeginsWith (device_line true) more → Appends new printed more → Stops mode honest settings st left orders old printed Device
+RunsRefused true mode honest settings st left orders old new early now bytes = ⊥
+RunsRefused false mode honest settings st left orders old new early now bytes = Stops mode honest settings st left orders old new early
+
+-- What these orders print, before the fault if one is refused, and how they end, is right in front of any others that are run next: all of them are
+-- done, or one is refused, and the others go on with this store and, on an honest disk, these bytes; or all stop.
 abbrev pub RunsFirst : Mode → Bool → Settings → Store → Bytes → List Order → Option Bytes → Option Bytes → Result (Unit {0}) SessionError → Store → Bytes → Type 0
-RunsFirst mode honest settings st left orders old new (Ok done) now bytes =
-    (rest : List Order) (last : Option Bytes) (end : Result (Unit {0}) SessionError) → RunsOn mode honest settings now bytes rest new last end
-    → RunsOn mode honest settings st left (orders ++ rest) old last end
-RunsFirst mode honest settings st left orders old new (Err early) now bytes =
-    (rest : List Order) → RunsOn mode honest settings st left (orders ++ rest) old new (Err early)
+RunsFirst mode honest settings st left orders old new (Ok done) now bytes = GoesOn mode honest settings st left orders old new now bytes
+RunsFirst mode honest settings st left orders old new (Err early) now bytes = RunsRefused mode.stream mode honest settings st left orders old new early now bytes
+
+-- The same with the fault printed: in a session that goes on after a refusal only a device stops the orders.
+abbrev pub RunsAsk : Mode → Bool → Settings → Store → Bytes → List Order → Option Bytes → Option Bytes → Result (Unit {0}) SessionError → Store → Bytes → Type 0
+RunsAsk mode honest settings st left orders old new (Ok done) now bytes = GoesOn mode honest settings st left orders old new now bytes
+RunsAsk mode honest settings st left orders old new (Err early) now bytes = (mode.stream ≡ true → early ≡ Device) × Stops mode honest settings st left orders old new early
 
 -- what is run of a flush, with at most this many cleans in front of it, of which this many are to be run before it is tried, and of these orders
 abbrev pub with_room : ℕ → ℕ → Settings → Store → Reads → List Order → List Order
 with_room most row settings st shown rest = flush_with_room most row settings st shown (λ now reads. with_cleans settings now reads rest)
 
 -- what is printed of that, and how it ends, is right but for memory and devices, where some such reads are seen at each order that is run, and
--- the store is tidied so before the flush
-abbrev pub RunsRoom : ℕ → ℕ → Tidying → Mode → Bool → Settings → Store → Bytes → List Order → Option Bytes → Option Bytes → Result (Unit {0}) SessionError → Type 0
-RunsRoom most row tidying mode honest settings st left rest old new end =
+-- the store is tidied so before the flush; and where all is done, this map is left
+abbrev pub RunsRoom : ℕ → ℕ → Tidying → Mode → Bool → Settings → Store → Bytes → List Order → Option Bytes → Option Bytes → Result (Unit {0}) SessionError → Pairs Bytes → Type 0
+RunsRoom most row tidying mode honest settings st left rest old new end held =
     (shown : Reads) × ((shown 0).tidying ≡ tidying) × AreSeen mode honest settings st left shown (with_room most row settings st shown rest)
-    × Runs settings st shown (with_room most row settings st shown rest) old new end
+    × Runs mode.stream mode.stream settings st shown (with_room most row settings st shown rest) old new end
+    × LeavesMap settings st shown (with_room most row settings st shown rest) end held
+
+-- what follows a refusal there: the line of the fault is printed, and what others print; or all stop, and the device's line may be printed
+abbrev pub RunsRoomRefused : Bool → ℕ → ℕ → Tidying → Mode → Bool → Settings → Store → Bytes → Option Bytes → Option Bytes → SessionError → Store → Bytes → Type 0
+RunsRoomRefused true most row tidying mode honest settings st left old new (errors.Fault fault) now bytes =
+    (told : Bytes) (rest : List Order) (last : Option Bytes) (end : Result (Unit {0}) SessionError) (held : Pairs Bytes) → RunsTold told mode honest settings now bytes rest new last end held
+    → RunsRoom most row tidying mode honest settings st left rest old last end held
+RunsRoomRefused true most row tidying mode honest settings st left old new Device now bytes =
+    (more : Bytes) (printed : Option Bytes) → BeginsWith (device_line true) more → Appends new printed more
+    → (rest : List Order) (held : Pairs Bytes) → RunsRoom most row tidying mode honest settings st left rest old printed (Err Device) held
+RunsRoomRefused true most row tidying mode honest settings st left old new early now bytes = ⊥
+RunsRoomRefused false most row tidying mode honest settings st left old new early now bytes =
+    (rest : List Order) (held : Pairs Bytes) → RunsRoom most row tidying mode honest settings st left rest old new (Err early) held
 
 -- What cleans in front of a flush print, and how they end, is right, of which there are at most this many, with this many of them to be run before
 -- the flush is tried: it goes on with a store that is tidied to this one and, on an honest disk, these bytes, and it is tried next, with at most so
@@ -685,10 +751,10 @@ RunsRoom most row tidying mode honest settings st left rest old new end =
 abbrev pub RunsCleans : ℕ → ℕ → Tidying → Mode → Bool → Settings → Store → Bytes → Option Bytes → Option Bytes → Result ℕ SessionError → Store → Bytes → Type 0
 RunsCleans most row tidying mode honest settings st left old new (Ok more) now bytes =
     (cleaned : Store) × ((file : Bytes) → tidied settings tidying (cleaned, file) ≡ (now, file))
-    × ((rest : List Order) (last : Option Bytes) (end : Result (Unit {0}) SessionError) → RunsRoom more 0 tidying mode honest settings cleaned bytes rest new last end
-    → RunsRoom most row tidying mode honest settings st left rest old last end)
+    × ((rest : List Order) (last : Option Bytes) (end : Result (Unit {0}) SessionError) (held : Pairs Bytes) → RunsRoom more 0 tidying mode honest settings cleaned bytes rest new last end held
+    → RunsRoom most row tidying mode honest settings st left rest old last end held)
 RunsCleans most row tidying mode honest settings st left old new (Err early) now bytes =
-    (rest : List Order) → RunsRoom most row tidying mode honest settings st left rest old new (Err early)
+    RunsRoomRefused mode.stream most row tidying mode honest settings st left old new early now bytes
 
 -- these bytes decide on cleans in front of a flush of a store that was tidied for it: they have these live bytes, if the log is sound, and the disk
 -- shows them, if it is honest
@@ -703,9 +769,9 @@ IsCalm view x most = (live : Option ℕ) × IsKnown view x live × (is_early mos
 abbrev pub IsUndue : {D : Type 0} → (D → View) → State D → Type 0
 IsUndue view x = (live : Option ℕ) × IsKnown view x live × (may_help x.settings x.store live ≡ false)
 
--- the log is full for a flush of the store that is tidied so, whatever is read
+-- the log is full for a flush of the store that is tidied so, whatever is read, unless the flush fails
 abbrev pub IsFullFor : Settings → Store → Tidying → Type 0
-IsFullFor settings st tidying = (at : Seen) → at.tidying ≡ tidying → refusal_of settings st at Flush ≡ Some Full
+IsFullFor settings st tidying = (at : Seen) → at.tidying ≡ tidying → at.fails ≡ None → refusal_of settings st at Flush ≡ Some Full
 
 -- what is done in front of a flush that is tried next, of which the log is full: some cleans; or none, where no cleans could make room
 abbrev pub RunsAhead : ℕ → Tidying → Mode → Bool → Settings → Store → Bytes → Option Bytes → Option Bytes → Result (Option ℕ) SessionError → Store → Bytes → Type 0
@@ -717,40 +783,74 @@ RunsAhead most tidying mode honest settings st left old new (Err early) now byte
 abbrev pub IsReadAhead : {D : Type 0} → (D → View) → State D → PagesRead → Type 0
 IsReadAhead view x reading = IsReadFor view x reading × IsKnown view x (Some reading.live)
 
--- What a stream of lines prints of this store, and how it ends, is right but for memory and devices, for what some lines say, which are
--- those of the known text: the orders up to the first bad one, which is returned where all of these are done. Then this store is left, with
--- their map.
-abbrev pub StreamsOn : Mode → Bool → Settings → Store → Bytes → Option Bytes → Option Bytes → Option Bytes → Result (Option (ℕ × Why)) SessionError → Store → Type 0
-StreamsOn mode honest settings st left known old new end now =
-    (parsed : List Line) × IfSome known (λ text. parsed ≡ parse_text text)
-    × RunsOn mode honest settings st left (streamed mode.stat [] parsed) old new (without_value end)
-    × IfOk end (λ bad. bad ≡ first_bad 1 parsed) × OnOk end (contents now.tree ≡ map_left (contents st.tree) (streamed mode.stat [] parsed))
+-- the same relations, of a store before and after a call, and of what holds the output
+abbrev pub OrderRuns : {D : Type 0} → {O : Type 0} → (D → View) → (O → Option Bytes) → Mode → Order → State D → O → Result (Unit {0}) SessionError → State D → O → Type 0
+OrderRuns view contents mode order x old end y new =
+    RunsOrder mode (view x.disk).is_honest x.settings x.store (view x.disk).seen order (contents old) (contents new) end y.store (view y.disk).seen
 
--- how it ends, where a bad line is returned
-abbrev pub stream_ended : Result (Option (ℕ × Why)) SessionError → Result (Unit {0}) SessionError
-stream_ended (Ok bad) = stopped_by (option_map bad_line_error bad)
-stream_ended (Err early) = Err early
+abbrev pub OrdersRunFrom : {D : Type 0} → {O : Type 0} → (D → View) → (O → Option Bytes) → Mode → Store → List Order → State D → O → Result (Unit {0}) SessionError → State D → O → Type 0
+OrdersRunFrom view contents mode st orders x old end y new =
+    RunsFirst mode (view x.disk).is_honest x.settings st (view x.disk).seen orders (contents old) (contents new) end y.store (view y.disk).seen
 
--- the same from this start, with the bad line as the end; and then there is a copy under some settings, if there is to be one
-unfoldable pub StreamsFrom : Mode → Option Settings → Type 0 → Start → Option Bytes → Option Bytes → Option Bytes → Result (Unit {0}) SessionError → Type 0
-StreamsFrom mode copy IsHonest start known old new end =
-    (parsed : List Line) × IfSome known (λ text. parsed ≡ parse_text text) × (shown : Reads)
-    × (TidiesBy mode shown (run_from mode.clean_when_full start shown (streamed mode.stat [] parsed))
-    × (IsHonest → AreLeftFrom start shown (run_from mode.clean_when_full start shown (streamed mode.stat [] parsed))))
-    × PrintsCopied copy (map_left_from start (streamed mode.stat [] parsed)) old new
-    (lines_after None start shown (run_from mode.clean_when_full start shown (streamed mode.stat [] parsed)))
-    (end_streamed (first_bad 1 parsed) start shown (run_from mode.clean_when_full start shown (streamed mode.stat [] parsed))) end
+abbrev pub OrdersRun : {D : Type 0} → {O : Type 0} → (D → View) → (O → Option Bytes) → Mode → List Order → State D → O → Result (Unit {0}) SessionError → State D → O → Type 0
+OrdersRun view contents mode orders x old end y new = OrdersRunFrom view contents mode x.store orders x old end y new
 
--- what these orders print from this start, and how they end, is right but for memory and devices, in such ways, in which flushes make
--- themselves room or don't, and where something is seen at each that is run: the disk shows what was left, where it is honest. Then there is a
--- copy under some settings, if there is to be one.
-unfoldable pub RunsFrom : Mode → Option Settings → Type 0 → Start → List Order → Option Bytes → Option Bytes → Result (Unit {0}) SessionError → Type 0
-RunsFrom mode copy IsHonest start orders old new end =
-    (shown : Reads) × (TidiesBy mode shown (run_from mode.clean_when_full start shown orders)
-    × (IsHonest → AreLeftFrom start shown (run_from mode.clean_when_full start shown orders)))
-    × PrintsCopied copy (map_left_from start orders) old new
-    (lines_after None start shown (run_from mode.clean_when_full start shown orders))
-    (end_after None start shown (run_from mode.clean_when_full start shown orders)) end
+abbrev pub OrdersAnswered : {D : Type 0} → {O : Type 0} → (D → View) → (O → Option Bytes) → Mode → List Order → State D → O → Result (Unit {0}) SessionError → State D → O → Type 0
+OrdersAnswered view contents mode orders x old end y new =
+    RunsAsk mode (view x.disk).is_honest x.settings x.store (view x.disk).seen orders (contents old) (contents new) end y.store (view y.disk).seen
+
+abbrev pub OrdersAll : {D : Type 0} → {O : Type 0} → (D → View) → (O → Option Bytes) → Mode → List Order → State D → O → Result (Unit {0}) SessionError → State D → O → Type 0
+OrdersAll view contents mode orders x old end y new =
+    RunsAll mode (view x.disk).is_honest x.settings x.store (view x.disk).seen orders (contents old) (contents new) end y.store
+
+abbrev pub CleansRun : {D : Type 0} → {O : Type 0} → (D → View) → (O → Option Bytes) → Mode → ℕ → ℕ → Tidying → Store → State D → O → Result ℕ SessionError → State D → O → Type 0
+CleansRun view contents mode most row tidying under x old end y new =
+    RunsCleans most row tidying mode (view x.disk).is_honest x.settings under (view x.disk).seen (contents old) (contents new) end y.store (view y.disk).seen
+
+abbrev pub AheadRuns : {D : Type 0} → {O : Type 0} → (D → View) → (O → Option Bytes) → Mode → ℕ → Tidying → Store → State D → O → Result (Option ℕ) SessionError → State D → O → Type 0
+AheadRuns view contents mode most tidying under x old end y new =
+    RunsAhead most tidying mode (view x.disk).is_honest x.settings under (view x.disk).seen (contents old) (contents new) end y.store (view y.disk).seen
+
+-- a call leaves the disk of a store, its settings, and whether it has failed
+abbrev pub IsOnDisk : {D : Type 0} → State D → State D → Type 0
+IsOnDisk old new = (new.settings ≡ old.settings) × (new.disk ≡ old.disk) × (new.has_failed ≡ old.has_failed)
+
+-- it leaves the store, whether that has failed, and, on an honest disk, its bytes
+abbrev pub IsUntouched : {D : Type 0} → (D → View) → State D → State D → Type 0
+IsUntouched view old new =
+    (new.store ≡ old.store) × (new.has_failed ≡ old.has_failed) × (IsTrue (view old.disk).is_honest → (view new.disk).seen ≡ (view old.disk).seen)
+
+-- how a call ends, it leaves the settings of the store, and whether its disk is honest; and unless a device fails, whether it has failed
+abbrev pub Stays : {D : Type 0} → {X : Type 0} → (D → View) → State D → Result X SessionError → State D → Type 0
+Stays view old end new =
+    (new.settings ≡ old.settings) × ((view new.disk).is_honest ≡ (view old.disk).is_honest) × (end ≢ Err Device → new.has_failed ≡ old.has_failed)
+
+-- and the pairs stay as well
+abbrev pub Holds : {D : Type 0} → {X : Type 0} → (D → View) → State D → Result X SessionError → State D → Type 0
+Holds view old end new = Stays view old end new × (contents new.store.tree ≡ contents old.store.tree)
+
+-- an honest disk shows these bytes
+abbrev pub IsHolding : View → Bytes → Type 0
+IsHolding disk file = IsTrue disk.is_honest → disk.seen ≡ file
+
+-- what is printed from this start by a session of lines that say this, and how it ends, is right but for devices, where something is seen that can
+-- be at each order that is run; and then there is a copy under some settings, if there is to be one
+unfoldable pub RunsFrom : Request → Start → List Line → Option Bytes → Option Bytes → Result (Unit {0}) SessionError → Type 0
+RunsFrom request start parsed old new end =
+    (shown : Reads) × IsShown request start shown (session_orders request start shown parsed)
+    × PrintsCopied (copy_of request) (map_kept_from start shown (session_orders request start shown parsed)) request.mode.stream old new
+    (lines_from request.mode.stream start shown (session_orders request start shown parsed))
+    (end_from request.mode.stream start shown (session_orders request start shown parsed)) end
+
+-- the same for a right start, or why there is none, with nothing printed: a copy that is refused, or no memory, or a device
+unfoldable pub RunsRequest : Request → List Line → Option Bytes → Option Bytes → Result (Unit {0}) SessionError → Type 0
+RunsRequest request parsed old new end = (start : Start) × IsStart request start × RunsFrom request start parsed old new end
+
+-- so it is for what was read of the lines of the known bytes; or there is no memory for the store, and nothing is printed
+abbrev pub RunsRead : Request → Option Bytes → Option Bytes → Option Bytes → Result (Unit {0}) SessionError → Type 0
+RunsRead request known old new end =
+    ((parsed : List Line) × IfSome known (λ text. AreRead (parse_text request.mode.stream text) parsed) × RunsRequest request parsed old new end)
+    ⊎ ((end ≡ Err (errors.Fault NoMemory)) × Appends old new [])
 
 -- a session that starts so can end so before anything is run
 abbrev pub IsUnopened : Start → SessionError → Type 0
@@ -767,29 +867,35 @@ Opens view start (Err early) = IsUnopened start early
 abbrev pub IsHonestStore : {D : Type 0} → (D → View) → Result (State D) SessionError → Type 0
 IsHonestStore view opened = IfOk opened (λ x. IsTrue (view x.disk).is_honest)
 
--- what a session prints that is given this, and how it ends, is right for a text, which is the known one, for a start, and for what is
--- seen at each order, but for memory and devices. Where it is to leave a copy, that is of the map that all of its orders leave.
+-- so it is for what the words give, with a crew in range: for a right start, on an honest disk where it is in memory
+abbrev pub IsOpening : {D : Type 0} → (D → View) → Request → Result (State D) SessionError → Type 0
+IsOpening view request opened =
+    (start : Start) × IsStartBy request.settings request.disk request.create None start × Opens view start opened
+    × (request.disk ≡ None → IfOk opened (λ x. IsTrue (view x.disk).is_honest))
+
+-- a session ends so before any order is run, with nothing printed: its text is bad, or there is no memory, or a device failed
+abbrev pub IsUnread : Request → Option (ℕ × Why) → Option Bytes → Option Bytes → Result (Unit {0}) SessionError → Type 0
+IsUnread request bad old new (Ok done) = ⊥
+IsUnread request bad old new (Err early) = IsReadError bad early × (request.mode.stream ≡ true → (number : ℕ) (why : Why) → early ≢ Bad number why) × Appends old new []
+
+-- lines were read that say this: of a session without `--stream` those of this text, of a stream those of the known bytes
+abbrev pub AreReadOf : Bool → Option Bytes → Bytes → List Line → Type 0
+AreReadOf false known text parsed = AreRead (parse_text false text) parsed
+AreReadOf true known text parsed = IfSome known (λ bytes. AreRead (parse_text true bytes) parsed)
+
+-- What a session prints that is given this, and how it ends, is right for a text, which is the known one, for what was read of its lines, for a
+-- start, and for what is seen at each order, but for devices. A text without `--stream` has no bad line then. Where the session is to leave a copy,
+-- that is of the map that its orders leave. When lines are read isn't said: a stream that reads all of them first is as right.
 unfoldable pub Answers : Request → Option Bytes → Option Bytes → Option Bytes → Result (Unit {0}) SessionError → Type 0
 Answers request known old new end =
-    (text : Bytes) × IfSome known (λ bytes. text ≡ bytes) × (start : Start) × IsStart request start
-    × (shown : Reads) × IsShown request start shown (session_orders request start shown text)
-    × PrintsCopied (copy_of request) (map_left_from start (with_numbers request.mode.stat (orders_of [] (parse_text text)))) old new (session_lines request start shown text) (session_end request start shown text) end
+    (text : Bytes) × IfSome known (λ bytes. text ≡ bytes)
+    × (IsUnread request (first_bad 1 (parse_text request.mode.stream text)) old new end
+    ⊎ ((request.mode.stream ≡ false → first_bad 1 (parse_text false text) ≡ None)
+    × ((parsed : List Line) × AreReadOf request.mode.stream known text parsed × RunsRequest request parsed old new end)))
 
--- The same of a stream, for what some lines say, which are those of the known text: its orders are run and answered up to the first bad line.
--- When lines are read isn't said: one that reads all of them first is as right.
-unfoldable pub Streams : Request → Option Bytes → Option Bytes → Option Bytes → Result (Unit {0}) SessionError → Type 0
-Streams request known old new end =
-    (parsed : List Line) × IfSome known (λ text. parsed ≡ parse_text text) × (start : Start) × IsStart request start
-    × (shown : Reads) × IsShown request start shown (stream_orders request start shown parsed)
-    × PrintsCopied (copy_of request) (map_left_from start (streamed request.mode.stat [] parsed)) old new (stream_lines request start shown parsed) (stream_end request start shown parsed) end
-
--- and of a session that is asked for this
-abbrev pub IsAnswered : Request → Option Bytes → Option Bytes → Option Bytes → Result (Unit {0}) SessionError → Type 0
-IsAnswered request known old new end = MatchBool request.mode.stream (Streams request known old new end) (Answers request known old new end)
-
--- a text is printed, but for memory and devices
+-- a text is printed, but for memory, where there is none of it, and devices
 abbrev pub PrintsOneText : Option Bytes → Option Bytes → Result (Unit {0}) SessionError → Type 0
-PrintsOneText old new end = (text : Bytes) × Prints old new (text ∷ []) (Ok tt) end
+PrintsOneText old new end = ((text : Bytes) × Prints false old new (text ∷ []) (Ok tt) end) ⊎ ((end ≡ Err (errors.Fault NoMemory)) × Appends old new [])
 
 -- this is how a session for refused words ends
 abbrev pub IsForWords : Result (Unit {0}) SessionError → Type 0
@@ -801,11 +907,11 @@ IsForWords (Err _) = ⊥
 -- with nothing read, and help or the version where they ask for it; or with nothing printed either, where they are refused
 abbrev pub EndsBy : List Bytes → Option Bytes → Option Bytes → Option Bytes → Type 0 → Type 0 → Result (Unit {0}) SessionError → Type 0
 EndsBy words known old new unread untouched end =
-    ((request : Request) × AsksFor words request × (request.mode.version ≡ false) × IsAnswered request known old new end)
+    ((request : Request) × AsksFor words request × (request.mode.version ≡ false) × Answers request known old new end)
     ⊎ (unread × AsksForText words × PrintsOneText old new end)
     ⊎ (unread × untouched × ((AreRefused words × IsForWords end) ⊎ (end ≡ Err (errors.Fault NoMemory))))
 
 -- a session with these words ends with this status: it has an end that is right as `EndsBy` says, and that is reported
 abbrev pub EndsReported : List Bytes → Option Bytes → Option Bytes → Option Bytes → Option Bytes → Option Bytes → Type 0 → Type 0 → ℕ → Type 0
 EndsReported words known old new err_old err_new unread untouched status =
-    (end : Result (Unit {0}) SessionError) × (status ≡ status_of_end end) × EndsBy words known old new unread untouched end × IsReportedAfterProgress words end err_old err_new
+    (end : Result (Unit {0}) SessionError) × (status ≡ status_of_end end) × EndsBy words known old new unread untouched end × (AsksForReports words ⊎ IfErr end (λ early. IsReported words (Err early) err_old err_new))

@@ -1,13 +1,16 @@
 -- Replies, sequence numbers, head segments and reports as they are printed.
 use Rattle.std.specs.Prelude.{ℕ, List, [], ◌∷◌, ◌++◌, map, length, flat_map, codes}
 use Rattle.std.specs.Fmt.{decimal}
-use Rattle.keys.specs.Bytes.{Bytes}
+use Rattle.keys.specs.Bytes.{Bytes, Pairs}
+use Rattle.keys.specs.declared.settings.Settings.{Settings}
 use Rattle.keys.specs.declared.command.Reply.{Reply}
 use Rattle.keys.specs.declared.command.Reply.TheVariants.{Value, Missing, New, Replaced, Added, Exists, Deleted, Rows, Wiped}
 use Rattle.engine.specs.Steps.{Answer}
 use Rattle.engine.specs.Steps.Answer.{Replies, Flushed, Cleaned, Upgraded}
 use Rattle.verify.specs.declared.report.Report.{Report}
 use Rattle.bwsh.specs.declared.show.StoreNumbers.{StoreNumbers}
+use Rattle.bwsh.specs.declared.show.NumberLine.{NumberLine}
+use Rattle.bwsh.specs.declared.show.NumberLine.TheVariants as number_lines
 use Rattle.bwsh.specs.Token.{shown_token}
 
 -- what the first line of a reply says
@@ -34,6 +37,31 @@ row_lines _ = []
 -- the lines of a reply, each with its line feed
 abbrev pub shown_reply : {A : Type 0} → Reply A → Bytes
 shown_reply reply = reply_text reply ++ 10 ∷ row_lines reply
+
+-- the lines of rows: how many there are, and then each
+abbrev pub shown_rows : Pairs Bytes → Bytes
+shown_rows rows = codes "rows " ++ decimal (length rows) ++ 10 ∷ flat_map shown_row rows
+
+-- the line of pages that were freed, and that of pairs that were copied
+abbrev pub shown_tidied : ℕ → Bytes
+shown_tidied pages = codes "tidied " ++ decimal pages ++ 10 ∷ []
+
+abbrev pub shown_copied : ℕ → Bytes
+shown_copied pairs = codes "copied " ++ decimal pairs ++ 10 ∷ []
+
+-- the line of the settings of a store
+abbrev pub shown_settings : Settings → Bytes
+shown_settings s =
+    codes "settings fan " ++ decimal s.fan ++ codes " chain " ++ decimal s.chain ++ codes " max-key " ++ decimal s.max_key
+    ++ codes " max-value " ++ decimal s.max_value ++ codes " seg-size " ++ decimal s.seg_size ++ codes " segments " ++ decimal s.segments ++ 10 ∷ []
+
+-- the lines that a stream understands
+abbrev pub help_lines : Bytes
+help_lines =
+    codes "put K V | add K V | get K | del K | scan LO HI LIMIT | wipe LO HI: a command of the batch" ++ 10 ∷
+    codes "go: runs the batch" ++ 10 ∷
+    codes "flush | clean | upgrade | verify: runs the batch, and then this" ++ 10 ∷
+    codes ".stat | .copy PATH [SEGMENTS] | .tidy N | .back LO HI LIMIT | .prefix BYTES LIMIT | .help: the same" ++ 10 ∷ []
 
 -- the line of a report: its pages, its height and its pairs, with the line feed
 abbrev pub shown_report : Report → Bytes
@@ -65,3 +93,16 @@ shown_answer (Replies replies) = map shown_reply replies
 shown_answer (Flushed sequence) = shown_flushed sequence ∷ []
 shown_answer (Cleaned head) = shown_cleaned head ∷ []
 shown_answer (Upgraded sequence) = shown_upgraded sequence ∷ []
+
+-- a line of numbers
+abbrev pub number_line : NumberLine → Bytes
+number_line (number_lines.Rows count) = codes "rows " ++ decimal count ++ 10 ∷ []
+number_line (number_lines.Wiped count) = codes "wiped " ++ decimal count ++ 10 ∷ []
+number_line (number_lines.Flushed sequence) = shown_flushed sequence
+number_line (number_lines.Cleaned head) = shown_cleaned head
+number_line (number_lines.Upgraded sequence) = shown_upgraded sequence
+number_line (number_lines.Tidied pages) = shown_tidied pages
+number_line (number_lines.Copied pairs) = shown_copied pairs
+number_line (number_lines.Report report) = shown_report report
+number_line (number_lines.Numbers numbers) = shown_numbers numbers
+number_line (number_lines.Settings settings) = shown_settings settings

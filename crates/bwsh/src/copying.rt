@@ -1,38 +1,34 @@
-//! The copy of the store that a session writes. Its file is opened and checked before anything
-//! runs, and written last.
-ghost use Rattle.std.specs.Prelude.{◌≡◌, ◌≤◌, false, None, Ok, IfOk, IfErr, IfSome, IsTrue, OnOk};
+//! Copies of the store: the copy of `--copy-to`, whose file is opened and checked before anything
+//! runs and which is written last, and the copies that the lines of a stream ask for.
+ghost use Rattle.std.specs.Prelude.{◌≡◌, ◌≤◌, false, None, Ok, IfOk, IfErr, IfSome, IsTrue, IsOkUnless, OnOk};
 ghost use Rattle.std.specs.Option.{option_map};
-ghost use Rattle.crew.specs.Crew.{is_crew};
 ghost use Rattle.keys.specs.Limits.{first_bad_field};
 ghost use Rattle.mapping.specs.Levels.{contents};
 ghost use Rattle.flush_log.specs.Disk.{IsSettled};
 ghost use Rattle.flush_log.specs.Segments.{disk_size};
 ghost use Rattle.recovery.specs.StoreOfDisk.{store_of_disk};
 ghost use Rattle.bwsh.specs.Options.{copy_of, request_of};
-ghost use Rattle.bwsh.specs.Session.{CopiesTo, IsCopyEnd, IsUncopied, Shows};
+ghost use Rattle.bwsh.specs.Session.{CopiesTo, IsCopyEnd, IsUncopied};
 
-use crate::meter::{Meter, Metered};
-use crate::notes::{LastError, Notes, Source};
-use crate::opening::store_fault;
-use crate::options::Options;
-use crate::progress::{LongCall, Progress, Reports};
+use crate::context::Session;
+use crate::disk::{Base, LastError, StoreDisk};
+use crate::notes::Source;
+use crate::opening::{open_locked, store_fault};
+use crate::progress::{LongCall, Observer};
 use crate::session::SessionError;
-use crate::watching::run_watched;
-use engine::{Crew, Disk, FileDisk, LockFile, Store, is_unfinished};
+use engine::{Disk, FileDisk, LockFile, Store, is_unfinished};
 use flush_log::disk_size;
 use keys::Settings;
-use std::fs::{OpenFile, OpenOptions};
+use std::fs::OpenFile;
 use std::io;
 use std::io::{ErrorKind, Read, Seek, Write};
 use std::rt::Files;
-use std::sync::Wait;
 use std::thread::Threads;
 use std::time::Clock;
 
 /// An empty, locked file for a copy, and the settings of the copy.
 #[derive(Drop)]
-pub(crate) struct Copying<'a, F> {
-    path: &'a str,
+pub(crate) struct Copying<F> {
     file: F,
     settings: Settings,
 }
@@ -53,18 +49,19 @@ fn is_free<F: Read + Write + Seek + OpenFile + LockFile + Drop>(file: &F) -> io:
 }
 
 // Opens and locks the file of a copy. Fails, and leaves the file as it was, if the file has any
-// bytes but those of an unfinished store. The file is extended to the copy's length and truncated,
-// so that a file that cannot be extended is found before anything runs. Lack of room is found only
-// when the copy is written.
-fn empty_file<R: Files>(rt: &R, path: &str, settings: Settings) -> io::Result<R::File>
+// bytes except those of an unfinished store. The file is extended to the copy's length and
+// truncated, so that a file that cannot be extended is found before anything runs (for
+// `--copy-to`). Lack of room is found only when the copy is written.
+fn empty_file<R: Files + Clock, P: Observer>(
+    at: &Session<'_, R, P>,
+    path: &str,
+    settings: Settings,
+) -> io::Result<R::File>
 where
     R::File: LockFile,
     requires good { first_bad_field settings ≡ None }
 {
-    let mut how = OpenOptions::new();
-    how.read(true).write(true).create(true);
-    let file = how.open(rt, path)?;
-    file.hold()?;
+    let file = open_locked(at, path, true, true)?;
     if !is_free(&file)? {
         return Err(ErrorKind::AlreadyExists.into());
     }
@@ -90,50 +87,66 @@ fn disk_with_room<F: Read + Write + Seek + OpenFile + LockFile + Drop>(
     disk.zeroed(disk_size(settings))
 }
 
-// Opens the file of the copy, if `request` asks for a copy. Opens no file if the settings are
-// refused.
-pub(crate) fn prepare_copy<'a, R: Files>(
-    rt: &R,
-    request: &'a Options,
-    notes: &mut Notes,
-) -> Result<Option<Copying<'a, R::File>>, SessionError>
+impl<'a, R, P: Observer> Session<'a, R, P> {
+    // Records the reason of a failed call on the file of a copy.
+    pub(crate) fn copy_failed<T: Drop>(&self, done: io::Result<T>) -> Result<T, SessionError>
+        ensures ok { IfOk result (λ value. done ≡ Ok value) }
+        ensures device { IsOkUnless result SessionError.Device }
+    {
+        match done {
+            Ok(value) => Ok(value),
+            Err(reason) => {
+                self.notes.record_failure(Source::Copy, Some(reason));
+                Err(SessionError::Device)
+            }
+        }
+    }
+}
+
+// Opens the file of a copy. Opens none if the settings are refused.
+pub(crate) fn begin_copy<R: Files + Clock, P: Observer>(
+    at: &Session<'_, R, P>,
+    path: &str,
+    settings: Settings,
+) -> Result<Copying<R::File>, SessionError>
+where
+    R::File: LockFile,
+    ensures settings { IfOk result (λ copy. copy.settings ≡ settings) }
+    ensures good { OnOk result (first_bad_field settings ≡ None) }
+    ensures refused { IfErr result (IsUncopied (Some settings)) }
+{
+    settings.check()?;
+    let file = at.copy_failed(empty_file(at, path, settings))?;
+    Ok(Copying { file, settings })
+}
+
+// Opens the file of the copy, if the session is asked for one.
+pub(crate) fn prepare_copy<R: Files + Clock, P: Observer>(
+    at: &Session<'_, R, P>,
+) -> Result<Option<Copying<R::File>>, SessionError>
 where
     R::File: LockFile,
     ensures asked { IfOk result
-        (λ copy. option_map (λ c. c.settings) copy ≡ copy_of (request_of request.now)) }
+        (λ copy. option_map (λ c. c.settings) copy ≡ copy_of (request_of at.now.asked.now)) }
     ensures good { IfOk result (λ copy. IfSome copy (λ c. first_bad_field c.settings ≡ None)) }
-    ensures admitted { OnOk result (IfSome (copy_of (request_of request.now))
+    ensures admitted { OnOk result (IfSome (copy_of (request_of at.now.asked.now))
         (λ settings. first_bad_field settings ≡ None)) }
-    ensures refused { IfErr result (IsUncopied (copy_of (request_of request.now))) }
+    ensures refused { IfErr result (IsUncopied (copy_of (request_of at.now.asked.now))) }
 {
-    let Some(path) = &request.copy_to else {
-        return Ok(None);
-    };
-    let settings = request.settings;
-    settings.check()?;
-    match empty_file(rt, path, settings) {
-        Ok(file) => Ok(Some(Copying {
-            path,
-            file,
-            settings,
-        })),
-        Err(reason) => {
-            notes.record_failure(Source::Copy, Some(reason));
-            Err(SessionError::Device)
-        }
+    match &at.asked.copy_to {
+        Some(path) => Ok(Some(begin_copy(at, path, at.asked.settings)?)),
+        None => Ok(None),
     }
 }
 
 // Copies the store to a disk that is large enough, and flushes the copy. On failure, returns the
 // error and the disk.
-fn copy_store<R: Threads + Sync, D: Disk, E: Disk>(
-    rt: &R,
-    crew: Crew,
+fn copy_store<R: Threads + Sync, P: Observer, D: Disk, E: Disk>(
+    at: &Session<'_, R, P>,
     store: &Store<D>,
     disk: E,
     settings: Settings,
 ) -> Result<Store<E>, (SessionError, E)>
-    requires crew { IsTrue (is_crew crew) }
     requires good { first_bad_field settings ≡ None }
     requires room { disk_size settings ≤ (E.view disk).size }
     // The copy holds the same pairs as `store`. If the disk keeps what was synced, its bytes encode
@@ -148,114 +161,55 @@ fn copy_store<R: Threads + Sync, D: Disk, E: Disk>(
     ensures refused { IfErr result
         (λ e. IsCopyEnd settings (contents store.now.store.tree) e.0) }
 {
-    match store.copy_to(rt, crew, disk, settings) {
+    match store.copy_to(at.calls.rt, at.calls.crew, disk, settings) {
         Ok(copy) => Ok(copy),
         Err(refused) => Err((store_fault(refused.0), refused.1)),
     }
 }
 
-// Like `copy_store`, while another thread shows progress.
-fn copy_watched<R: Threads + Wait + Sync + Clock, D: Disk, C: Disk + Drop, E: Write + Send>(
-    rt: &R,
-    crew: Crew,
-    store: &Store<D>,
-    path: &str,
-    disk: C,
-    settings: Settings,
-    meter: &Meter,
-    progress: &mut Progress,
-    err: &mut E,
-) -> Result<Store<C>, (SessionError, C)>
-    requires crew { IsTrue (is_crew crew) }
-    requires good { first_bad_field settings ≡ None }
-    requires room { disk_size settings ≤ (C.view disk).size }
-    ensures refused { IfErr result
-        (λ e. IsCopyEnd settings (contents store.now.store.tree) e.0) }
-    ensures shows { Shows E.contents progress.old.is_shown err.old
-        progress.new.is_shown err.new }
-{
-    let fill = move || -> Result<Store<C>, (SessionError, C)>
-        requires { IsTrue (is_crew crew) × (first_bad_field settings ≡ None)
-            × (disk_size settings ≤ (C.view disk).size) }
-        ensures { IfErr result
-            (λ e. IsCopyEnd settings (contents store.entry.now.store.tree) e.0) }
-    { copy_store(rt, crew, store, disk, settings) };
-    run_watched(rt, meter, LongCall::Copying(path), progress, err, fill)
-}
-
 // Copies the store into the file. If copying fails, the file is truncated to zero length, if that
 // is still possible.
-fn copy_into<
-    R: Threads + Wait + Sync + Clock,
-    D: Disk,
-    F: Read + Write + Seek + OpenFile + LockFile + Drop,
-    E: Write + Send,
->(
-    rt: &R,
-    crew: Crew,
+pub(crate) fn copy_into<R: Threads + Sync, P: Observer, D: Disk, F>(
+    at: &Session<'_, R, P>,
     store: &Store<D>,
-    copy: Copying<'_, F>,
-    reports: &mut Reports,
-    err: &mut E,
+    copy: Copying<F>,
 ) -> Result<(), SessionError>
-    requires crew { IsTrue (is_crew crew) }
+where
+    F: Read + Write + Seek + OpenFile + LockFile + Drop,
     requires good { first_bad_field copy.settings ≡ None }
     ensures refused { IfErr result
-        (IsCopyEnd copy.entry.settings (contents store.now.store.tree)) }
-    ensures shows { Shows E.contents reports.old.progress.is_shown err.old
-        reports.new.progress.is_shown err.new }
+        (IsCopyEnd copy.settings (contents store.now.store.tree)) }
 {
-    let Copying {
-        path,
-        file,
-        settings,
-    } = copy;
-    let disk = match disk_with_room(file, &settings) {
-        Ok(disk) => disk,
-        Err(reason) => {
-            reports.notes.record_failure(Source::Copy, Some(reason));
-            return Err(SessionError::Device);
-        }
-    };
-    let meter = Meter::new();
-    let disk = Metered::new(disk, &meter);
-    let progress = &mut reports.progress;
-    match copy_watched(rt, crew, store, path, disk, settings, &meter, progress, err) {
+    let Copying { file, settings } = copy;
+    let disk = at.copy_failed(disk_with_room(file, &settings))?;
+    let disk: StoreDisk<'_, F, P> = at.disk(Base::File(disk));
+    match copy_store(at, store, disk, settings) {
         Ok(_copy) => Ok(()),
-        Err(refused) => {
-            reports
-                .notes
-                .record_failure(Source::Copy, refused.1.reason());
-            let _emptied = refused.1.into_inner().zeroed(0);
-            Err(refused.0)
+        Err((error, disk)) => {
+            at.notes.record_failure(Source::Copy, disk.reason());
+            if let Base::File(disk) = disk.into_base() {
+                let _emptied = disk.zeroed(0);
+            }
+            Err(error)
         }
     }
 }
 
-pub(crate) fn write_copy<
-    R: Threads + Wait + Sync + Clock,
-    D: Disk,
-    F: Read + Write + Seek + OpenFile + LockFile + Drop,
-    E: Write + Send,
->(
-    rt: &R,
-    crew: Crew,
+pub(crate) fn write_copy<R: Threads + Sync, P: Observer, D: Disk, F>(
+    at: &Session<'_, R, P>,
     store: &Store<D>,
-    copy: Option<Copying<'_, F>>,
-    reports: &mut Reports,
-    err: &mut E,
+    copy: Option<Copying<F>>,
 ) -> Result<(), SessionError>
-    requires crew { IsTrue (is_crew crew) }
+where
+    F: Read + Write + Seek + OpenFile + LockFile + Drop,
     requires good { IfSome copy (λ c. first_bad_field c.settings ≡ None) }
-    ensures copies { CopiesTo (option_map (λ c. c.settings) copy.entry)
+    ensures copies { CopiesTo (option_map (λ c. c.settings) copy)
         (contents store.now.store.tree) result }
-    ensures shows { Shows E.contents reports.old.progress.is_shown err.old
-        reports.new.progress.is_shown err.new }
 {
     let Some(copy) = copy else {
         return Ok(());
     };
-    reports.notes.begin_copy();
-    reports.progress.show_copying(copy.path, err);
-    copy_into(rt, crew, store, copy, reports, err)
+    at.notes.begin_copy();
+    at.report.call_begun(LongCall::Copying);
+    copy_into(at, store, copy)
 }

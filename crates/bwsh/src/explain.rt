@@ -1,64 +1,37 @@
-//! The second line on standard error: where an error came from, and what to do about it.
+//! The explanations of `--explain`: where an error came from, and what to do about it.
 use crate::line::Why;
 use crate::notes::{Notes, OrderLines, Source};
-use crate::options::Options;
 use crate::session::SessionError;
+use engine::{file_remedy, meaning};
 use keys::Fault;
 use std::alloc::{AllocError, Global};
-use std::io;
 use std::io::ErrorKind;
+use std::{fmt, io, str};
 
-fn file_advice(asked: &Options, reason: &io::Error) -> &'static str {
+fn file_advice(has_copy: bool, reason: &io::Error) -> &'static str {
     match reason.kind() {
-        ErrorKind::NotFound => " Use --create to create a store there.",
+        ErrorKind::NotFound => "Use --create to create a store there.",
         ErrorKind::PermissionDenied => {
-            " A session that streams, flushes, cleans, upgrades or creates needs permission to write the file."
+            "A session that streams, flushes, cleans, upgrades or creates needs permission to write the file."
         }
-        ErrorKind::ReadOnlyFilesystem => " A session can only read the store there.",
-        ErrorKind::WouldBlock if asked.copy_to.is_some() => {
-            " Another program has locked the file, or it is the file of --copy-to too."
+        ErrorKind::WouldBlock if has_copy => {
+            "Another program has locked the file, or it is the file of --copy-to too."
         }
-        ErrorKind::WouldBlock => " Another program has locked the file. Wait until it ends.",
-        ErrorKind::StorageFull => " Free some space on its device.",
-        ErrorKind::IsADirectory => " A store has to be a file.",
-        _ => "",
+        _ => file_remedy(reason),
     }
 }
 
 fn copy_advice(reason: &io::Error) -> &'static str {
     match reason.kind() {
         ErrorKind::AlreadyExists => {
-            " The file was left as it was. A copy needs a path without a file, or an empty or unfinished file."
+            "The file was left as it was. A copy needs a path without a file, or an empty or unfinished file."
         }
-        ErrorKind::NotFound => " The directory of a copy has to exist.",
-        ErrorKind::PermissionDenied => " A copy needs permission to write its file.",
-        ErrorKind::WouldBlock => " Another program has locked the file.",
-        ErrorKind::StorageFull => " Free some space on its device.",
-        ErrorKind::IsADirectory => " A copy has to be a file.",
-        _ => "",
+        ErrorKind::NotFound => "The directory of a copy has to exist.",
+        ErrorKind::PermissionDenied => "A copy needs permission to write its file.",
+        ErrorKind::WouldBlock => "Another program has locked the file.",
+        ErrorKind::IsADirectory => "A copy has to be a file.",
+        _ => file_remedy(reason),
     }
-}
-
-fn done_before_copy(notes: &Notes) -> &'static str {
-    if notes.is_copying() {
-        "All orders are done, but there is no copy."
-    } else {
-        "Nothing was run."
-    }
-}
-
-fn copy_path(asked: &Options) -> &str {
-    asked.copy_to.as_deref().unwrap_or("the copy")
-}
-
-fn explain_copy_file(
-    alloc: Global,
-    asked: &Options,
-    notes: &Notes,
-    reason: &io::Error,
-) -> Result<String, AllocError> {
-    let (path, advice) = (copy_path(asked), copy_advice(reason));
-    format!(in alloc; "{path}: {reason}.{advice} {}\n", done_before_copy(notes))
 }
 
 fn copy_rule(fault: &Fault) -> &'static str {
@@ -68,46 +41,44 @@ fn copy_rule(fault: &Fault) -> &'static str {
         Fault::Full => {
             "The log of the copy has no room for all pairs. Use more --segments or a larger --seg-size."
         }
-        Fault::NoMemory => "There was not enough memory.",
+        Fault::NoMemory => meaning(fault),
         Fault::Spent => "The copy needs more levels than a store can have. Use a larger --fan.",
         _ => "The settings of the copy are refused.",
     }
 }
 
-fn explain_copy(
-    alloc: Global,
-    asked: &Options,
-    notes: &Notes,
-    fault: &Fault,
-) -> Result<String, AllocError> {
-    let (path, rule) = (copy_path(asked), copy_rule(fault));
-    format!(in alloc; "{path}: {rule} {}\n", done_before_copy(notes))
-}
-
-fn store_path(asked: &Options) -> &str {
-    asked.disk.as_deref().unwrap_or("the store in memory")
-}
-
-// Only a failure of standard output has no recorded reason.
-fn explain_failure(
-    alloc: Global,
-    asked: &Options,
-    notes: &mut Notes,
-) -> Result<String, AllocError> {
-    match notes.failure() {
-        None => format!(in alloc;
-            "Standard output could not be written. Some answers are missing.\n"
-        ),
-        Some((Source::Input, reason)) => format!(in alloc; "standard input: {reason}.\n"),
-        Some((Source::File, reason)) => {
-            format!(in alloc;
-                "{}: {reason}.{}\n",
-                store_path(asked),
-                file_advice(asked, &reason)
-            )
+fn order_rule(fault: &Fault) -> &'static str {
+    match fault {
+        Fault::NoMemory => "There was not enough memory to run it. Smaller batches need less.",
+        Fault::Full => {
+            "The log has no room for this. Lines clean or --clean-when-full make room, unless too much data lives. \
+            Then copy the store with .copy or --copy-to to a file with more --segments."
         }
-        Some((Source::Copy, reason)) => explain_copy_file(alloc, asked, notes, &reason),
+        _ => meaning(fault),
     }
+}
+
+fn line_rule(why: Why) -> &'static str {
+    match why {
+        Why::UnknownCommand => "A line begins with a command that --help lists, or with #.",
+        Why::WordCount => "--help lists the words of each command. In a word, %20 is a space.",
+        Why::BadToken => "Words are printable ASCII, and two hexadecimal digits follow each %.",
+        Why::BadNumber => "A limit is a number from 0 to 4294967295.",
+    }
+}
+
+fn is_order_fault(fault: &Fault) -> bool {
+    matches!(
+        fault,
+        Fault::KeyTooLong(_)
+            | Fault::ValueTooLong(_)
+            | Fault::BatchTooLong
+            | Fault::NoMemory
+            | Fault::Full
+            | Fault::NothingToClean
+            | Fault::AlreadyUpgraded
+            | Fault::Spent
+    )
 }
 
 // Explains that a batch was refused because its command at `place` has `what`: too long a key or
@@ -129,33 +100,6 @@ fn explain_command(
     }
 }
 
-fn is_order_fault(fault: &Fault) -> bool {
-    matches!(
-        fault,
-        Fault::KeyTooLong(_)
-            | Fault::ValueTooLong(_)
-            | Fault::BatchTooLong
-            | Fault::NoMemory
-            | Fault::Full
-            | Fault::NothingToClean
-            | Fault::AlreadyUpgraded
-            | Fault::Spent
-    )
-}
-
-fn order_rule(fault: &Fault) -> &'static str {
-    match fault {
-        Fault::NoMemory => "There was not enough memory to run it. Smaller batches need less.",
-        Fault::Full => {
-            "The log has no room for this. A line clean in front of it makes room; --clean-when-full does so for a flush. \
-            If all of the log is in use, copy the store with --copy-to to a file with more --segments."
-        }
-        Fault::NothingToClean => "The log is in one segment, so there is nothing to clean.",
-        Fault::AlreadyUpgraded => "The log has version 2 already.",
-        _ => "It needs more levels or larger numbers than a store can have.",
-    }
-}
-
 fn explain_order(alloc: Global, lines: &OrderLines, fault: &Fault) -> Result<String, AllocError> {
     let end = lines.end;
     match fault {
@@ -163,12 +107,8 @@ fn explain_order(alloc: Global, lines: &OrderLines, fault: &Fault) -> Result<Str
             explain_command(alloc, lines, *place, "a key that is longer than max-key")
         }
         Fault::ValueTooLong(place) => {
-            explain_command(
-                alloc,
-                lines,
-                *place,
-                "a value that is longer than max-value",
-            )
+            let what = "a value that is longer than max-value";
+            explain_command(alloc, lines, *place, what)
         }
         Fault::BatchTooLong => format!(in alloc;
             "The batch that line {end} ended was not run. It has more than 65535 commands. Divide it by lines go.\n"
@@ -177,89 +117,165 @@ fn explain_order(alloc: Global, lines: &OrderLines, fault: &Fault) -> Result<Str
     }
 }
 
-fn explain_start(alloc: Global, asked: &Options, fault: &Fault) -> Result<String, AllocError> {
-    match fault {
-        Fault::BadSettings(field) => format!(in alloc;
-            "Nothing was run. --help has the range of {field}. A segment has to hold a full page of the longest keys and values.\n"
-        ),
-        Fault::BadCrew => format!(in alloc;
-            "Nothing was run. --workers takes 1 to 64, and --grain takes 1 to 65535.\n"
-        ),
-        Fault::NoMemory => format!(in alloc; "Nothing was run. There was not enough memory.\n"),
-        _ => format!(in alloc;
-            "{}: The file holds no store, or a damaged one, and was left as it was. \
-            With --create a new store replaces what it holds.\n",
-            store_path(asked)
-        ),
-    }
-}
-
-fn explain_fault(
-    alloc: Global,
-    asked: &Options,
-    notes: &mut Notes,
-    fault: &Fault,
-) -> Result<String, AllocError> {
-    if notes.is_copying() {
-        return explain_copy(alloc, asked, notes, fault);
-    }
-    if let Some(line) = notes.unread_line() {
-        return format!(in alloc; "line {line}: There was not enough memory to read it.\n");
-    }
-    if is_order_fault(fault) {
-        if let Some(lines) = notes.order_lines() {
-            return explain_order(alloc, &lines, fault);
+impl<'a> Notes<'a> {
+    fn store_path(&self) -> &str {
+        match &self.asked.disk {
+            Some(path) => path,
+            None => "the store in memory",
         }
     }
-    explain_start(alloc, asked, fault)
-}
 
-fn line_rule(why: Why) -> &'static str {
-    match why {
-        Why::UnknownCommand => "A line begins with a command that --help lists, or with #.",
-        Why::WordCount => "--help lists the words of each command. In a word, %20 is a space.",
-        Why::BadToken => "Words are printable ASCII, and two hexadecimal digits follow each %.",
-        Why::BadNumber => "A limit is a number from 0 to 4294967295.",
+    // Explains why there is no copy at `path`, by the error of the copy's file or by the fault of
+    // the copy, and adds `done`.
+    fn explain_copy(
+        &self,
+        path: &str,
+        error: &SessionError,
+        done: &str,
+    ) -> Result<String, AllocError> {
+        match (error, self.failure()) {
+            (SessionError::Device, Some((_, reason))) => {
+                let advice = Sentence(copy_advice(&reason));
+                format!(in self.alloc; "{path}: {reason}.{advice} {done}\n")
+            }
+            (SessionError::Fault(fault), _) => {
+                format!(in self.alloc; "{path}: {} {done}\n", copy_rule(fault))
+            }
+            _ => format!(in self.alloc; "{path}: {done}\n"),
+        }
+    }
+
+    // Only a failure of standard output has no recorded reason.
+    fn explain_failure(&self) -> Result<String, AllocError> {
+        match self.failure() {
+            None => format!(in self.alloc;
+                "Standard output could not be written. Some answers are missing.\n"
+            ),
+            Some((Source::File, reason)) => {
+                let advice = Sentence(file_advice(self.asked.copy_to.is_some(), &reason));
+                format!(in self.alloc; "{}: {reason}.{advice}\n", self.store_path())
+            }
+            Some((_, reason)) => format!(in self.alloc; "standard input: {reason}.\n"),
+        }
+    }
+
+    fn explain_start(&self, fault: &Fault) -> Result<String, AllocError> {
+        match fault {
+            Fault::BadSettings(field) => format!(in self.alloc;
+                "Nothing was run. --help has the range of {field}. A segment has to hold a full page of the longest keys and values.\n"
+            ),
+            Fault::BadCrew => format!(in self.alloc;
+                "Nothing was run. --workers takes 1 to 64, and --grain takes 1 to 65535.\n"
+            ),
+            Fault::NoMemory => format!(in self.alloc; "Nothing was run. {}\n", meaning(fault)),
+            _ => format!(in self.alloc;
+                "{}: {} With --create a new store replaces what it holds.\n",
+                self.store_path(),
+                meaning(fault)
+            ),
+        }
+    }
+
+    fn explain_fault(&self, fault: &Fault) -> Result<String, AllocError> {
+        if let Some(line) = self.unread_line() {
+            return format!(in self.alloc; "line {line}: There was not enough memory to read it.\n");
+        }
+        if is_order_fault(fault) {
+            if let Ok(lines) = self.lines.try_borrow() {
+                if let Some(lines) = &*lines {
+                    return explain_order(self.alloc, lines, fault);
+                }
+            }
+        }
+        self.explain_start(fault)
+    }
+
+    // Returns why `--copy-to` made no copy, if that is why the session ends.
+    fn copy_failure(&self, error: &SessionError) -> Option<Result<String, AllocError>> {
+        let path = self.asked.copy_to.as_deref()?;
+        if self.is_copying() {
+            let done = "All orders are done, but there is no copy.";
+            return Some(self.explain_copy(path, error, done));
+        }
+        match (error, self.failure()) {
+            (SessionError::Device, Some((Source::Copy, _))) => {
+                Some(self.explain_copy(path, error, "Nothing was run."))
+            }
+            _ => None,
+        }
+    }
+
+    fn explain(&self, error: &SessionError) -> Result<String, AllocError> {
+        if let Some(text) = self.copy_failure(error) {
+            return text;
+        }
+        match error {
+            SessionError::Words(_) => Ok(String::new(self.alloc)),
+            SessionError::Bad { line: _, why } => {
+                let before = if self.asked.mode.stream {
+                    "The batch was not run."
+                } else {
+                    "Nothing was run."
+                };
+                format!(in self.alloc; "{before} {}\n", line_rule(*why))
+            }
+            SessionError::Fault(fault) => self.explain_fault(fault),
+            SessionError::Device => self.explain_failure(),
+        }
+    }
+
+    /// Returns a line that explains an error, with its line feed, or an empty string if an
+    /// allocation fails.
+    #[inline(never)]
+    pub fn explanation(&self, error: &SessionError) -> String {
+        self.explain(error).unwrap_or(String::new(self.alloc))
+    }
+
+    fn add_idle_options(&self, text: &mut String) -> Result<(), AllocError> {
+        if self.asked.create && self.asked.disk.is_none() {
+            text.push_str("--create has no effect without --disk.\n")?;
+        }
+        if self.has_idle_settings() {
+            text.push_str("The settings have no effect: an existing store keeps its own.\n")?;
+        }
+        Ok(())
+    }
+
+    /// Returns what is written at the end of a session: an explanation of its error, and a line for
+    /// each kind of option that had no effect.
+    pub fn last_words(&self, done: &Result<(), SessionError>) -> String {
+        let mut text = match done {
+            Ok(()) => String::new(self.alloc),
+            Err(error) => self.explanation(error),
+        };
+        // If an allocation fails, these lines are left out.
+        let _ = self.add_idle_options(&mut text);
+        text
+    }
+
+    /// Explains why there is no copy that a stream asked for, and forgets the recorded failure.
+    pub fn copy_explanation(&self, path: &[u8], error: &SessionError) -> String {
+        let device = SessionError::Device;
+        let error = match error {
+            SessionError::Fault(Fault::Device) => &device,
+            error => error,
+        };
+        let path = str::from_utf8(path).unwrap_or("the copy");
+        let text = self.explain_copy(path, error, "There is no copy.");
+        self.forget_failure();
+        text.unwrap_or(String::new(self.alloc))
     }
 }
 
-fn explain_bad_line(alloc: Global, asked: &Options, why: Why) -> Result<String, AllocError> {
-    let before = if asked.mode.stream {
-        "What was complete before it is done."
-    } else {
-        "Nothing was run."
-    };
-    format!(in alloc; "{before} {}\n", line_rule(why))
-}
+// A sentence after a space, or nothing.
+#[derive(Drop)]
+struct Sentence(&'static str);
 
-fn explain_error(
-    alloc: Global,
-    asked: &Options,
-    notes: &mut Notes,
-    error: &SessionError,
-) -> Result<String, AllocError> {
-    match error {
-        SessionError::Words(_) => Ok(String::new(alloc)),
-        SessionError::Bad { line: _, why } => explain_bad_line(alloc, asked, *why),
-        SessionError::Fault(fault) => explain_fault(alloc, asked, notes, fault),
-        SessionError::Device => explain_failure(alloc, asked, notes),
-    }
-}
-
-/// Returns a line that explains the error of the session, with its line feed. Returns an empty
-/// string if the session succeeded, if the command line was refused, or if an allocation fails.
-#[inline(never)]
-pub fn explanation(
-    alloc: Global,
-    asked: &Options,
-    notes: &mut Notes,
-    done: &Result<(), SessionError>,
-) -> String {
-    match done {
-        Ok(()) => String::new(alloc),
-        Err(error) => match explain_error(alloc, asked, notes, error) {
-            Ok(text) => text,
-            Err(_refused) => String::new(alloc),
-        },
+impl fmt::Display for Sentence {
+    fn fmt<W: fmt::Write>(&self, f: &mut fmt::Formatter<W>) -> fmt::Result {
+        if self.0.is_empty() {
+            return Ok(());
+        }
+        write!(f, " {}", self.0)
     }
 }

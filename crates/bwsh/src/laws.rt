@@ -1,5 +1,5 @@
 //! Laws about the definitions in `specs/`. Each is the contract of a function with an empty body.
-ghost use Rattle.std.specs.Prelude.{◌≡◌, ◌<◌, ◌≤◌, ◌+◌, Bool, false, true, List, [], ◌∷◌, ◌++◌, filter, length, map, Option, Some, None, Result, Err};
+ghost use Rattle.std.specs.Prelude.{◌≡◌, ◌<◌, ◌≤◌, ◌+◌, ◌-◌, ℕ, Bool, false, true, List, [], ◌∷◌, ◌++◌, filter, length, map, take, Option, Some, None, Result, Ok, Err};
 ghost use Rattle.std.specs.List.{All, flat_map};
 ghost use Rattle.std.specs.declared.alloc.Global.{Global};
 ghost use Rattle.crew.specs.Crew.{is_crew};
@@ -8,24 +8,29 @@ ghost use Rattle.keys.specs.Bytes.{Bytes, Pairs};
 ghost use Rattle.keys.specs.Limits.{first_bad_field};
 ghost use Rattle.keys.specs.declared.command.Command.{Command};
 ghost use Rattle.keys.specs.Step.{replies_to, map_after_all};
-ghost use Rattle.keys.specs.declared.fault.Fault.TheVariants.{BadCrew};
+ghost use Rattle.keys.specs.declared.fault.Fault.{Fault};
+ghost use Rattle.keys.specs.declared.fault.Fault.TheVariants.{BadCrew, BatchTooLong, NoMemory};
 ghost use Rattle.keys.specs.declared.settings.Settings.{Settings};
 ghost use Rattle.mapping.specs.Levels.{contents};
 ghost use Rattle.mapping.specs.Tree.{Store, with_tree};
+ghost use Rattle.scan.specs.Back.{rows_back};
+ghost use Rattle.scan.specs.Prefix.{with_prefix};
 ghost use Rattle.verify.specs.Report.{report};
 ghost use Rattle.engine.specs.Compacted.{IsCompacted};
 ghost use Rattle.engine.specs.Room.{is_bloated};
-ghost use Rattle.engine.specs.Tidied.{IsTidied};
-ghost use Rattle.bwsh.specs.declared.batch_file.Order.{Order};
-ghost use Rattle.bwsh.specs.declared.batch_file.Order.TheVariants.{Batch, Flush, Clean, Upgrade, Verify, Numbers};
+ghost use Rattle.engine.specs.Tidied.{IsTidied, counted_pages};
 ghost use Rattle.bwsh.specs.declared.line.Line.{Line};
-ghost use Rattle.bwsh.specs.declared.line.Line.TheVariants.{Bad};
+ghost use Rattle.bwsh.specs.declared.line.Line.TheVariants.{Bad, Go};
+ghost use Rattle.bwsh.specs.declared.line.Line.TheVariants as lines;
 ghost use Rattle.bwsh.specs.declared.line.Why.{Why};
+ghost use Rattle.bwsh.specs.declared.order.Order.{Order};
+ghost use Rattle.bwsh.specs.declared.order.Order.TheVariants.{Batch, BadLine, Lost, Flush, Clean, Upgrade, Verify, Numbers, Stat, Copy, Tidy, Back, Prefix, Help};
 ghost use Rattle.bwsh.specs.declared.session.SessionError.{SessionError};
-ghost use Rattle.bwsh.specs.BatchFile.{orders_of, commands_of, commands_of_lines, batch_lines, IsBatch, IsForBatches, IsNoClean, cleans_nothing, first_bad, last_order, streamed, unended, with_numbers};
-ghost use Rattle.bwsh.specs.Options.{Request, AsksForProgress};
-ghost use Rattle.bwsh.specs.Session.{Answers, AreLeft, AreTidiedAlike, AreUntidied, Batches, Tidying, IsStart, Reads, Start, Stored, Streams, accepted, answer_lines, after_order, left_by_step, end_after, end_streamed, later, numbers_of, orders_end, printed, step_in, by_batches, compacting, tidied, untidied, with_cleans, IsAnswered, IsEndAfter, IsReported, IsReportedAfterProgress};
-ghost use Rattle.bwsh.specs.Shown.{shown_reply, shown_flushed, shown_cleaned, shown_upgraded, shown_report, shown_numbers};
+ghost use Rattle.bwsh.specs.BatchFile.{IsBatch, IsForBatches, IsInBatch, IsNoClean, IsWithin, asked, batch_lines, cleans_nothing, commands_of, commands_of_lines, first_bad, is_short, orders_of};
+ghost use Rattle.bwsh.specs.BatchFile.Pending.{begun, skipped};
+ghost use Rattle.bwsh.specs.Options.{Request};
+ghost use Rattle.bwsh.specs.Session.{Answers, AreLeft, AreSeenAlike, AreUntidied, Batches, IsEndAfter, IsStart, Reads, Seen, Start, Stored, Tidying, accepted, after_order, answer_lines, answered, bad_line, by_batches, compacting, fault_line, first_refusal, later, left_by_step, numbers_of, orders_end, printed, refusal_of, step_in, tidied, untidied, with_cleans};
+ghost use Rattle.bwsh.specs.Shown.{help_lines, shown_reply, shown_rows, shown_flushed, shown_cleaned, shown_upgraded, shown_report, shown_numbers, shown_settings, shown_tidied, shown_copied};
 ghost use Rattle.bwsh.specs.Token.{token_bytes, shown_token};
 ghost use Rattle.bwsh.specs.Words.{words_of};
 
@@ -52,7 +57,7 @@ pub fn batches_are_read_back()
 {}
 
 /// If no order is refused, the first one's answer is printed in front of the output of the later
-/// ones. Only a batch changes the map.
+/// ones. Only a batch changes the map. The orders from `bad_line` on are those of streams alone.
 pub fn each_order_prints_its_answer()
     ensures none { (settings : Settings) → (st : Store) → (shown : Reads) → (m : Pairs Bytes) →
         printed settings st shown m [] ≡ [] }
@@ -85,6 +90,37 @@ pub fn each_order_prints_its_answer()
         (rest : List Order) →
         printed settings st shown m (Numbers ∷ rest)
         ≡ shown_numbers (numbers_of settings st) ++ printed settings st (later shown) m rest }
+    ensures bad_line { (settings : Settings) → (st : Store) → (shown : Reads) → (m : Pairs Bytes) →
+        (line : ℕ) → (why : Why) → (rest : List Order) →
+        printed settings st shown m (BadLine line why ∷ rest)
+        ≡ bad_line line why ++ printed settings st (later shown) m rest }
+    ensures stat { (settings : Settings) → (st : Store) → (shown : Reads) → (m : Pairs Bytes) →
+        (rest : List Order) →
+        printed settings st shown m (Stat ∷ rest)
+        ≡ shown_numbers (numbers_of settings st)
+        ++ (shown_settings settings ++ printed settings st (later shown) m rest) }
+    ensures copy { (settings : Settings) → (st : Store) → (shown : Reads) → (m : Pairs Bytes) →
+        (path : Bytes) → (segments : Option ℕ) → (rest : List Order) →
+        printed settings st shown m (Copy path segments ∷ rest)
+        ≡ shown_copied (report st.tree).pairs ++ printed settings st (later shown) m rest }
+    ensures tidy { (settings : Settings) → (st : Store) → (shown : Reads) → (m : Pairs Bytes) →
+        (most : ℕ) → (rest : List Order) →
+        printed settings st shown m (Tidy most ∷ rest)
+        ≡ shown_tidied (counted_pages st.tree
+        - counted_pages (after_order settings st (shown 0) (Tidy most)).0.tree)
+        ++ printed settings (after_order settings st (shown 0) (Tidy most)).0 (later shown) m rest }
+    ensures back { (settings : Settings) → (st : Store) → (shown : Reads) → (m : Pairs Bytes) →
+        (lo : Bytes) → (hi : Option Bytes) → (limit : ℕ) → (rest : List Order) →
+        printed settings st shown m (Back lo hi limit ∷ rest)
+        ≡ shown_rows (rows_back lo hi limit m) ++ printed settings st (later shown) m rest }
+    ensures prefix { (settings : Settings) → (st : Store) → (shown : Reads) → (m : Pairs Bytes) →
+        (bytes : Bytes) → (limit : ℕ) → (rest : List Order) →
+        printed settings st shown m (Prefix bytes limit ∷ rest)
+        ≡ shown_rows (take limit (with_prefix bytes m)) ++ printed settings st (later shown) m rest }
+    ensures help { (settings : Settings) → (st : Store) → (shown : Reads) → (m : Pairs Bytes) →
+        (rest : List Order) →
+        printed settings st shown m (Help ∷ rest)
+        ≡ help_lines ++ printed settings st (later shown) m rest }
 {}
 
 /// If all orders are batches and none is refused, their output is the replies of an ordered map to
@@ -102,41 +138,53 @@ pub fn the_commands_are_answered_in_order()
 {}
 
 /// If no order is a clean, the answers, the accepted orders and how the session ends do not depend
-/// on the disk's bytes. The two runs compared tidy the store by the same batches.
+/// on the disk's bytes. In the two runs compared, the store is tidied by the same batches, and the
+/// same orders fail for the same reasons: an allocation, a file of a copy, or a clean before a
+/// flush.
 pub fn the_bytes_of_the_disk_do_not_matter()
     ensures lines { (settings : Settings) → (st : Store) → (shown other : Reads) →
-        AreTidiedAlike shown other →
+        AreSeenAlike shown other →
         (m : Pairs Bytes) → (orders : List Order) → All IsNoClean orders →
         answer_lines settings st shown m orders ≡ answer_lines settings st other m orders }
+    ensures answered { (on : Bool) → (settings : Settings) → (st : Store) →
+        (shown other : Reads) → AreSeenAlike shown other →
+        (m : Pairs Bytes) → (orders : List Order) → All IsNoClean orders →
+        answered on settings st shown m orders ≡ answered on settings st other m orders }
     ensures accepted { (settings : Settings) → (st : Store) → (shown other : Reads) →
-        AreTidiedAlike shown other → (orders : List Order) → All IsNoClean orders →
+        AreSeenAlike shown other → (orders : List Order) → All IsNoClean orders →
         accepted settings st shown orders ≡ accepted settings st other orders }
-    ensures end { (settings : Settings) → (st : Store) → (shown other : Reads) →
-        AreTidiedAlike shown other → (orders : List Order) → All IsNoClean orders →
-        orders_end settings st shown orders ≡ orders_end settings st other orders }
+    ensures end { (on : Bool) → (settings : Settings) → (st : Store) → (shown other : Reads) →
+        AreSeenAlike shown other → (orders : List Order) → All IsNoClean orders →
+        orders_end on settings st shown orders ≡ orders_end on settings st other orders }
 {}
 
 /// If each read of the disk returns what was last written, the store, the initial contents of the
-/// disk and the batches of tidying determine the answers and how the session ends, even with
-/// cleans. Such reads exist for each store.
+/// disk, the batches of tidying, and where orders fail that the store itself does not refuse,
+/// determine the answers, the accepted orders and how the session ends, even with cleans. Such
+/// reads exist for each store.
 pub fn what_was_left_decides_the_answers()
     ensures lines { (settings : Settings) → (st : Store) → (file : Bytes) → (shown other : Reads) →
-        AreTidiedAlike shown other → (m : Pairs Bytes) → (orders : List Order) →
+        AreSeenAlike shown other → (m : Pairs Bytes) → (orders : List Order) →
         AreLeft settings st file shown orders → AreLeft settings st file other orders →
         answer_lines settings st shown m orders ≡ answer_lines settings st other m orders }
+    ensures answered { (on : Bool) → (settings : Settings) → (st : Store) → (file : Bytes) →
+        (shown other : Reads) → AreSeenAlike shown other → (m : Pairs Bytes) →
+        (orders : List Order) →
+        AreLeft settings st file shown orders → AreLeft settings st file other orders →
+        answered on settings st shown m orders ≡ answered on settings st other m orders }
     ensures accepted { (settings : Settings) → (st : Store) → (file : Bytes) →
-        (shown other : Reads) → AreTidiedAlike shown other → (orders : List Order) →
+        (shown other : Reads) → AreSeenAlike shown other → (orders : List Order) →
         AreLeft settings st file shown orders → AreLeft settings st file other orders →
         accepted settings st shown orders ≡ accepted settings st other orders }
-    ensures end { (settings : Settings) → (st : Store) → (file : Bytes) → (shown other : Reads) →
-        AreTidiedAlike shown other → (orders : List Order) →
+    ensures end { (on : Bool) → (settings : Settings) → (st : Store) → (file : Bytes) →
+        (shown other : Reads) → AreSeenAlike shown other → (orders : List Order) →
         AreLeft settings st file shown orders → AreLeft settings st file other orders →
-        orders_end settings st shown orders ≡ orders_end settings st other orders }
+        orders_end on settings st shown orders ≡ orders_end on settings st other orders }
     ensures some { (settings : Settings) → (st : Store) → (file : Bytes) → (orders : List Order) →
         (shown : Reads) × AreUntidied shown × AreLeft settings st file shown orders }
 {}
 
-/// `--clean-when-full` adds cleans in front of flushes and changes nothing else.
+/// Among the orders, `--clean-when-full` adds cleans in front of flushes, and changes nothing else.
 pub fn cleans_alone_are_put_among_orders()
     ensures commands { (settings : Settings) → (st : Store) → (shown : Reads) →
         (orders : List Order) →
@@ -147,8 +195,8 @@ pub fn cleans_alone_are_put_among_orders()
 {}
 
 /// Tidying changes no reply, no pair, no byte of the disk and nothing in the log. `Store::tidy`
-/// leaves the result of `tidied` for some batches, and `Store::compact` its result for compaction, if
-/// the store is bloated. A clean may come before or after it.
+/// leaves the result of `tidied` for some batches, and `Store::compact` the result of `tidied` for
+/// compaction, if the store is bloated. A clean may come before or after it.
 pub fn tidying_changes_no_replies()
     ensures replies { (settings : Settings) → (st : Store) → (shown : Reads) → (m : Pairs Bytes) →
         (front : List Order) → (commands : List (Command Global)) → (rest : List Order) →
@@ -175,32 +223,70 @@ pub fn tidying_changes_no_replies()
         ≡ left_by_step settings (st, file) (step_in order) }
 {}
 
-/// A stream runs the orders before the first bad line, except an incomplete batch. Without a bad
-/// line, a stream runs all orders and ends like a session without `--stream`.
-pub fn a_stream_orders_what_stands_before_a_bad_line()
-    ensures good { (numbers : Bool) → (parsed : List Line) → first_bad 1 parsed ≡ None →
-        streamed numbers [] parsed ≡ with_numbers numbers (orders_of [] parsed) }
-    ensures end { (start : Start) → (shown : Reads) → (orders : List Order) →
-        end_streamed None start shown orders ≡ end_after None start shown orders }
-    ensures bad { (numbers : Bool) → (front : List Line) → first_bad 1 front ≡ None →
-        (why : Why) → (rest : List Line) →
-        orders_of [] front
-        ≡ streamed numbers [] (front ++ Bad why ∷ rest) ++ last_order (unended [] front) }
+/// If no line is bad or lost, and in a stream no batch is too long, the orders of a session are
+/// those of its text. A stream in which no order is refused prints all answers. A session without
+/// `--stream` prints the answers of the orders before the first refusal. A bad line after n good
+/// lines has the number n + 1.
+pub fn a_text_is_a_stream_that_was_read_to_its_end()
+    ensures orders { (stream : Bool) → (parsed : List Line) → IsWithin parsed →
+        is_short stream (orders_of [] parsed) ≡ true →
+        asked stream 1 (begun []) parsed ≡ orders_of [] parsed }
+    ensures stream { (settings : Settings) → (st : Store) → (shown : Reads) → (m : Pairs Bytes) →
+        (orders : List Order) → first_refusal settings st shown orders ≡ None →
+        answered true settings st shown m orders ≡ answer_lines settings st shown m orders }
+    ensures text { (settings : Settings) → (st : Store) → (shown : Reads) → (m : Pairs Bytes) →
+        (orders : List Order) →
+        answered false settings st shown m orders
+        ≡ answer_lines settings st shown m (accepted settings st shown orders) }
     ensures found { (front : List Line) → first_bad 1 front ≡ None → (why : Why) →
         (rest : List Line) → first_bad 1 (front ++ Bad why ∷ rest) ≡ Some (length front + 1, why) }
+{}
+
+/// In a stream, a refused order is answered by one line and changes no pair, the later orders are
+/// answered from the store that it leaves, and the orders end without an error. A bad line is
+/// answered at once, and so are a line that found no memory and the 65,536th command of a batch,
+/// which are refused. The rest of the batch is skipped up to the line that ends it, and if this line
+/// is an order, the order is run.
+pub fn a_stream_goes_on_after_a_refusal()
+    ensures holds { (settings : Settings) → (st : Store) → (seen : Seen) → (order : Order) →
+        (fault : Fault) → refusal_of settings st seen order ≡ Some fault →
+        contents (after_order settings st seen order).0.tree ≡ contents st.tree }
+    ensures answer { (settings : Settings) → (st : Store) → (shown : Reads) → (m : Pairs Bytes) →
+        (order : Order) → (rest : List Order) → (fault : Fault) →
+        refusal_of settings st (shown 0) order ≡ Some fault →
+        answered true settings st shown m (order ∷ rest) ≡ fault_line (shown 0).told
+        ∷ answered true settings (after_order settings st (shown 0) order).0 (later shown) m rest }
+    ensures end { (settings : Settings) → (st : Store) → (shown : Reads) → (orders : List Order) →
+        orders_end true settings st shown orders ≡ Ok tt }
+    ensures bad { (n : ℕ) → (pending : List (Command Global)) → (why : Why) →
+        (rest : List Line) → asked true n (begun pending) (Bad why ∷ rest)
+        ≡ BadLine n why ∷ asked true (n + 1) skipped rest }
+    ensures lost { (n : ℕ) → (pending : List (Command Global)) → (rest : List Line) →
+        asked true n (begun pending) (lines.Lost ∷ rest) ≡ Lost ∷ asked true (n + 1) skipped rest }
+    ensures long { (n : ℕ) → (pending : List (Command Global)) → length pending ≡ 65535 →
+        (command : Command Global) → (rest : List Line) →
+        asked true n (begun pending) (lines.Command command ∷ rest)
+        ≡ Batch (pending ++ command ∷ []) ∷ asked true (n + 1) skipped rest }
+    ensures lost_refused { (settings : Settings) → (st : Store) → (seen : Seen) →
+        seen.fails ≡ None → refusal_of settings st seen Lost ≡ Some NoMemory }
+    ensures long_refused { (settings : Settings) → (st : Store) → (seen : Seen) →
+        seen.fails ≡ None → (commands : List (Command Global)) → 65535 < length commands →
+        refusal_of settings st seen (Batch commands) ≡ Some BatchTooLong }
+    ensures skipped { (n : ℕ) → (front : List Line) → IsInBatch front → (rest : List Line) →
+        asked true n skipped (front ++ Go ∷ rest)
+        ≡ asked true (n + (length front + 1)) (begun []) rest }
+    ensures skipped_order { (n : ℕ) → (front : List Line) → IsInBatch front → (order : Order) →
+        (rest : List Line) → asked true n skipped (front ++ lines.Order order ∷ rest)
+        ≡ order ∷ asked true (n + (length front + 1)) (begun []) rest }
 {}
 
 /// With valid settings, and if no file fails, a session prints the same with and without
 /// `--copy-to`. It ends the same, or with a fault of the copy after all orders are done.
 pub fn a_copy_changes_only_the_end()
-    ensures answers { (request : Request) → first_bad_field request.settings ≡ None →
+    ensures { (request : Request) → first_bad_field request.settings ≡ None →
         (known old new : Option Bytes) → (end : Result (Unit {0}) SessionError) →
         Answers request known old new end → (plain : Result (Unit {0}) SessionError)
         × Answers (record request { copy_to = None }) known old new plain × IsEndAfter plain end }
-    ensures streams { (request : Request) → first_bad_field request.settings ≡ None →
-        (known old new : Option Bytes) → (end : Result (Unit {0}) SessionError) →
-        Streams request known old new end → (plain : Result (Unit {0}) SessionError)
-        × Streams (record request { copy_to = None }) known old new plain × IsEndAfter plain end }
 {}
 
 /// A session's output and result are the same for every crew in range. A crew out of range is
@@ -210,22 +296,18 @@ pub fn the_crew_does_not_matter()
         (known old new : Option Bytes) → (end : Result (Unit {0}) SessionError) →
         Answers request known old new end →
         Answers (record request { crew = crew }) known old new end }
-    ensures streams { (request : Request) → (crew : Crew) → is_crew crew ≡ is_crew request.crew →
-        (known old new : Option Bytes) → (end : Result (Unit {0}) SessionError) →
-        Streams request known old new end →
-        Streams (record request { crew = crew }) known old new end }
     ensures refused { (request : Request) → is_crew request.crew ≡ false → (start : Start) →
         IsStart request start → start ≡ Err BadCrew }
 {}
 
-/// `--progress` changes only standard error. Without `--progress`, standard error gets only the
-/// report of an error.
-pub fn progress_changes_standard_error_alone()
-    ensures same { (request : Request) → (asked : Bool) → (known old new : Option Bytes) →
-        (end : Result (Unit {0}) SessionError) → IsAnswered request known old new end →
-        IsAnswered (record request { mode = record request.mode { progress = asked } })
-        known old new end }
-    ensures report { (words : List Bytes) → (AsksForProgress words → ⊥) →
-        (end : Result (Unit {0}) SessionError) → (old new : Option Bytes) →
-        IsReportedAfterProgress words end old new → IsReported words end old new }
+/// Which answers and which ends of a session are right does not depend on `--progress`, `--explain`
+/// and `--wait`.
+pub fn reports_change_no_answers()
+    ensures { (request : Request) → (progress explain : Bool) → (wait : ℕ) →
+        (known old new : Option Bytes) → (end : Result (Unit {0}) SessionError) →
+        Answers request known old new end →
+        Answers (record request {
+          mode = record request.mode
+              { progress = progress; explain = explain; wait = wait };
+        }) known old new end }
 {}

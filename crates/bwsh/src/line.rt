@@ -1,10 +1,11 @@
 //! Parsing the lines of a batch file.
-ghost use Rattle.std.specs.Prelude.{◌≡◌, Some, IfOk};
+ghost use Rattle.std.specs.Prelude.{◌≡◌, ◌⊎◌, Some, IfOk};
 ghost use Rattle.bwsh.specs.Token.{token_bytes};
 ghost use Rattle.bwsh.specs.Words.{words_of};
-ghost use Rattle.bwsh.specs.Line.{only_key, key_and_value, bound_of, parse_scan, parse_wipe, if_alone, bad_of, parse_order, parse_command, parse_line, why_text};
+ghost use Rattle.bwsh.specs.Line.{only_key, key_and_value, bound_of, range_and_limit, parse_scan, parse_wipe, if_alone, parse_back, parse_copy, parse_dot, parse_order, parse_prefix, parse_tidy, parse_command, parse_line, why_text};
 
 use crate::number::number_in;
+use crate::order::Order;
 use crate::token::unescape;
 use crate::words::{first_word, only_word, three_words, two_words};
 use keys::{Command, Key, Value};
@@ -37,6 +38,9 @@ impl fmt::Display for Why {
     }
 }
 
+// A lower bound, an upper bound and a limit.
+type Range = (Key<Global>, Option<Key<Global>>, u32);
+
 /// A parsed line.
 #[derive(Drop)]
 pub enum Line {
@@ -46,27 +50,12 @@ pub enum Line {
     Command(Command<Global>),
     /// Run the pending commands as one batch.
     Go,
-    /// Run the pending commands, if there are any, and flush the store.
-    Flush,
-    /// Run the pending commands, if there are any, and clean the log.
-    Clean,
-    /// Run the pending commands, if there are any, and upgrade the log to version 2.
-    Upgrade,
-    /// Run the pending commands, if there are any, and verify the store.
-    Verify,
+    /// Run the pending commands, if there are any, and then this order.
+    Order(Order),
     /// A line that cannot be parsed, and why.
     Bad(Why),
-}
-
-impl Line {
-    pub fn bad(&self) -> Option<Why>
-        ensures { result ≡ bad_of self.now }
-    {
-        match self {
-            Line::Bad(why) => Some(*why),
-            _ => None,
-        }
-    }
+    /// A line for which an allocation failed.
+    Lost,
 }
 
 /// Parses lines, with one reused buffer for decoded words.
@@ -140,22 +129,32 @@ impl LineReader {
         Ok(self.key(token)?.map(Some))
     }
 
+    // Parses `LO HI LIMIT`.
+    fn range(&mut self, words: &[u8]) -> Result<Result<Range, Why>, AllocError>
+        ensures { IfOk result (λ range. range ≡ range_and_limit (words_of words.now)) }
+    {
+        let Some((lo, hi, limit)) = three_words(words) else {
+            return Ok(Err(Why::WordCount));
+        };
+        let Some(lo) = self.key(lo)? else {
+            return Ok(Err(Why::BadToken));
+        };
+        let Some(hi) = self.bound(hi)? else {
+            return Ok(Err(Why::BadToken));
+        };
+        let Some(limit) = number_in(limit) else {
+            return Ok(Err(Why::BadNumber));
+        };
+        Ok(Ok((lo, hi, limit)))
+    }
+
     fn scan(&mut self, words: &[u8]) -> Result<Line, AllocError>
         ensures { IfOk result (λ parsed. parsed ≡ parse_scan (words_of words.now)) }
     {
-        let Some((lo, hi, limit)) = three_words(words) else {
-            return Ok(Line::Bad(Why::WordCount));
-        };
-        let Some(lo) = self.key(lo)? else {
-            return Ok(Line::Bad(Why::BadToken));
-        };
-        let Some(hi) = self.bound(hi)? else {
-            return Ok(Line::Bad(Why::BadToken));
-        };
-        let Some(limit) = number_in(limit) else {
-            return Ok(Line::Bad(Why::BadNumber));
-        };
-        Ok(Line::Command(Command::Scan(lo, hi, limit)))
+        Ok(match self.range(words)? {
+            Ok((lo, hi, limit)) => Line::Command(Command::Scan(lo, hi, limit)),
+            Err(why) => Line::Bad(why),
+        })
     }
 
     fn wipe(&mut self, words: &[u8]) -> Result<Line, AllocError>
@@ -173,8 +172,9 @@ impl LineReader {
         Ok(Line::Command(Command::Wipe(lo, hi)))
     }
 
-    fn command(&mut self, word: &[u8], words: &[u8]) -> Result<Line, AllocError>
-        ensures { IfOk result (λ parsed. parsed ≡ parse_command word.now (words_of words.now)) }
+    fn command(&mut self, word: &[u8], words: &[u8], has_dots: bool) -> Result<Line, AllocError>
+        ensures { IfOk result (λ parsed.
+            parsed ≡ parse_command has_dots word.now (words_of words.now)) }
     {
         if word == b"put".as_slice() {
             return Ok(match self.key_and_value(words)? {
@@ -206,12 +206,93 @@ impl LineReader {
         if word == b"wipe".as_slice() {
             return self.wipe(words);
         }
+        if has_dots && word.starts_with(b".") {
+            return self.dot(word, words);
+        }
         Ok(order(word, words))
     }
 
-    /// Parses a line.
-    pub fn read(&mut self, line: &[u8]) -> Result<Line, AllocError>
-        ensures { IfOk result (λ parsed. parsed ≡ parse_line line.now) }
+    // Parses `.copy PATH [SEGMENTS]`.
+    fn copy(&mut self, words: &[u8]) -> Result<Line, AllocError>
+        ensures { IfOk result (λ parsed. parsed ≡ parse_copy (words_of words.now)) }
+    {
+        if let Some(path) = only_word(words) {
+            return Ok(match self.key(path)? {
+                Some(path) => Line::Order(Order::Copy {
+                    path,
+                    segments: None,
+                }),
+                None => Line::Bad(Why::BadToken),
+            });
+        }
+        let Some((path, segments)) = two_words(words) else {
+            return Ok(Line::Bad(Why::WordCount));
+        };
+        let Some(path) = self.key(path)? else {
+            return Ok(Line::Bad(Why::BadToken));
+        };
+        let Some(segments) = number_in(segments) else {
+            return Ok(Line::Bad(Why::BadNumber));
+        };
+        Ok(Line::Order(Order::Copy {
+            path,
+            segments: Some(segments),
+        }))
+    }
+
+    // Parses `.back LO HI LIMIT`.
+    fn back(&mut self, words: &[u8]) -> Result<Line, AllocError>
+        ensures { IfOk result (λ parsed. parsed ≡ parse_back (words_of words.now)) }
+    {
+        Ok(match self.range(words)? {
+            Ok((lo, hi, limit)) => Line::Order(Order::Back(lo, hi, limit)),
+            Err(why) => Line::Bad(why),
+        })
+    }
+
+    // Parses `.prefix BYTES LIMIT`.
+    fn prefix(&mut self, words: &[u8]) -> Result<Line, AllocError>
+        ensures { IfOk result (λ parsed. parsed ≡ parse_prefix (words_of words.now)) }
+    {
+        let Some((bytes, limit)) = two_words(words) else {
+            return Ok(Line::Bad(Why::WordCount));
+        };
+        let Some(bytes) = self.key(bytes)? else {
+            return Ok(Line::Bad(Why::BadToken));
+        };
+        let Some(limit) = number_in(limit) else {
+            return Ok(Line::Bad(Why::BadNumber));
+        };
+        Ok(Line::Order(Order::Prefix(bytes, limit)))
+    }
+
+    // Parses a line that begins with a dot.
+    fn dot(&mut self, word: &[u8], words: &[u8]) -> Result<Line, AllocError>
+        ensures { IfOk result (λ parsed. parsed ≡ parse_dot word.now (words_of words.now)) }
+    {
+        if word == b".stat".as_slice() {
+            return Ok(if_alone(Line::Order(Order::Stat), words));
+        }
+        if word == b".help".as_slice() {
+            return Ok(if_alone(Line::Order(Order::Help), words));
+        }
+        if word == b".tidy".as_slice() {
+            return Ok(tidy(words));
+        }
+        if word == b".copy".as_slice() {
+            return self.copy(words);
+        }
+        if word == b".back".as_slice() {
+            return self.back(words);
+        }
+        if word == b".prefix".as_slice() {
+            return self.prefix(words);
+        }
+        Ok(Line::Bad(Why::UnknownCommand))
+    }
+
+    fn parse(&mut self, line: &[u8], has_dots: bool) -> Result<Line, AllocError>
+        ensures { IfOk result (λ parsed. parsed ≡ parse_line has_dots line.now) }
     {
         let Some((word, words)) = first_word(line) else {
             return Ok(Line::Blank);
@@ -219,7 +300,28 @@ impl LineReader {
         if word.starts_with(b"#") {
             return Ok(Line::Blank);
         }
-        self.command(word, words)
+        self.command(word, words, has_dots)
+    }
+
+    /// Parses a line. Lines that begin with a dot are orders if `has_dots`, as in a stream. Returns
+    /// `Line::Lost` if an allocation fails.
+    pub fn read(&mut self, line: &[u8], has_dots: bool) -> Line
+        ensures { (result ≡ parse_line has_dots line.now) ⊎ (result ≡ Line.Lost) }
+    {
+        self.parse(line, has_dots).unwrap_or(Line::Lost)
+    }
+}
+
+// Parses `.tidy N`.
+fn tidy(words: &[u8]) -> Line
+    ensures { result ≡ parse_tidy (words_of words.now) }
+{
+    match only_word(words) {
+        None => Line::Bad(Why::WordCount),
+        Some(word) => match number_in(word) {
+            Some(most) => Line::Order(Order::Tidy(most)),
+            None => Line::Bad(Why::BadNumber),
+        },
     }
 }
 
@@ -230,16 +332,16 @@ fn order(word: &[u8], words: &[u8]) -> Line
         return if_alone(Line::Go, words);
     }
     if word == b"flush".as_slice() {
-        return if_alone(Line::Flush, words);
+        return if_alone(Line::Order(Order::Flush), words);
     }
     if word == b"clean".as_slice() {
-        return if_alone(Line::Clean, words);
+        return if_alone(Line::Order(Order::Clean), words);
     }
     if word == b"upgrade".as_slice() {
-        return if_alone(Line::Upgrade, words);
+        return if_alone(Line::Order(Order::Upgrade), words);
     }
     if word == b"verify".as_slice() {
-        return if_alone(Line::Verify, words);
+        return if_alone(Line::Order(Order::Verify), words);
     }
     Line::Bad(Why::UnknownCommand)
 }

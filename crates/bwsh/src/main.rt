@@ -1,26 +1,27 @@
-//! `bwsh`: runs a batch file on a store and prints the answers.
+//! `bwsh`: runs a batch file, or a stream of lines, on a store and prints the answers.
 #![tactic(auto)]
 
-mod batch;
-mod batch_file;
+mod asks;
+mod context;
 mod copying;
+mod disk;
 mod explain;
 mod laws;
 mod line;
-mod meter;
 mod notes;
 mod number;
 mod opening;
 mod options;
+mod order;
 mod output;
 mod program;
 mod progress;
 mod running;
 mod session;
 mod show;
-mod stream;
+mod source;
+mod text;
 mod token;
-mod watching;
 mod words;
 
 use crate::program::run_program;

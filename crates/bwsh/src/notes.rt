@@ -1,11 +1,12 @@
 //! What a session records, so that `--explain` can report where an error came from.
-use crate::line::{Line, LineReader};
-use bstr::ByteSlice;
-use engine::{Disk, FileDisk, LockFile, MemDisk};
-use std::alloc::{AllocError, Global};
-use std::fs::OpenFile;
+ghost use Rattle.std.specs.Prelude.{◌≡◌};
+
+use crate::line::Line;
+use crate::options::Options;
+use keys::Settings;
+use std::alloc::Global;
+use std::cell::{Cell, RefCell};
 use std::io;
-use std::io::{ErrorKind, Read, Seek, Write};
 
 /// The file or stream on which a call failed.
 #[derive(Clone, Copy, Debug, PartialEq, Eq)]
@@ -15,7 +16,7 @@ pub enum Source {
     Copy,
 }
 
-/// The numbers of the lines of one order, counted from 1.
+/// The line numbers of an order, counted from 1: the commands of its batch, and its last line.
 #[derive(Drop)]
 pub struct OrderLines {
     commands: Vec<u64>,
@@ -28,23 +29,14 @@ pub struct OrderLines {
 }
 
 impl OrderLines {
-    fn new(alloc: Global) -> Self {
-        OrderLines {
-            commands: Vec::new(alloc),
-            is_whole: true,
-            end: 0,
-            is_ended: false,
-        }
-    }
-
-    // Records the next line of a stream.
+    // Records the next line.
     fn follow(&mut self, line: u64, parsed: &Line) {
         if self.is_ended {
             self.commands.clear();
             self.is_whole = true;
         }
         self.end = line;
-        self.is_ended = !matches!(parsed, Line::Blank | Line::Command(_));
+        self.is_ended = matches!(parsed, Line::Go | Line::Order(_));
         if let Line::Command(_) = parsed {
             self.is_whole &= self.commands.push(line).is_ok();
         }
@@ -58,181 +50,112 @@ impl OrderLines {
         }
         self.commands.get(place).copied()
     }
-
-    // Called for each completed order. If `skipped` is 0, returns true: this order is the one
-    // looked for. Otherwise decrements `skipped`.
-    fn completes(&mut self, skipped: &mut u64) -> bool {
-        if *skipped == 0 {
-            return true;
-        }
-        *skipped -= 1;
-        self.commands.clear();
-        false
-    }
-
-    // Reads the next line. Returns true if the line completed an order and `skipped` other orders
-    // were completed before.
-    fn read(&mut self, parsed: &Line, skipped: &mut u64) -> Result<bool, AllocError> {
-        self.end = self.end.saturating_add(1);
-        match parsed {
-            Line::Blank | Line::Bad(_) => Ok(false),
-            Line::Command(_) => {
-                self.commands.push(self.end)?;
-                Ok(false)
-            }
-            Line::Go => Ok(self.completes(skipped)),
-            Line::Flush | Line::Clean | Line::Upgrade | Line::Verify => {
-                let has_batch = !self.commands.is_empty();
-                if has_batch && self.completes(skipped) {
-                    return Ok(true);
-                }
-                Ok(self.completes(skipped))
-            }
-        }
-    }
-}
-
-fn read_line(
-    reader: &mut LineReader,
-    lines: &mut OrderLines,
-    bytes: &[u8],
-    skipped: &mut u64,
-) -> Result<bool, AllocError> {
-    let parsed = reader.read(bytes)?;
-    lines.read(&parsed, skipped)
-}
-
-// Finds the lines of the order that follows the first `before` orders of the batch file `text`.
-fn lines_of(alloc: Global, text: &[u8], before: u64) -> Result<OrderLines, AllocError> {
-    let mut reader = LineReader::new(alloc);
-    let mut lines = OrderLines::new(alloc);
-    let mut skipped = before;
-    for bytes in text.lines() {
-        if read_line(&mut reader, &mut lines, bytes, &mut skipped)? {
-            return Ok(lines);
-        }
-    }
-    Ok(lines)
 }
 
 #[derive(Drop)]
-pub struct Notes {
-    alloc: Global,
-    is_wanted: bool,
-    failed: Option<(Source, io::Error)>,
-    text: Vec<u8>,
-    // How many orders of a batch file are done, or `None` before the store is open.
-    done: Option<u64>,
-    is_copying: bool,
-    streamed: Option<OrderLines>,
-    // The number of the stream's line that is being read, or `None` after it was read.
-    unread: Option<u64>,
+pub struct Notes<'a> {
+    pub alloc: Global,
+    pub asked: &'a Options,
+    failed: Cell<Option<(Source, io::Error)>>,
+    /// The lines of the last order, or `None` without `--explain` or before the first line.
+    pub lines: RefCell<Option<OrderLines>>,
+    is_copying: Cell<bool>,
+    // The settings of the store, once it is open.
+    settings: Cell<Option<Settings>>,
+    // The number of the line that is being read or was lost, or `None` after a line was read.
+    unread: Cell<Option<u64>>,
 }
 
-impl Notes {
-    /// Creates the notes of a new session. Unless `is_wanted`, the input and its lines are not
-    /// recorded.
-    pub fn new(alloc: Global, is_wanted: bool) -> Self {
+impl<'a> Notes<'a> {
+    /// Creates the notes of a new session. Without `--explain`, lines are not recorded.
+    pub fn new(alloc: Global, asked: &'a Options) -> Self
+        ensures asked { result.asked.now ≡ asked.entry.now }
+    {
         Notes {
             alloc,
-            is_wanted,
-            failed: None,
-            text: Vec::new(alloc),
-            done: None,
-            is_copying: false,
-            streamed: None,
-            unread: None,
+            asked,
+            failed: Cell::new(None),
+            lines: RefCell::new(None),
+            is_copying: Cell::new(false),
+            settings: Cell::new(None),
+            unread: Cell::new(None),
         }
     }
 
-    pub fn record_failure(&mut self, source: Source, reason: Option<io::Error>) {
+    pub fn record_failure(&self, source: Source, reason: Option<io::Error>) {
         if let Some(reason) = reason {
-            self.failed = Some((source, reason));
+            self.failed.set(Some((source, reason)));
         }
     }
 
     pub fn failure(&self) -> Option<(Source, io::Error)> {
-        self.failed
+        self.failed.get()
     }
 
-    pub fn keep_text(&mut self, text: Vec<u8>) {
-        if self.is_wanted {
-            self.text = text;
+    pub fn forget_failure(&self) {
+        self.failed.set(None);
+    }
+
+    pub fn store_opened(&self, settings: Settings) {
+        self.settings.set(Some(settings));
+    }
+
+    /// Returns whether the settings of the command line were to have an effect, and have none: the
+    /// store has others, and there is no copy that could have them.
+    pub fn has_idle_settings(&self) -> bool {
+        let asked = self.asked;
+        let is_copied = asked.copy_to.is_some();
+        match self.settings.get() {
+            Some(settings) => {
+                settings != asked.settings && asked.settings != Settings::default() && !is_copied
+            }
+            None => false,
         }
-    }
-
-    pub fn store_opened(&mut self) {
-        self.done = Some(0);
-    }
-
-    pub fn count_order(&mut self) {
-        self.done = self.done.map(|count| count.saturating_add(1));
     }
 
     /// Records that all orders are done and the copy begins.
-    pub fn begin_copy(&mut self) {
-        self.is_copying = true;
+    pub fn begin_copy(&self) {
+        self.is_copying.set(true);
     }
 
     pub fn is_copying(&self) -> bool {
-        self.is_copying
+        self.is_copying.get()
     }
 
-    pub fn begin_line(&mut self, line: u64) {
-        self.unread = Some(line);
+    pub fn begin_line(&self, line: u64) {
+        self.unread.set(Some(line));
     }
 
-    pub fn end_of_input(&mut self) {
-        self.unread = None;
+    pub fn end_of_input(&self) {
+        self.unread.set(None);
     }
 
-    /// Returns the number of the stream's line that could not be read.
+    /// Returns the number of the line that could not be read.
     pub fn unread_line(&self) -> Option<u64> {
-        self.unread
+        self.unread.get()
     }
 
-    pub fn record_line(&mut self, line: u64, parsed: &Line) {
-        self.unread = None;
-        if !self.is_wanted {
+    pub fn record_line(&self, line: u64, parsed: &Line) {
+        if matches!(parsed, Line::Lost) {
             return;
         }
-        let mut lines = match self.streamed.take() {
-            Some(lines) => lines,
-            None => OrderLines::new(self.alloc),
+        self.unread.set(None);
+        if !self.asked.mode.explain {
+            return;
+        }
+        let Ok(mut lines) = self.lines.try_borrow_mut() else {
+            return;
         };
-        lines.follow(line, parsed);
-        self.streamed = Some(lines);
-    }
-
-    /// Returns the lines of the order that failed, or `None` if no store was open or an allocation
-    /// fails.
-    pub fn order_lines(&mut self) -> Option<OrderLines> {
-        if let Some(lines) = self.streamed.take() {
-            return Some(lines);
+        if lines.is_none() {
+            *lines = Some(OrderLines {
+                commands: Vec::new(self.alloc),
+                is_whole: true,
+                end: 0,
+                is_ended: false,
+            });
         }
-        match self.done {
-            Some(count) => lines_of(self.alloc, &self.text, count).ok(),
-            None => None,
+        if let Some(lines) = &mut *lines {
+            lines.follow(line, parsed);
         }
-    }
-}
-
-/// A disk that may know the reason of its last failure.
-pub trait LastError {
-    fn reason(&self) -> Option<io::Error>;
-}
-
-impl<F: Read + Write + Seek + OpenFile + LockFile + Drop> LastError for FileDisk<F> {
-    fn reason(&self) -> Option<io::Error> {
-        self.last_error()
-    }
-}
-
-impl LastError for MemDisk<Global> {
-    fn reason(&self) -> Option<io::Error> {
-        if self.failures() == 0 {
-            return None;
-        }
-        Some(ErrorKind::OutOfMemory.into())
     }
 }

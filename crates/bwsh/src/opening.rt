@@ -1,26 +1,31 @@
 //! Opening the store of a session: in memory, in a new file, or in an existing file.
-ghost use Rattle.std.specs.Prelude.{false, IsTrue, replicate, ◌≡◌, ◌≢◌, ◌⊎◌, None, IfOk, ◌≤◌};
-ghost use Rattle.crew.specs.Crew.{is_crew};
+ghost use Rattle.std.specs.Prelude.{false, replicate, ◌≡◌, ◌≢◌, ◌⊎◌, None, Some, Ok, IfOk, IsOkUnless, ◌≤◌};
 ghost use Rattle.keys.specs.Bytes.{Bytes};
 ghost use Rattle.keys.specs.Limits.{first_bad_field};
 ghost use Rattle.flush_log.specs.Segments.{disk_size};
-ghost use Rattle.bwsh.specs.Session.{Opens, IsHonestStore, Shows, new_start, found_start};
+ghost use Rattle.bwsh.specs.Options.{request_of};
+ghost use Rattle.bwsh.specs.Session.{IsHolding, IsOpening, IsStartBy, Opens, IsHonestStore, Start, new_start, found_start};
 
-use crate::meter::{Meter, Metered};
-use crate::notes::{LastError, Notes, Source};
-use crate::progress::{LongCall, Reports};
+use crate::context::Session;
+use crate::disk::{Base, LastError, ReportingDisk, StoreDisk, StoreFile};
+use crate::notes::Source;
+use crate::progress::{LongCall, Observer};
 use crate::session::SessionError;
-use crate::watching::run_watched;
-use engine::{Crew, Disk, FileDisk, LockFile, MemDisk, Store};
+use engine::{Disk, FileDisk, LockFile, MemDisk, Store};
 use flush_log::disk_size;
-use keys::{Fault, Settings};
-use std::alloc::Global;
-use std::io;
-use std::io::Write;
+use keys::Fault;
+use std::fs::{OpenFile, OpenOptions};
+use std::io::ErrorKind;
 use std::rt::Files;
-use std::sync::Wait;
 use std::thread::Threads;
-use std::time::Clock;
+use std::time::{Clock, Duration};
+use std::{io, thread};
+
+// How many times a second a lock is tried with `--wait`, and how many milliseconds pass after a
+// try.
+const TRIES: u64 = 10;
+
+const PAUSE: u64 = 100;
 
 pub(crate) fn store_fault(fault: Fault) -> SessionError
     ensures { ((fault ≡ Fault.Device) × (result ≡ SessionError.Device))
@@ -32,162 +37,204 @@ pub(crate) fn store_fault(fault: Fault) -> SessionError
     }
 }
 
-fn create_store<D: Disk + LastError + Drop>(
-    alloc: Global,
-    disk: D,
-    settings: Settings,
-    notes: &mut Notes,
-) -> Result<Store<D>, SessionError>
-    requires good { first_bad_field settings ≡ None }
-    requires room { disk_size settings ≤ (D.view disk).size }
-    ensures opens { (file : Bytes) → (IsTrue (D.view disk).is_honest → (D.view disk).seen ≡ file) →
-        Opens D.view (new_start settings file) result }
-    ensures honest { IfOk result
-        (λ store. (D.view store.disk).is_honest ≡ (D.view disk).is_honest) }
-    ensures fine { IfOk result (λ store. store.has_failed ≡ false) }
+/// Opens a file for reading, and for writing if `writes`, and locks it: exclusively if `writes`,
+/// and shared otherwise. If `creates`, creates a missing file. If another program has locked the
+/// file, tries again for about as many seconds as `--wait` gives, and then fails with `WouldBlock`.
+pub(crate) fn open_locked<R: Files + Clock, P: Observer>(
+    at: &Session<'_, R, P>,
+    path: &str,
+    writes: bool,
+    creates: bool,
+) -> io::Result<R::File>
+where
+    R::File: LockFile,
 {
-    match Store::create(alloc, disk, settings) {
-        Ok(store) => Ok(store),
-        Err(refused) => {
-            notes.record_failure(Source::File, refused.1.reason());
-            Err(store_fault(refused.0))
+    let mut how = OpenOptions::new();
+    how.read(true).write(writes).create(creates);
+    let file = how.open(at.calls.rt, path)?;
+    lock_in_time(at, &file, writes)?;
+    Ok(file)
+}
+
+fn lock_in_time<R: Clock, P: Observer, F: LockFile>(
+    at: &Session<'_, R, P>,
+    file: &F,
+    writes: bool,
+) -> io::Result<()> {
+    for _try in 0..TRIES * u64::from(at.calls.mode.wait) {
+        match lock(file, writes) {
+            Err(error) if error.kind() == ErrorKind::WouldBlock => {
+                thread::sleep(at.calls.rt, Duration::from_millis(PAUSE));
+            }
+            done => return done,
+        }
+    }
+    lock(file, writes)
+}
+
+fn lock<F: LockFile>(file: &F, writes: bool) -> io::Result<()> {
+    if writes { file.hold() } else { file.share() }
+}
+
+impl<'a, R, P: Observer> Session<'a, R, P> {
+    pub(crate) fn disk<M, F>(&self, base: Base<M, F>) -> ReportingDisk<'a, M, F, P>
+        ensures { result.base ≡ base }
+    {
+        ReportingDisk::new(base, self.report)
+    }
+
+    // Records the reason of a failed call on the file.
+    fn file_failed<T: Drop>(&self, done: io::Result<T>) -> Result<T, SessionError>
+        ensures ok { IfOk result (λ value. done ≡ Ok value) }
+        ensures device { IsOkUnless result SessionError.Device }
+    {
+        match done {
+            Ok(value) => Ok(value),
+            Err(reason) => {
+                self.notes.record_failure(Source::File, Some(reason));
+                Err(SessionError::Device)
+            }
         }
     }
 }
 
-pub(crate) fn store_in_memory(
-    alloc: Global,
-    settings: Settings,
-    notes: &mut Notes,
-) -> Result<Store<MemDisk<Global>>, SessionError>
-    ensures opens { Opens ⟦<MemDisk<Global> as Disk>⟧.view
-        (new_start settings (replicate (disk_size settings) 0)) result }
-    ensures honest { IsHonestStore ⟦<MemDisk<Global> as Disk>⟧.view result }
+// Creates a store on this disk, whose old contents are lost.
+fn create_store<R, P: Observer, D: Disk + LastError + Drop>(
+    at: &Session<'_, R, P>,
+    disk: D,
+) -> Result<Store<D>, SessionError>
+    requires good { first_bad_field at.now.asked.now.settings ≡ None }
+    requires room { disk_size at.now.asked.now.settings ≤ (D.view disk).size }
+    ensures opens { (file : Bytes) → IsHolding (D.view disk) file →
+        Opens D.view (new_start at.now.asked.now.settings file) result }
+    ensures honest { IfOk result
+        (λ store. (D.view store.disk).is_honest ≡ (D.view disk).is_honest) }
     ensures fine { IfOk result (λ store. store.has_failed ≡ false) }
 {
-    settings.check()?;
-    let disk = MemDisk::new(alloc, disk_size(&settings) as usize)?;
-    create_store(alloc, disk, settings, notes)
-}
-
-// Opens the existing file, which is locked exclusively if the session writes, and shared otherwise.
-fn old_disk<R: Files>(rt: &R, path: &str, writes: bool) -> io::Result<FileDisk<R::File>>
-where
-    R::File: LockFile,
-{
-    if writes {
-        FileDisk::open(rt, path)
-    } else {
-        FileDisk::open_shared(rt, path)
-    }
-}
-
-// Creates a store in a file, whose old contents are lost. Does not touch the file if the settings
-// are refused.
-pub(crate) fn new_store_in_file<R: AllocGlobal + Files>(
-    rt: &R,
-    path: &str,
-    settings: Settings,
-    notes: &mut Notes,
-) -> Result<Store<FileDisk<R::File>>, SessionError>
-where
-    R::File: LockFile,
-    ensures opens { (file : Bytes) →
-        Opens ⟦<FileDisk<R::File> as Disk>⟧.view (new_start settings file) result }
-    ensures fine { IfOk result (λ store. store.has_failed ≡ false) }
-{
-    settings.check()?;
-    match FileDisk::create(rt, path, disk_size(&settings)) {
-        Ok(disk) => create_store(rt.alloc(), disk, settings, notes),
-        Err(reason) => {
-            notes.record_failure(Source::File, Some(reason));
-            Err(SessionError::Device)
+    match Store::create(at.calls.alloc, disk, at.asked.settings) {
+        Ok(store) => Ok(store),
+        Err(refused) => {
+            at.notes.record_failure(Source::File, refused.1.reason());
+            Err(store_fault(refused.0))
         }
     }
 }
 
 // Recovers the store on the disk. The disk is synced first, because an earlier program may have
 // ended between a write and the sync. Nothing is written.
-fn open_store<R: AllocGlobal + Threads + Sync, D: Disk + LastError + Drop>(
-    rt: &R,
-    crew: Crew,
+fn recover_store<R: Threads + Sync, P: Observer, D: Disk + LastError + Drop>(
+    at: &Session<'_, R, P>,
     disk: D,
-    notes: &mut Notes,
 ) -> Result<Store<D>, SessionError>
-    requires crew { IsTrue (is_crew crew) }
-    ensures opens { (file : Bytes) × (IsTrue (D.view disk).is_honest → file ≡ (D.view disk).seen)
-        × Opens D.view (found_start file) result }
+    ensures opens { (file : Bytes) × Opens D.view (found_start file) result }
     ensures fine { IfOk result (λ store. store.has_failed ≡ false) }
 {
-    match Store::open(rt, rt.alloc(), disk, crew) {
+    match Store::open(at.calls.rt, at.calls.alloc, disk, at.calls.crew) {
         Ok(store) => Ok(store),
         Err(refused) => {
-            notes.record_failure(Source::File, refused.1.reason());
+            at.notes.record_failure(Source::File, refused.1.reason());
             Err(store_fault(refused.0))
         }
     }
 }
 
-// Like `open_store`, while another thread shows progress.
-fn open_watched<
-    R: AllocGlobal + Threads + Wait + Sync + Clock,
-    D: Disk + LastError + Drop,
-    E: Write + Send,
->(
-    rt: &R,
-    crew: Crew,
-    path: &str,
-    disk: D,
-    meter: &Meter,
-    reports: &mut Reports,
-    err: &mut E,
-) -> Result<Store<D>, SessionError>
-    requires crew { IsTrue (is_crew crew) }
-    ensures opens { (file : Bytes) × Opens D.view (found_start file) result }
-    ensures fine { IfOk result (λ store. store.has_failed ≡ false) }
-    ensures shows { Shows E.contents reports.old.progress.is_shown err.old
-        reports.new.progress.is_shown err.new }
-{
-    let Reports { notes, progress } = reports;
-    let find = move || -> Result<Store<D>, SessionError>
-        requires { IsTrue (is_crew crew) }
-        ensures { ((file : Bytes) × Opens D.view (found_start file) result)
-            × IfOk result (λ store. store.has_failed ≡ false) }
-    { open_store(rt, crew, disk, notes) };
-    run_watched(rt, meter, LongCall::Opening(path), progress, err, find)
-}
-
-// Opens the store in an existing file. `meter` counts the segments that are read and written.
-pub(crate) fn store_in_file<
-    'm,
-    R: AllocGlobal + Threads + Wait + Sync + Files + Clock,
-    E: Write + Send,
->(
-    rt: &R,
-    crew: Crew,
+// Opens the store in an existing file. If the session writes nothing, gives the lock up as soon as
+// the store is in memory, by a clone of the open file, which shares its lock.
+fn old_store<'a, R: AllocGlobal + Threads + Sync + Files + Clock, P: Observer>(
+    at: &Session<'a, R, P>,
     path: &str,
     writes: bool,
-    meter: &'m Meter,
-    reports: &mut Reports,
-    err: &mut E,
-) -> Result<Store<Metered<'m, FileDisk<R::File>>>, SessionError>
+) -> Result<Store<StoreDisk<'a, R::File, P>>, SessionError>
 where
-    R::File: LockFile,
-    requires crew { IsTrue (is_crew crew) }
-    ensures opens { (file : Bytes) ×
-        Opens ⟦<Metered<'m, FileDisk<R::File>> as Disk>⟧.view (found_start file) result }
+    R::File: StoreFile,
+    ensures opens { (file : Bytes) × Opens ⟦<StoreDisk<'a, R::File, P> as Disk>⟧.view (found_start
+        file) result }
     ensures fine { IfOk result (λ store. store.has_failed ≡ false) }
-    ensures shows { Shows E.contents reports.old.progress.is_shown err.old
-        reports.new.progress.is_shown err.new }
 {
-    match old_disk(rt, path, writes) {
-        Ok(disk) => {
-            let disk = Metered::new(disk, meter);
-            open_watched(rt, crew, path, disk, meter, reports, err)
-        }
-        Err(reason) => {
-            reports.notes.record_failure(Source::File, Some(reason));
-            Err(SessionError::Device)
-        }
+    let file = at.file_failed(open_locked(at, path, writes, false))?;
+    if writes {
+        let disk = at.file_failed(FileDisk::of_file(file))?;
+        return recover_store(at, at.disk(Base::File(disk)));
     }
+    let held = at.file_failed(file.try_clone())?;
+    let disk = at.file_failed(FileDisk::of_shared(file))?;
+    let store = recover_store(at, at.disk(Base::File(disk)))?;
+    at.file_failed(held.release())?;
+    Ok(store)
+}
+
+// Creates a store in a file. Does not touch the file if the settings are refused.
+fn new_store<'a, R: AllocGlobal + Threads + Sync + Files + Clock, P: Observer>(
+    at: &Session<'a, R, P>,
+    path: &str,
+) -> Result<Store<StoreDisk<'a, R::File, P>>, SessionError>
+where
+    R::File: StoreFile,
+    // The disk of a file is not honest, so whichever bytes the file had will do.
+    ensures opens { (file : Bytes) → Opens ⟦<StoreDisk<'a, R::File, P> as Disk>⟧.view (new_start
+        at.now.asked.now.settings file) result }
+    ensures fine { IfOk result (λ store. store.has_failed ≡ false) }
+{
+    at.asked.settings.check()?;
+    let file = at.file_failed(open_locked(at, path, true, true))?;
+    let disk = at.file_failed(FileDisk::of_zeros(file, disk_size(&at.asked.settings)))?;
+    create_store(at, at.disk(Base::File(disk)))
+}
+
+fn store_in_memory<'a, R: Files, P: Observer>(
+    at: &Session<'a, R, P>,
+) -> Result<Store<StoreDisk<'a, R::File, P>>, SessionError>
+where
+    R::File: StoreFile,
+    ensures opens { Opens ⟦<StoreDisk<'a, R::File, P> as Disk>⟧.view
+        (new_start at.now.asked.now.settings (replicate (disk_size at.now.asked.now.settings) 0))
+        result }
+    ensures honest { IsHonestStore ⟦<StoreDisk<'a, R::File, P> as Disk>⟧.view result }
+    ensures fine { IfOk result (λ store. store.has_failed ≡ false) }
+{
+    at.asked.settings.check()?;
+    let len = disk_size(&at.asked.settings) as usize;
+    let disk = MemDisk::new(at.calls.alloc, len)?;
+    create_store(at, at.disk(Base::Memory(disk)))
+}
+
+// Opens the store in the file.
+fn store_in_file<'a, R: AllocGlobal + Threads + Sync + Files + Clock, P: Observer>(
+    at: &Session<'a, R, P>,
+    path: &str,
+    writes: bool,
+) -> Result<Store<StoreDisk<'a, R::File, P>>, SessionError>
+where
+    R::File: StoreFile,
+    // A file has some bytes, whichever they are.
+    ensures opens { (start : Start) × IsStartBy at.now.asked.now.settings (Some path.now)
+        at.now.asked.now.create None start
+        × Opens ⟦<StoreDisk<'a, R::File, P> as Disk>⟧.view start result }
+    ensures fine { IfOk result (λ store. store.has_failed ≡ false) }
+{
+    if at.asked.create {
+        new_store(at, path)
+    } else {
+        old_store(at, path, writes)
+    }
+}
+
+/// Opens the store of the session. An existing file is locked exclusively if the session `writes`.
+pub(crate) fn open_store<'a, R: AllocGlobal + Threads + Sync + Files + Clock, P: Observer>(
+    at: &Session<'a, R, P>,
+    writes: bool,
+) -> Result<Store<StoreDisk<'a, R::File, P>>, SessionError>
+where
+    R::File: StoreFile,
+    ensures opens { IsOpening ⟦<StoreDisk<'a, R::File, P> as Disk>⟧.view (request_of
+        at.now.asked.now) result }
+    ensures fine { IfOk result (λ store. store.has_failed ≡ false) }
+{
+    let Some(path) = &at.asked.disk else {
+        return store_in_memory(at);
+    };
+    at.report.call_begun(LongCall::Opening);
+    let opened = store_in_file(at, path, writes);
+    at.report.call_ended();
+    opened
 }

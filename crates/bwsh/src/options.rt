@@ -10,6 +10,7 @@ mod help_text;
 pub use asked::{Mode, Options};
 use clap::{Arg, ArgAction, ArgMatches, Command, Error, value_parser};
 use engine::Crew;
+pub use help_text::STREAM_LINES;
 use keys::Settings;
 use std::alloc::{AllocError, Global};
 
@@ -64,6 +65,7 @@ fn add_work<'a>(alloc: Global, command: Command<'a>) -> Result<Command<'a>, Allo
         .arg(number(alloc, "workers", "1", help_text::WORKERS))?
         .arg(number(alloc, "grain", "64", help_text::GRAIN))?
         .arg(number(alloc, "tidy", "0", help_text::TIDY))?
+        .arg(number(alloc, "wait", "0", help_text::WAIT))?
         .arg(path(alloc, "disk", help_text::DISK))?
         .arg(path(alloc, "copy-to", help_text::COPY_TO))
 }
@@ -164,6 +166,7 @@ fn mode(matches: &ArgMatches<'_>) -> Mode
         clean_when_full: flag_at(matches, "clean-when-full"),
         stream: flag_at(matches, "stream"),
         tidy: number_at(matches, "tidy"),
+        wait: number_at(matches, "wait"),
         progress: flag_at(matches, "progress"),
     }
 }

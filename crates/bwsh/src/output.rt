@@ -1,32 +1,15 @@
 //! Writing answers to the output.
-ghost use Rattle.std.specs.Prelude.{◌≡◌, ◌⊎◌, ℕ, [], ◌∷◌, ◌++◌, map, Ok, Err, IfOk, OnOk, OnErr, IsOkUnless, take, length, ◌≤◌};
-ghost use Rattle.std.specs.List.{flat_map};
+ghost use Rattle.std.specs.Prelude.{◌≡◌, ◌⊎◌, [], ◌++◌, IfOk, OnOk, OnErr, IsOkUnless, take, length, ◌≤◌};
+ghost use Rattle.std.specs.Bool.{MatchBool};
 ghost use Rattle.std.specs.Io.KnownBytes.{Appends, Keeps};
-ghost use Rattle.keys.specs.Bytes.{Bytes};
-ghost use Rattle.engine.specs.Plays.{answer_of};
-ghost use Rattle.bwsh.specs.Session.{BeginsWith, Prints};
-ghost use Rattle.bwsh.specs.Shown.{shown_reply, shown_flushed, shown_cleaned, shown_upgraded, shown_report, shown_numbers, shown_answer};
+ghost use Rattle.bwsh.specs.Output.{IsBegun, Puts};
 
 use crate::session::SessionError;
-use crate::show::{
-    StoreNumbers, show_cleaned, show_flushed, show_numbers, show_reply, show_report, show_upgraded,
-};
-use engine::{Answer, Report};
-use keys::Reply;
-use std::alloc::{AllocError, Global};
+use std::alloc::Global;
 use std::io::{ErrorKind, Write};
 
-fn show_replies(replies: &[Reply<Global>], lines: &mut Vec<u8>) -> Result<(), AllocError>
-    ensures ok { OnOk result
-        (lines.new.items ≡ lines.old.items ++ flat_map shown_reply replies.now) }
-    ensures err { OnErr result ((shown : ℕ) ×
-        (lines.new.items ≡ lines.old.items ++ flat_map shown_reply (take shown replies.now))) }
-{
-    for reply in replies {
-        show_reply(reply, lines)?;
-    }
-    Ok(())
-}
+// At how many bytes a buffer is written out.
+const FULL: usize = 65_536;
 
 // Makes one write call. Returns how many bytes were written, or 0 if the call was interrupted.
 fn write_some<O: Write>(bytes: &[u8], out: &mut O) -> Result<usize, SessionError>
@@ -47,8 +30,7 @@ fn write_some<O: Write>(bytes: &[u8], out: &mut O) -> Result<usize, SessionError
 // promise.
 pub(crate) fn write_bytes<O: Write>(bytes: &[u8], out: &mut O) -> Result<(), SessionError>
     ensures ok { OnOk result (Appends (O.contents out.old) (O.contents out.new) bytes.now) }
-    ensures err { OnErr result ((front : Bytes) × BeginsWith bytes.now front
-        × Appends (O.contents out.old) (O.contents out.new) front) }
+    ensures err { OnErr result (IsBegun (O.contents out.old) (O.contents out.new) bytes.now) }
     ensures device { IsOkUnless result SessionError.Device }
 {
     let mut rest = bytes;
@@ -62,115 +44,54 @@ pub(crate) fn write_bytes<O: Write>(bytes: &[u8], out: &mut O) -> Result<(), Ses
     Err(SessionError::Device)
 }
 
-// Writes the replies. If an allocation fails, the replies formatted before are written. Here and
-// below, `lines` is a reusable buffer.
-fn write_replies<O: Write>(
-    replies: &[Reply<Global>],
-    lines: &mut Vec<u8>,
-    out: &mut O,
-) -> Result<(), SessionError>
-    ensures { Prints (O.contents out.old) (O.contents out.new)
-        (map shown_reply replies.now) (Ok tt) result }
-{
-    lines.clear();
-    let shown = show_replies(replies, lines);
-    write_bytes(lines, out)?;
-    Ok(shown?)
+/// The text of an answer that is not written yet. Adding to it fails only if the output does: if an
+/// allocation fails, the bytes are written out at once.
+#[derive(Drop)]
+pub struct Buffer {
+    text: Vec<u8>,
 }
 
-fn write_flushed<O: Write>(
-    sequence: u64,
-    lines: &mut Vec<u8>,
-    out: &mut O,
-) -> Result<(), SessionError>
-    ensures { Prints (O.contents out.old) (O.contents out.new)
-        (shown_flushed sequence ∷ []) (Ok tt) result }
-{
-    lines.clear();
-    show_flushed(sequence, lines)?;
-    write_bytes(lines, out)
-}
-
-pub(crate) fn write_cleaned<O: Write>(
-    head: u64,
-    lines: &mut Vec<u8>,
-    out: &mut O,
-) -> Result<(), SessionError>
-    ensures { Prints (O.contents out.old) (O.contents out.new)
-        (shown_cleaned head ∷ []) (Ok tt) result }
-{
-    lines.clear();
-    show_cleaned(head, lines)?;
-    write_bytes(lines, out)
-}
-
-fn write_upgraded<O: Write>(
-    sequence: u64,
-    lines: &mut Vec<u8>,
-    out: &mut O,
-) -> Result<(), SessionError>
-    ensures { Prints (O.contents out.old) (O.contents out.new)
-        (shown_upgraded sequence ∷ []) (Ok tt) result }
-{
-    lines.clear();
-    show_upgraded(sequence, lines)?;
-    write_bytes(lines, out)
-}
-
-pub(crate) fn write_report<O: Write>(
-    report: &Report,
-    lines: &mut Vec<u8>,
-    out: &mut O,
-) -> Result<(), SessionError>
-    ensures { Prints (O.contents out.old) (O.contents out.new)
-        (shown_report report.now ∷ []) (Ok tt) result }
-{
-    lines.clear();
-    show_report(report, lines)?;
-    write_bytes(lines, out)
-}
-
-pub(crate) fn write_numbers<O: Write>(
-    numbers: &StoreNumbers,
-    lines: &mut Vec<u8>,
-    out: &mut O,
-) -> Result<(), SessionError>
-    ensures { Prints (O.contents out.old) (O.contents out.new)
-        (shown_numbers numbers.now ∷ []) (Ok tt) result }
-{
-    lines.clear();
-    show_numbers(numbers, lines)?;
-    write_bytes(lines, out)
-}
-
-fn write_answer<O: Write>(
-    answer: &Answer,
-    lines: &mut Vec<u8>,
-    out: &mut O,
-) -> Result<(), SessionError>
-    ensures { Prints (O.contents out.old) (O.contents out.new)
-        (shown_answer (answer_of answer.now)) (Ok tt) result }
-{
-    match answer {
-        Answer::Replies(replies) => write_replies(replies, lines, out),
-        Answer::Flushed(sequence) => write_flushed(*sequence, lines, out),
-        Answer::Cleaned(head) => write_cleaned(*head, lines, out),
-        Answer::Upgraded(sequence) => write_upgraded(*sequence, lines, out),
+impl Buffer {
+    pub fn new(alloc: Global) -> Self
+        ensures { result.text.items ≡ [] }
+    {
+        Buffer {
+            text: Vec::new(alloc),
+        }
     }
-}
 
-pub(crate) fn write_answers<O: Write>(
-    answers: &[Answer],
-    lines: &mut Vec<u8>,
-    out: &mut O,
-) -> Result<(), SessionError>
-    ensures { Prints (O.contents out.old) (O.contents out.new)
-        (flat_map shown_answer (map answer_of answers.now)) (Ok tt) result }
-{
-    for answer in answers {
-        write_answer(answer, lines, out)?;
+    // Adds these bytes to the text if it is not full. Returns whether it has them.
+    fn keep(&mut self, bytes: &[u8]) -> bool
+        ensures { MatchBool result
+            (self.new.text.items ≡ self.old.text.items ++ bytes.now)
+            (self.new.text.items ≡ self.old.text.items) }
+    {
+        if self.text.len() >= FULL {
+            return false;
+        }
+        self.text.extend_from_slice(bytes).is_ok()
     }
-    Ok(())
+
+    /// Adds these bytes to the text.
+    pub fn put<O: Write>(&mut self, bytes: &[u8], out: &mut O) -> Result<(), SessionError>
+        ensures { Puts O.contents self.old out.old self.new out.new bytes.now result }
+    {
+        if self.keep(bytes) {
+            return Ok(());
+        }
+        self.write(out)?;
+        write_bytes(bytes, out)
+    }
+
+    /// Writes the text out.
+    pub fn write<O: Write>(&mut self, out: &mut O) -> Result<(), SessionError>
+        ensures text { OnOk result (self.new.text.items ≡ []) }
+        ensures puts { Puts O.contents self.old out.old self.new out.new [] result }
+    {
+        write_bytes(&self.text, out)?;
+        self.text.clear();
+        Ok(())
+    }
 }
 
 // Flushes `out`. Returns `done`, or `Device` if flushing fails.

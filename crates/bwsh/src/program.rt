@@ -3,13 +3,13 @@ ghost use Rattle.std.specs.Prelude.{◌≡◌, ◌↔◌, ◌⊎◌, List, map, 
 ghost use Rattle.std.specs.String.{string_bytes};
 ghost use Rattle.std.specs.IoError.{error_kind};
 ghost use Rattle.keys.specs.Bytes.{Bytes};
-ghost use Rattle.bwsh.specs.Session.{unread_text, IsBegun, IsQuiet, EndsReported};
+ghost use Rattle.bwsh.specs.Output.{IsBegun};
+ghost use Rattle.bwsh.specs.Session.{unread_text, IsQuiet, EndsReported};
 
+use crate::disk::StoreFile;
 use crate::session::{session, unread_words};
-use engine::LockFile;
 use std::io::{ErrorKind, Read, Write};
 use std::rt::{Env, Files};
-use std::sync::Wait;
 use std::thread::Threads;
 use std::time::Clock;
 use std::{env, io};
@@ -29,14 +29,15 @@ fn words_after_name(words: &[String]) -> &[String]
 
 /// Runs the session of a command line, whose first word is the program's name, and returns the exit
 /// status. If `words` is an error, `unread_words` reports it.
-pub fn run_words<
-    R: AllocGlobal + Threads + Wait + Sync + Files + Clock,
-    I: Read,
-    O: Write,
-    E: Write + Send,
->(rt: &R, words: io::Result<Vec<String>>, input: &mut I, out: &mut O, err: &mut E) -> u8
+pub fn run_words<R: AllocGlobal + Threads + Sync + Files + Clock, I: Read, O: Write, E: Write>(
+    rt: &R,
+    words: io::Result<Vec<String>>,
+    input: &mut I,
+    out: &mut O,
+    err: &mut E,
+) -> u8
 where
-    R::File: LockFile,
+    R::File: StoreFile,
     ensures read { IfOk words (λ all. EndsReported (map string_bytes (drop 1 all.items))
         (I.remaining input.old) (O.contents out.old) (O.contents out.new)
         (E.contents err.old) (E.contents err.new)
@@ -58,13 +59,13 @@ where
 /// says that this is the session of some words, or 2 or 4 with nothing read or answered: the
 /// standard library does not specify which words the system passes.
 pub fn run_program<
-    R: Env + AllocGlobal + Threads + Wait + Sync + Files + Clock,
+    R: Env + AllocGlobal + Threads + Sync + Files + Clock,
     I: Read,
     O: Write,
-    E: Write + Send,
+    E: Write,
 >(rt: &R, input: &mut I, out: &mut O, err: &mut E) -> u8
 where
-    R::File: LockFile,
+    R::File: StoreFile,
     ensures ends { ((words : List Bytes) × EndsReported words
         (I.remaining input.old) (O.contents out.old) (O.contents out.new)
         (E.contents err.old) (E.contents err.new)

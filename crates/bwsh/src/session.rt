@@ -1,54 +1,52 @@
 //! A session: runs a batch file, or a stream of lines, on the store that the command line names.
-ghost use Rattle.std.specs.Prelude.{false, true, IsTrue, ◌≡◌, ◌≢◌, ◌↔◌, ◌⊎◌, [], ◌∷◌, ◌++◌, map, None, IfSome, Result, Ok, Err, IsOk, IfOk, OnOk, OnErr, MatchResult, Option};
-ghost use Rattle.std.specs.List.{list_any};
-ghost use Rattle.crew.specs.Crew.{is_crew};
+ghost use Rattle.std.specs.Prelude.{List, false, true, IsTrue, ◌≡◌, ◌≢◌, ◌↔◌, ◌⊎◌, [], ◌∷◌, ◌++◌, map, None, Some, IfSome, Result, Ok, Err, IsOk, IfOk, IfErr, OnOk, OnErr, Option};
 ghost use Rattle.std.specs.String.{string_bytes};
 ghost use Rattle.std.specs.IoError.{error_kind};
-ghost use Rattle.std.specs.Io.KnownBytes.{Appends};
+ghost use Rattle.std.specs.Io.KnownBytes.{Appends, Keeps};
 ghost use Rattle.clap.specs.Words.{kind_of};
 ghost use Rattle.clap.specs.declared.error.kind.ErrorKind.TheVariants.{DisplayHelp, OutOfMemory};
 ghost use Rattle.keys.specs.Bytes.{Bytes};
+ghost use Rattle.keys.specs.Lists.{flat};
 ghost use Rattle.keys.specs.declared.fault.Fault.TheVariants.{NoMemory};
 ghost use Rattle.keys.specs.declared.fault.Fault.TheVariants as faults;
-ghost use Rattle.bwsh.specs.declared.session.SessionError.{SessionError};
+ghost use Rattle.bwsh.specs.declared.line.Line.{Line};
+ghost use Rattle.bwsh.specs.declared.order.Order.{Order};
 ghost use Rattle.bwsh.specs.declared.session.SessionError.TheVariants.{Device};
 ghost use Rattle.bwsh.specs.declared.session.SessionError.TheVariants as errors;
-ghost use Rattle.bwsh.specs.BatchFile.{parse_text, first_bad, orders_of, with_numbers, writes};
-ghost use Rattle.bwsh.specs.Options.{Request, AsksFor, AsksForText, AsksToExplain, AsksToStream, AreRefused, request_of};
-ghost use Rattle.bwsh.specs.Session.{status_of, status_of_end, error_text, unread_text, version_text, error_of_parse, printed_by, orders_run, BeginsWith, IsBegun, IsReportedWith, IsReadError, IsForWords, IsQuiet, Prints, PrintsOneText, Reads, Shows, ShowsOnly, Start, IsStart, IsShown, Answers, IsAnswered, EndsBy, EndsReported};
+ghost use Rattle.bwsh.specs.BatchFile.{AreRead, first_bad, parse_text};
+ghost use Rattle.bwsh.specs.Options.{Request, AsksFor, AsksForReports, AsksForText, AsksToExplain, AsksToStream, AreRefused, reports, request_of};
+ghost use Rattle.bwsh.specs.Output.{BeginsWith, IsBegun};
+ghost use Rattle.bwsh.specs.Session.{Answers, EndsBy, EndsReported, IsForWords, IsQuiet, IsReportedWith, IsShown, IsStart, OrdersAll, Prints, PrintsOneText, Reads, RunsRead, Start, device_line, end_from, error_text, lines_from, session_orders, status_of, status_of_end, unread_text, version_text};
+ghost use Rattle.bwsh.specs.Source.{IsToCome};
 
-use crate::batch_file::{Order, ParseError, parse};
-use crate::copying::prepare_copy;
-use crate::explain::explanation;
+use crate::asks::answer;
+use crate::context::Session;
+use crate::copying::{prepare_copy, write_copy};
+use crate::disk::{LastError, StoreFile};
 use crate::line::Why;
-use crate::meter::Meter;
 use crate::notes::{Notes, Source};
-use crate::opening::{new_store_in_file, store_in_file, store_in_memory};
+use crate::opening::open_store;
 use crate::options::{Options, options};
+use crate::order::Order;
 use crate::output::{check_open, flush, write_bytes};
-use crate::progress::{Progress, Reports};
-use crate::running::run_opened;
-use crate::stream::run_stream;
-use engine::{BadCrew, LockFile};
+use crate::progress::{Observer, Reporter, Silent};
+use crate::show::print_error;
+use crate::source as lines;
+use crate::text::check;
+use engine::{BadCrew, Disk, LockFile, Store};
 use keys::Fault;
 use std::alloc::{AllocError, AllocFailed, Global};
-use std::fmt::{InlineText, Write as _};
-use std::io::{ErrorKind, Read, Write};
+use std::io::{BufRead, BufReader, ErrorKind, Read, Write};
 use std::rt::Files;
-use std::sync::Wait;
 use std::thread::Threads;
 use std::time::Clock;
 use std::{fmt, io};
-
-// The buffer size in bytes for the line of an error. Errors of the command line do not use the
-// buffer.
-const LINE: usize = 64;
 
 const VERSION: &[u8] = b"bwsh 0.1.0\n";
 
 const UNREAD: &[u8] = b"error: a word of the command line is no text\n";
 
-/// Why a session ends early. `Display` writes the lines for standard error.
+/// Why a session ends early, or why a stream refuses an order. `Display` writes the report of it.
 #[derive(Drop)]
 pub enum SessionError {
     /// The command line is refused. Nothing was read.
@@ -118,17 +116,6 @@ impl From<BadCrew> for SessionError {
     }
 }
 
-impl From<ParseError> for SessionError {
-    ghost from_gives = { λ fault error. error ≡ error_of_parse fault };
-
-    fn from(fault: ParseError) -> SessionError {
-        match fault {
-            ParseError::Bad { line, why } => SessionError::Bad { line, why },
-            ParseError::Memory => SessionError::Fault(Fault::NoMemory),
-        }
-    }
-}
-
 pub(crate) fn read_fault(error: io::Error) -> SessionError
     ensures memory { (result ≡ SessionError.Fault Fault.NoMemory)
         ↔ (error_kind error ≡ ErrorKind.OutOfMemory) }
@@ -140,143 +127,173 @@ pub(crate) fn read_fault(error: io::Error) -> SessionError
     }
 }
 
-// Reads and parses all of the input. If `numbers`, appends `Order::Numbers` to the orders.
-fn read_orders<I: Read>(
-    alloc: Global,
-    input: &mut I,
-    numbers: bool,
-    notes: &mut Notes,
-) -> Result<Vec<Order>, SessionError>
-    ensures { (text : Bytes) × IfSome (I.remaining input.old) (λ known. text ≡ known)
-        × MatchResult result
-        (λ orders. (first_bad 1 (parse_text text) ≡ None)
-        × (orders.items ≡ with_numbers numbers (orders_of [] (parse_text text))))
-        (IsReadError (first_bad 1 (parse_text text))) }
+// Reads all of the input.
+fn read_text<I: Read>(notes: &Notes<'_>, input: &mut I) -> Result<Vec<u8>, SessionError>
+    ensures read { IfOk result (λ text. IfSome (I.remaining input.old)
+        (λ known. text.items ≡ known)) }
+    ensures either { IfErr result
+        (λ early. (early ≡ SessionError.Fault Fault.NoMemory) ⊎ (early ≡ SessionError.Device)) }
 {
-    let mut text = Vec::new(alloc);
-    if let Err(error) = input.read_to_end(&mut text) {
-        notes.record_failure(Source::Input, Some(error));
-        return Err(read_fault(error));
+    let mut text = Vec::new(notes.alloc);
+    match input.read_to_end(&mut text) {
+        Ok(_) => Ok(text),
+        Err(error) => {
+            notes.record_failure(Source::Input, Some(error));
+            Err(read_fault(error))
+        }
     }
-    let mut orders = parse(alloc, &text)?;
-    notes.keep_text(text);
-    if numbers {
-        orders.push(Order::Numbers)?;
-    }
-    Ok(orders)
 }
 
-fn has_writing(orders: &[Order]) -> bool
-    ensures { result ≡ list_any writes orders.now }
+// Fails if `input` is closed, which a read of no bytes shows. If `input` were closed, the next file
+// opened could get its descriptor, and be read as the input.
+fn check_input_open<I: Read>(notes: &Notes<'_>, input: &mut I) -> Result<(), SessionError>
+    ensures bytes { Keeps (I.remaining input.old) (I.remaining input.new) }
+    ensures either { IfErr result
+        (λ early. (early ≡ SessionError.Fault Fault.NoMemory) ⊎ (early ≡ SessionError.Device)) }
 {
-    orders.iter().any(|order| order.writes())
+    match input.read(&mut []) {
+        Ok(_) => Ok(()),
+        Err(error) if error.kind() == ErrorKind::Interrupted => Ok(()),
+        Err(error) => {
+            notes.record_failure(Source::Input, Some(error));
+            Err(read_fault(error))
+        }
+    }
 }
 
-fn run_request<R: AllocGlobal + Threads + Wait + Sync + Files + Clock, O: Write, E: Write + Send>(
-    rt: &R,
-    request: &Options,
-    orders: &[Order],
+// Answers the orders of the source, one after the other.
+fn run_orders<R: Threads + Sync + Files + Clock, P: Observer, D: Disk, I: BufRead, O: Write>(
+    at: &Session<'_, R, P>,
+    store: &mut Store<D>,
+    source: &mut lines::Source<I>,
     out: &mut O,
-    reports: &mut Reports,
-    err: &mut E,
 ) -> Result<(), SessionError>
 where
     R::File: LockFile,
-    requires { IsTrue (is_crew request.now.crew) }
-    ensures runs { (known : Option Bytes) → (text : Bytes) →
-        IfSome known (λ bytes. text ≡ bytes) → first_bad 1 (parse_text text) ≡ None →
-        orders.now ≡ with_numbers request.now.mode.stat (orders_of [] (parse_text text)) →
-        Answers (request_of request.now) known (O.contents out.old) (O.contents out.new) result }
-    ensures shows { Shows E.contents reports.old.progress.is_shown err.old
-        reports.new.progress.is_shown err.new }
+    requires fine { store.old.has_failed ≡ false }
+    ensures { (orders : List Order) × IsToCome I.remaining source.old orders
+        × OrdersAll D.view O.contents at.now.calls.mode orders store.old out.old result store.new
+        out.new }
 {
-    let (crew, mode) = (request.crew, request.mode);
-    let copy = prepare_copy(rt, request, &mut reports.notes)?;
-    reports.progress.show_opening(&request.disk, err);
-    let meter = Meter::new();
-    match &request.disk {
-        None => {
-            let opened = store_in_memory(rt.alloc(), request.settings, &mut reports.notes);
-            run_opened(rt, crew, mode, copy, opened, orders, out, reports, err)
-        }
-        Some(path) if request.create => {
-            let opened = new_store_in_file(rt, path, request.settings, &mut reports.notes);
-            run_opened(rt, crew, mode, copy, opened, orders, out, reports, err)
-        }
-        Some(path) => {
-            let writes = has_writing(orders);
-            let opened = store_in_file(rt, crew, path, writes, &meter, reports, err);
-            run_opened(rt, crew, mode, copy, opened, orders, out, reports, err)
-        }
+    for _ in 0..u64::MAX {
+        let Some(order) = source.next(at)? else {
+            return Ok(());
+        };
+        answer(at, store, &order, out)?;
+        at.report.order_done(matches!(order, Order::Batch(_)));
     }
+    // Reached only after 2^64 - 1 orders.
+    Err(SessionError::Device)
 }
 
-fn run_file<
-    R: AllocGlobal + Threads + Wait + Sync + Files + Clock,
-    I: Read,
+// Opens the files and answers the orders of `input`. If no error ends them, writes the copy.
+fn run_source<
+    R: AllocGlobal + Threads + Sync + Files + Clock,
+    P: Observer,
+    I: BufRead + Drop,
     O: Write,
-    E: Write + Send,
->(
-    rt: &R,
-    request: &Options,
-    input: &mut I,
-    out: &mut O,
-    reports: &mut Reports,
-    err: &mut E,
-) -> Result<(), SessionError>
+>(at: &Session<'_, R, P>, input: I, writes: bool, out: &mut O) -> Result<(), SessionError>
 where
-    R::File: LockFile,
-    ensures runs { Answers (request_of request.now) (I.remaining input.old)
-        (O.contents out.old) (O.contents out.new) result }
-    ensures shows { Shows E.contents reports.old.progress.is_shown err.old
-        reports.new.progress.is_shown err.new }
+    R::File: StoreFile,
+    requires mode { at.now.calls.mode ≡ at.now.asked.now.mode }
+    requires crew { at.now.calls.crew ≡ at.now.asked.now.crew }
+    ensures { RunsRead (request_of at.now.asked.now) (I.remaining input) (O.contents out.old)
+        (O.contents out.new) result }
 {
-    let orders = read_orders(rt.alloc(), input, request.mode.stat, &mut reports.notes)?;
-    check_open(out)?;
-    request.crew.check()?;
-    run_request(rt, request, &orders, out, reports, err)
+    let last = at.calls.mode.stat.then_some(Order::Numbers);
+    let copy = prepare_copy(at)?;
+    let mut store = open_store(at, writes)?;
+    at.notes.store_opened(store.settings());
+    let mut source = lines::Source::new(at.calls.alloc, input, at.calls.mode.stream, last);
+    let done = run_orders(at, &mut store, &mut source, out);
+    if done.is_err() {
+        at.notes.record_failure(Source::File, store.disk().reason());
+    }
+    flush(done, out)?;
+    write_copy(at, &store, copy)
 }
 
-/// Runs the session that `request` asks for, and writes the answers to `out`. After an error, `out`
-/// has the answers of the orders before the error; if an allocation or a device failed, some prefix
-/// of all answers.
+// Runs a session whose text is read and checked before anything runs.
+fn run_text<R: AllocGlobal + Threads + Sync + Files + Clock, P: Observer, I: Read, O: Write>(
+    rt: &R,
+    notes: &Notes<'_>,
+    report: &P,
+    input: &mut I,
+    out: &mut O,
+) -> Result<(), SessionError>
+where
+    R::File: StoreFile,
+    requires { notes.now.asked.now.mode.stream ≡ false }
+    ensures { Answers (request_of notes.now.asked.now) (I.remaining input.old)
+        (O.contents out.old) (O.contents out.new) result }
+{
+    let text = read_text(notes, input)?;
+    let checked = check(notes.alloc, &text)?;
+    check_open(out)?;
+    let at = Session::new(rt, notes, report)?;
+    report.orders_counted(checked.orders.saturating_add(u64::from(at.calls.mode.stat)));
+    run_source(&at, text.as_slice(), checked.writes, out)
+}
+
+// Runs a session that answers each order before it reads the next line.
+fn run_stream<R: AllocGlobal + Threads + Sync + Files + Clock, P: Observer, I: Read, O: Write>(
+    rt: &R,
+    notes: &Notes<'_>,
+    report: &P,
+    input: &mut I,
+    out: &mut O,
+) -> Result<(), SessionError>
+where
+    R::File: StoreFile,
+    requires { notes.now.asked.now.mode.stream ≡ true }
+    ensures { Answers (request_of notes.now.asked.now) (I.remaining input.old)
+        (O.contents out.old) (O.contents out.new) result }
+{
+    check_open(out)?;
+    let at = Session::new(rt, notes, report)?;
+    check_input_open(notes, input)?;
+    match BufReader::new(notes.alloc, input) {
+        Ok(reader) => run_source(&at, reader, true, out),
+        Err(error) => Err(read_fault(error)),
+    }
+}
+
+/// Runs the session that `notes.asked` asks for, and writes the answers to `out`.
 ///
-/// Errors are found in this order: a bad line, a closed output, a crew out of range, errors of the
-/// copy's settings and file, errors of the store's settings and file, faults of the orders, faults
-/// of the copy. A stream finds a bad line only when it reads the line. If flushing `out` fails,
-/// this error replaces an earlier one.
+/// Without `--stream`, the session ends at the first fault, and `out` has the answers of the orders
+/// before it; if a device failed, some prefix of all answers. Errors are found in this order: a bad
+/// line, a closed output, a crew out of range, errors of the copy's settings and file, errors of
+/// the store's settings and file, faults of the orders, faults of the copy. If flushing `out`
+/// fails, this error replaces an earlier one.
+///
+/// With `--stream`, an order that is refused is answered by one line that begins with `fault`, and
+/// a bad line by one that begins with `line`. The store then holds the pairs that it held, and the
+/// stream goes on. Cleans that `--clean-when-full` adds are answered like the client's own. The
+/// session ends with an error only if it cannot start (a crew or settings out of range, a file, an
+/// allocation), if the store's disk, the input or the output fails, or if the copy at its end does.
+/// If the store's disk failed, the last line is `fault 9 Device`.
 ///
 /// The store's file is locked exclusively if an order writes, if the file is created, or for a
-/// stream; otherwise the file is shared and only read. A file that cannot be opened or locked, or,
-/// without `--create`, that holds no store, is left as it was. If the length of a created file
-/// cannot be set, `FileDisk::of_zeros` says what it holds; after a later failure, its old contents
-/// are lost.
-///
-/// `reports` records what an explanation needs, and shows progress on `err`.
-pub fn run<
-    R: AllocGlobal + Threads + Wait + Sync + Files + Clock,
-    I: Read,
-    O: Write,
-    E: Write + Send,
->(
+/// stream. Otherwise the lock is shared, the file is only read, and the lock is given up as soon as
+/// the store is in memory. A file that cannot be opened or locked, or, without `--create`, that
+/// holds no store, is left as it was. If the length of a created file cannot be set,
+/// `FileDisk::of_zeros` says what the file holds; after a later failure, its old contents are lost.
+fn run<R: AllocGlobal + Threads + Sync + Files + Clock, P: Observer, I: Read, O: Write>(
     rt: &R,
-    request: &Options,
+    notes: &Notes<'_>,
+    report: &P,
     input: &mut I,
     out: &mut O,
-    reports: &mut Reports,
-    err: &mut E,
 ) -> Result<(), SessionError>
 where
-    R::File: LockFile,
-    ensures runs { IsAnswered (request_of request.now) (I.remaining input.old)
+    R::File: StoreFile,
+    ensures { Answers (request_of notes.now.asked.now) (I.remaining input.old)
         (O.contents out.old) (O.contents out.new) result }
-    ensures shows { Shows E.contents reports.old.progress.is_shown err.old
-        reports.new.progress.is_shown err.new }
 {
-    if request.mode.stream {
-        return run_stream(rt, request, input, out, reports, err);
+    if notes.asked.mode.stream {
+        return run_stream(rt, notes, report, input, out);
     }
-    run_file(rt, request, input, out, reports, err)
+    run_text(rt, notes, report, input, out)
 }
 
 fn show_help<O: Write>(alloc: Global, help: &clap::Error, out: &mut O) -> Result<(), SessionError>
@@ -288,7 +305,8 @@ fn show_help<O: Write>(alloc: Global, help: &clap::Error, out: &mut O) -> Result
 }
 
 fn show_version<O: Write>(out: &mut O) -> Result<(), SessionError>
-    ensures { Prints (O.contents out.old) (O.contents out.new) (version_text ∷ []) (Ok tt) result }
+    ensures { Prints false (O.contents out.old) (O.contents out.new) (version_text ∷ []) (Ok tt)
+        result }
 {
     let done = write_bytes(VERSION, out);
     flush(done, out)
@@ -313,14 +331,38 @@ fn answer_words<O: Write>(
     }
 }
 
-// Prints the version, or runs the session. With `--explain`, `more` gets the explanation of an
-// error.
-fn execute_options<
-    R: AllocGlobal + Threads + Wait + Sync + Files + Clock,
-    I: Read,
-    O: Write,
-    E: Write + Send,
->(
+// Runs the session, which reports to `err` while it runs if it is asked to. Without an open `err`,
+// nothing is reported.
+fn run_reported<'a, R: AllocGlobal + Threads + Sync + Files + Clock, I: Read, O: Write, E: Write>(
+    rt: &'a R,
+    notes: &'a Notes<'a>,
+    input: &mut I,
+    out: &mut O,
+    err: &mut E,
+) -> Result<(), SessionError>
+where
+    R::File: StoreFile,
+    ensures answers { Answers (request_of notes.now.asked.now) (I.remaining input.old)
+        (O.contents out.old) (O.contents out.new) result }
+    ensures quiet { reports notes.now.asked.now.mode ≡ false → err.new ≡ err.old }
+{
+    let mode = notes.asked.mode;
+    if !mode.progress && !(mode.stream && mode.explain) {
+        return run(rt, notes, &Silent, input, out);
+    }
+    match Reporter::begin(rt, notes.asked, err) {
+        Some(reporter) => {
+            let done = run(rt, notes, &reporter, input, out);
+            reporter.end();
+            done
+        }
+        None => run(rt, notes, &Silent, input, out),
+    }
+}
+
+// Prints the version, or runs the session. With `--explain`, `more` gets what `Notes::last_words`
+// returns.
+fn execute_options<R: AllocGlobal + Threads + Sync + Files + Clock, I: Read, O: Write, E: Write>(
     rt: &R,
     request: &Options,
     input: &mut I,
@@ -329,37 +371,29 @@ fn execute_options<
     err: &mut E,
 ) -> Result<(), SessionError>
 where
-    R::File: LockFile,
+    R::File: StoreFile,
     requires { more.old.items ≡ [] }
     ensures version { request.now.mode.version ≡ true → (input.new ≡ input.old)
-        × Prints (O.contents out.old) (O.contents out.new) (version_text ∷ []) (Ok tt) result }
+        × Prints false (O.contents out.old) (O.contents out.new) (version_text ∷ []) (Ok tt) result }
     ensures answers { request.now.mode.version ≡ false →
-        IsAnswered (request_of request.now) (I.remaining input.old)
+        Answers (request_of request.now) (I.remaining input.old)
         (O.contents out.old) (O.contents out.new) result }
     ensures more { request.now.mode.explain ≡ false → more.new.items ≡ [] }
-    ensures shows { ShowsOnly E.contents request.now.mode.progress err.old err.new }
+    ensures quiet { reports request.now.mode ≡ false → err.new ≡ err.old }
 {
-    if request.mode.version {
+    let mode = request.mode;
+    if mode.version {
         return show_version(out);
     }
-    let mut reports = Reports {
-        progress: Progress::begin(rt, request.mode.progress, err),
-        notes: Notes::new(rt.alloc(), request.mode.explain),
-    };
-    let done = run(rt, request, input, out, &mut reports, err);
-    reports.progress.end(err);
-    if request.mode.explain {
-        *more = explanation(rt.alloc(), request, &mut reports.notes, &done).into_bytes();
+    let notes = Notes::new(rt.alloc(), request);
+    let done = run_reported(rt, &notes, input, out, err);
+    if mode.explain {
+        *more = notes.last_words(&done).into_bytes();
     }
     done
 }
 
-fn execute<
-    R: AllocGlobal + Threads + Wait + Sync + Files + Clock,
-    I: Read,
-    O: Write,
-    E: Write + Send,
->(
+fn execute<R: AllocGlobal + Threads + Sync + Files + Clock, I: Read, O: Write, E: Write>(
     rt: &R,
     words: &[String],
     input: &mut I,
@@ -368,12 +402,12 @@ fn execute<
     err: &mut E,
 ) -> Result<(), SessionError>
 where
-    R::File: LockFile,
+    R::File: StoreFile,
     requires { more.old.items ≡ [] }
     ensures ends { EndsBy (map string_bytes words.now) (I.remaining input.old) (O.contents out.old)
         (O.contents out.new) (input.new ≡ input.old) (out.new ≡ out.old) result }
     ensures more { AsksToExplain (map string_bytes words.now) ⊎ (more.new.items ≡ []) }
-    ensures quiet { IsQuiet E.contents (map string_bytes words.now) err.old err.new }
+    ensures quiet { AsksForReports (map string_bytes words.now) ⊎ (err.new ≡ err.old) }
 {
     match options(rt.alloc(), words) {
         Ok(request) => execute_options(rt, &request, input, out, more, err),
@@ -381,22 +415,17 @@ where
     }
 }
 
-// Writes the error. Errors other than those of the command line are formatted into a buffer first,
-// so that they go out in one write.
+// Writes the error: a refused command line in several writes, any other error in one.
 fn write_error<E: Write>(error: &SessionError, err: &mut E) -> Result<(), SessionError>
     ensures ok { OnOk result (IfSome (error_text error.now)
         (Appends (E.contents err.old) (E.contents err.new))) }
     ensures err { OnErr result (IfSome (error_text error.now)
         (IsBegun (E.contents err.old) (E.contents err.new))) }
 {
-    if let SessionError::Words(error) = error {
-        return write!(err, "{error}").map_err(|_| SessionError::Device);
+    match error {
+        SessionError::Words(error) => write!(err, "{error}").map_err(|_| SessionError::Device),
+        error => print_error(error, err),
     }
-    let mut line = InlineText::<LINE>::new();
-    if write!(line, "{error}").is_err() {
-        return Err(SessionError::Device);
-    }
-    write_bytes(line.as_str().as_bytes(), err)
 }
 
 fn write_error_and<E: Write>(
@@ -411,15 +440,23 @@ fn write_error_and<E: Write>(
     write_bytes(more, err)
 }
 
-// Reports an error, if there is one, on standard error, and returns the exit status. A failure to
-// write the report is ignored.
+// Writes the error, if there is one, and then `more` to standard error, and returns the exit
+// status. A failed write is ignored.
 fn end<E: Write>(done: Result<(), SessionError>, more: &[u8], err: &mut E) -> u8
     ensures status { result ≡ status_of_end done }
-    ensures quiet { IfOk done (λ _. err.new ≡ err.old) }
-    ensures reported { IsReportedWith more.now done (E.contents err.old) (E.contents err.new) }
+    ensures quiet { IfOk done (λ _. more.now ≡ [] → err.new ≡ err.old) }
+    ensures told { IfOk done (λ _. (err.new ≡ err.old)
+        ⊎ IsBegun (E.contents err.old) (E.contents err.new) more.now) }
+    ensures reported { IfErr done (λ early. IsReportedWith more.now (Err early)
+        (E.contents err.old) (E.contents err.new)) }
 {
     match done {
-        Ok(()) => 0,
+        Ok(()) => {
+            if !more.is_empty() {
+                let _ = write_bytes(more, err);
+            }
+            0
+        }
         Err(error) => {
             let _ = write_error_and(&error, more, err);
             error.status()
@@ -444,22 +481,24 @@ pub fn unread_words<E: Write>(error: io::Error, err: &mut E) -> u8
 }
 
 /// Runs the session that the `words` of the command line ask for, and returns the exit status.
-/// Answers go to `out`, errors and progress to `err`.
+/// Answers, and the refusals of a stream, go to `out`; the error that ends the session,
+/// explanations and progress go to `err`.
 ///
-/// - 0: all orders are done, or the help or the version was printed.
+/// - 0: all orders are done or, in a stream, answered; or the help or the version was printed.
 /// - 2: the command line is refused, and nothing was read.
-/// - 3: a line of the input is bad. Nothing was run and no file was opened; but a stream has opened
-///   its files, and run the orders completed before the bad line.
-/// - 4: a fault. `out` has the answers of the orders before the fault; if an allocation or a device
-///   failed, some prefix of all answers.
-pub fn session<
-    R: AllocGlobal + Threads + Wait + Sync + Files + Clock,
-    I: Read,
-    O: Write,
-    E: Write + Send,
->(rt: &R, words: &[String], input: &mut I, out: &mut O, err: &mut E) -> u8
+/// - 3: without `--stream`, a line of the input is bad. Nothing was run and no file was opened.
+/// - 4: a fault. `out` has the answers of the orders before the fault; if a device failed, some
+///   prefix of all answers. A stream ends so only if it could not start, a device failed, or the
+///   copy at its end failed.
+pub fn session<R: AllocGlobal + Threads + Sync + Files + Clock, I: Read, O: Write, E: Write>(
+    rt: &R,
+    words: &[String],
+    input: &mut I,
+    out: &mut O,
+    err: &mut E,
+) -> u8
 where
-    R::File: LockFile,
+    R::File: StoreFile,
     ensures status { (result ≡ 0) ⊎ (result ≡ 2) ⊎ (result ≡ 3) ⊎ (result ≡ 4) }
 
     // Status 2 is returned only for a refused command line, which gives 4 if an allocation fails.
@@ -467,42 +506,60 @@ where
     ensures untouched { AreRefused (map string_bytes words.now) →
         (input.new ≡ input.old) × (out.new ≡ out.old) }
 
-    // With each status, the output is the help, the version, or a prefix of the answers. The orders
-    // (batches, flushes and the like) run on a new store, or, for an existing file, on a store that
-    // some bytes encode: no clause says that these are the bytes of the file. A clean depends on
-    // what the disk returns, which in memory is what was written last.
-    // `--tidy` runs some batches, which change no pairs, before each flush.
+    // With status 0, the output is the help or the version, or the answers of the orders (batches,
+    // flushes and the like) of all lines. These run on a new store, or, for an existing file, on a
+    // store that some bytes encode: no clause says that these are the bytes of the file. A clean
+    // depends on what the disk returns, which in memory is what was written last. `--tidy` runs
+    // some batches, which change no pairs, before each flush, and `--clean-when-full` adds cleans
+    // and may compact the tree. Without `--stream`, no order was refused. With it, a refused order
+    // is answered by one line, and changes no pairs; a line for which an allocation failed is such
+    // an order.
     ensures done { result ≡ 0 →
         AsksForText (map string_bytes words.now)
         ⊎ ((request : Request) × AsksFor (map string_bytes words.now) request
-        × IfSome (I.remaining input.old) (λ text. (first_bad 1 (parse_text text) ≡ None)
+        × IfSome (I.remaining input.old) (λ text. (parsed : List Line)
+        × AreRead (parse_text request.mode.stream text) parsed
+        × (request.mode.stream ≡ false → first_bad 1 (parse_text false text) ≡ None)
         × ((start : Start) × IsStart request start × IsOk start
-        × (shown : Reads) × IsShown request start shown (orders_run request start shown text)
+        × (shown : Reads) × IsShown request start shown (session_orders request start shown parsed)
+        × (end_from request.mode.stream start shown (session_orders request start shown parsed) ≡
+        Ok tt)
         × Appends (O.contents out.old) (O.contents out.new)
-        (printed_by start shown (orders_run request start shown text))))) }
+        (flat (lines_from request.mode.stream start shown (session_orders request start shown
+        parsed)))))) }
     ensures bad { result ≡ 3 →
-        (AsksToStream (map string_bytes words.now)
-        ⊎ Appends (O.contents out.old) (O.contents out.new) [])
-        × IfSome (I.remaining input.old) (λ text. first_bad 1 (parse_text text) ≢ None) }
+        (AsksToStream (map string_bytes words.now) → ⊥)
+        × Appends (O.contents out.old) (O.contents out.new) []
+        × IfSome (I.remaining input.old) (λ text. first_bad 1 (parse_text false text) ≢ None) }
+
+    // With each status, the output is the help, the version, or a beginning of those answers, after
+    // which a stream may have written the line for a failed device, or a part of it.
     ensures beginning { AsksForText (map string_bytes words.now)
         ⊎ Appends (O.contents out.old) (O.contents out.new) []
         ⊎ ((request : Request) × AsksFor (map string_bytes words.now) request
-        × IfSome (I.remaining input.old) (λ text. (start : Start) × IsStart request start
-        × (shown : Reads) × IsShown request start shown (orders_run request start shown text)
-        × ((front : Bytes) ×
-        BeginsWith (printed_by start shown (orders_run request start shown text)) front
-        × Appends (O.contents out.old) (O.contents out.new) front))) }
+        × IfSome (I.remaining input.old) (λ text. (parsed : List Line)
+        × AreRead (parse_text request.mode.stream text) parsed
+        × ((start : Start) × IsStart request start
+        × (shown : Reads) × IsShown request start shown (session_orders request start shown parsed)
+        × ((front : Bytes) × (last : Bytes)
+        × BeginsWith (flat (lines_from request.mode.stream start shown (session_orders request
+        start shown parsed))) front
+        × BeginsWith (device_line request.mode.stream) last
+        × Appends (O.contents out.old) (O.contents out.new) (front ++ last))))) }
 
     // The exit status and the output are those defined for this command line, this input and such a
     // store, unless an allocation or a device fails; a fault of the copy may make the status 4.
-    // Standard error gets the report of an error, or a prefix of it. Clauses say what the report is
-    // only for a bad line and for fault 9.
+    // Standard error gets the report of the error, or a prefix of it, unless reports are written to
+    // it while the session runs. Clauses say what the report is only for a bad line and for fault
+    // 9.
     ensures ends { EndsReported (map string_bytes words.now)
         (I.remaining input.old) (O.contents out.old) (O.contents out.new)
         (E.contents err.old) (E.contents err.new)
         (input.new ≡ input.old) (out.new ≡ out.old) result }
 
-    // A session that succeeds writes only progress to standard error.
+    // A session that succeeds writes nothing to standard error, except with `--explain` which
+    // options have no effect, and what is reported while it runs: with `--progress`, and with
+    // `--explain` and `--stream`.
     ensures quiet { result ≡ 0 → IsQuiet E.contents (map string_bytes words.now) err.old err.new }
 {
     let mut more = Vec::new(rt.alloc());

@@ -1,23 +1,36 @@
-//! Formatting answers as lines of output.
-ghost use Rattle.std.specs.Prelude.{◌≡◌, ◌∷◌, ◌++◌, [], codes, length, take, OnOk, OnErr};
-ghost use Rattle.std.specs.Fmt.{decimal};
+//! Printing answers.
+ghost use Rattle.std.specs.Prelude.{◌≡◌, ◌∷◌, ◌++◌, [], codes, map, Some, Ok, IfSome, OnOk, OnErr, IsOkUnless, false, true};
 ghost use Rattle.std.specs.List.{flat_map};
-ghost use Rattle.bwsh.specs.Shown.{reply_text, row_lines, shown_reply, shown_flushed, shown_cleaned, shown_upgraded, shown_report, shown_numbers, shown_row};
+ghost use Rattle.std.specs.Io.KnownBytes.{Appends};
+ghost use Rattle.keys.specs.Bytes.{Bytes};
+ghost use Rattle.engine.specs.Plays.{answer_of};
+ghost use Rattle.bwsh.specs.Output.{IsBegun, Puts, Writes};
+ghost use Rattle.bwsh.specs.Session.{error_text, fault_line};
+ghost use Rattle.bwsh.specs.Shown.{number_line, shown_answer, shown_reply, shown_row};
+ghost use Rattle.bwsh.specs.Token.{shown_token};
 
-use crate::token::push_token;
-use engine::Report;
-use keys::{Reply, RowList};
-use std::alloc::{AllocError, Global};
+use crate::output::{Buffer, write_bytes};
+use crate::session::SessionError;
+use crate::token::put_token;
+use engine::{Answer, Report};
+use keys::{Fault, Reply, RowList, Settings};
+use std::alloc::Global;
+use std::fmt;
+use std::fmt::{InlineText, Write as _};
+use std::io::Write;
 
-/// The statistics that `--stat` prints.
+// Room for each line of numbers: seven numbers of at most 39 digits, and the words around them.
+const LINE: usize = 384;
+
+/// The statistics that `--stat` and `.stat` print.
 #[derive(Clone, Copy, Debug, PartialEq, Eq)]
 pub struct StoreNumbers {
     /// How many commits there were: the creation, flushes that wrote, cleans and upgrades.
     pub sequence: u64,
     /// The number of the log's first segment.
     pub head: u64,
-    /// The position at which the log ends (`Store::tail`): byte `offset` of segment n has the position
-    /// `n * seg_size + offset`.
+    /// The position at which the log ends (`Store::tail`): byte `offset` of segment n has the
+    /// position `n * seg_size + offset`.
     pub tail: u64,
     /// How many segments of the log are in use.
     pub in_use: u64,
@@ -27,151 +40,240 @@ pub struct StoreNumbers {
     pub pairs: u128,
 }
 
-fn push_count(count: usize, out: &mut Vec<u8>) -> Result<(), AllocError>
-    ensures ok { OnOk result (out.new.items ≡ out.old.items ++ codes "rows " ++ decimal count) }
-    ensures err { OnErr result (out.new.items ≡ out.old.items) }
-{
-    let text = format!(in *out.allocator(); "rows {count}")?;
-    out.extend_from_slice(text.as_bytes())
+/// A line of numbers, with its line feed.
+#[derive(Clone, Copy)]
+pub enum NumberLine {
+    Rows(usize),
+    Wiped(u128),
+    Flushed(u64),
+    Cleaned(u64),
+    Upgraded(u64),
+    Tidied(u64),
+    Copied(u128),
+    Report(Report),
+    Numbers(StoreNumbers),
+    Settings(Settings),
 }
 
-fn push_wiped(count: u128, out: &mut Vec<u8>) -> Result<(), AllocError>
-    ensures ok { OnOk result (out.new.items ≡ out.old.items ++ codes "wiped " ++ decimal count) }
-    ensures err { OnErr result (out.new.items ≡ out.old.items) }
-{
-    let text = format!(in *out.allocator(); "wiped {count}")?;
-    out.extend_from_slice(text.as_bytes())
-}
+impl fmt::Display for NumberLine {
+    ghost output = { λ line. Some (number_line line) };
 
-// After an `Err`, a `push_` function may have appended a part of its output to `out`, unless its
-// contract says otherwise.
-fn push_reply(reply: &Reply<Global>, out: &mut Vec<u8>) -> Result<(), AllocError>
-    ensures ok { OnOk result (out.new.items ≡ out.old.items ++ reply_text reply.now) }
-    ensures err { OnErr result (take (length out.old.items) out.new.items ≡ out.old.items) }
-{
-    match reply {
-        Reply::Value(value) => {
-            out.extend_from_slice(b"value ")?;
-            push_token(value.as_bytes(), out)
+    fn fmt<W: fmt::Write>(&self, f: &mut fmt::Formatter<W>) -> fmt::Result {
+        match self {
+            NumberLine::Rows(count) => writeln!(f, "rows {count}"),
+            NumberLine::Wiped(count) => writeln!(f, "wiped {count}"),
+            NumberLine::Flushed(sequence) => writeln!(f, "flushed {sequence}"),
+            NumberLine::Cleaned(head) => writeln!(f, "cleaned {head}"),
+            NumberLine::Upgraded(sequence) => writeln!(f, "upgraded {sequence}"),
+            NumberLine::Tidied(pages) => writeln!(f, "tidied {pages}"),
+            NumberLine::Copied(pairs) => writeln!(f, "copied {pairs}"),
+            NumberLine::Report(report) => {
+                let Report {
+                    pages,
+                    height,
+                    pairs,
+                } = *report;
+                writeln!(f, "ok {pages} {height} {pairs}")
+            }
+            NumberLine::Numbers(numbers) => {
+                let StoreNumbers {
+                    sequence,
+                    head,
+                    tail,
+                    in_use,
+                    segments,
+                    pages,
+                    pairs,
+                } = *numbers;
+                write!(f, "stat sequence {sequence} head {head} tail {tail}")?;
+                writeln!(
+                    f,
+                    " segments {in_use} of {segments} pages {pages} pairs {pairs}"
+                )
+            }
+            NumberLine::Settings(settings) => {
+                let Settings {
+                    fan,
+                    chain,
+                    max_key,
+                    max_value,
+                    seg_size,
+                    segments,
+                } = *settings;
+                write!(f, "settings fan {fan} chain {chain} max-key {max_key}")?;
+                writeln!(
+                    f,
+                    " max-value {max_value} seg-size {seg_size} segments {segments}"
+                )
+            }
         }
-        Reply::Missing => out.extend_from_slice(b"missing"),
-        Reply::New => out.extend_from_slice(b"new"),
-        Reply::Replaced => out.extend_from_slice(b"replaced"),
-        Reply::Added => out.extend_from_slice(b"added"),
-        Reply::Exists => out.extend_from_slice(b"exists"),
-        Reply::Deleted => out.extend_from_slice(b"deleted"),
-        Reply::Rows(rows) => push_count(rows.len(), out),
-        Reply::Wiped(count) => push_wiped(*count, out),
     }
 }
 
-fn push_row(key: &[u8], value: &[u8], out: &mut Vec<u8>) -> Result<(), AllocError>
-    ensures ok { OnOk result (out.new.items ≡ out.old.items ++ shown_row (key.now, value.now)) }
-    ensures err { OnErr result (take (length out.old.items) out.new.items ≡ out.old.items) }
+impl Buffer {
+    /// Adds a line of numbers.
+    pub fn put_numbers<O: Write>(
+        &mut self,
+        line: NumberLine,
+        out: &mut O,
+    ) -> Result<(), SessionError>
+        ensures { Puts O.contents self.old out.old self.new out.new (number_line line) result }
+    {
+        let mut text = InlineText::<LINE>::new();
+        if write!(text, "{line}").is_err() {
+            // Not reached: each line fits.
+            return Err(SessionError::Device);
+        }
+        self.put(text.as_str().as_bytes(), out)
+    }
+
+    /// Adds the line of a row.
+    pub fn put_row<O: Write>(
+        &mut self,
+        key: &[u8],
+        value: &[u8],
+        out: &mut O,
+    ) -> Result<(), SessionError>
+        ensures { Puts O.contents self.old out.old self.new out.new
+            (shown_row (key.now, value.now)) result }
+    {
+        put_token(key, self, out)?;
+        self.put(b" ", out)?;
+        put_token(value, self, out)?;
+        self.put(b"\n", out)
+    }
+
+    fn put_rows<O: Write>(
+        &mut self,
+        rows: &RowList<Global>,
+        out: &mut O,
+    ) -> Result<(), SessionError>
+        ensures { Puts O.contents self.old out.old self.new out.new
+            (flat_map shown_row rows.now) result }
+    {
+        for (key, value) in rows {
+            self.put_row(key, value, out)?;
+        }
+        Ok(())
+    }
+
+    fn put_value<O: Write>(&mut self, value: &[u8], out: &mut O) -> Result<(), SessionError>
+        ensures { Puts O.contents self.old out.old self.new out.new
+            (codes "value " ++ shown_token value.now ++ 10 ∷ []) result }
+    {
+        self.put(b"value ", out)?;
+        put_token(value, self, out)?;
+        self.put(b"\n", out)
+    }
+
+    fn put_reply<O: Write>(
+        &mut self,
+        reply: &Reply<Global>,
+        out: &mut O,
+    ) -> Result<(), SessionError>
+        ensures { Puts O.contents self.old out.old self.new out.new
+            (shown_reply reply.now) result }
+    {
+        match reply {
+            Reply::Value(value) => self.put_value(value.as_bytes(), out),
+            Reply::Missing => self.put(b"missing\n", out),
+            Reply::New => self.put(b"new\n", out),
+            Reply::Replaced => self.put(b"replaced\n", out),
+            Reply::Added => self.put(b"added\n", out),
+            Reply::Exists => self.put(b"exists\n", out),
+            Reply::Deleted => self.put(b"deleted\n", out),
+            Reply::Rows(rows) => {
+                self.put_numbers(NumberLine::Rows(rows.len()), out)?;
+                self.put_rows(rows, out)
+            }
+            Reply::Wiped(count) => self.put_numbers(NumberLine::Wiped(*count), out),
+        }
+    }
+}
+
+fn print_replies<O: Write>(
+    alloc: Global,
+    replies: &[Reply<Global>],
+    out: &mut O,
+) -> Result<(), SessionError>
+    ensures { Writes (O.contents out.old) (O.contents out.new)
+        (map shown_reply replies.now) result }
 {
-    push_token(key, out)?;
-    out.push(b' ')?;
-    push_token(value, out)?;
-    out.push(b'\n')?;
+    let mut buffer = Buffer::new(alloc);
+    for reply in replies {
+        buffer.put_reply(reply, out)?;
+    }
+    buffer.write(out)
+}
+
+/// Prints a line of numbers.
+pub fn print_numbers<O: Write>(line: NumberLine, out: &mut O) -> Result<(), SessionError>
+    ensures { Writes (O.contents out.old) (O.contents out.new)
+        (number_line line ∷ []) result }
+{
+    let mut text = InlineText::<LINE>::new();
+    if write!(text, "{line}").is_err() {
+        // Not reached: each line fits.
+        return Err(SessionError::Device);
+    }
+    write_bytes(text.as_str().as_bytes(), out)
+}
+
+/// Prints the answer to a step.
+pub fn print_answer<O: Write>(
+    alloc: Global,
+    answer: &Answer,
+    out: &mut O,
+) -> Result<(), SessionError>
+    ensures { Writes (O.contents out.old) (O.contents out.new)
+        (shown_answer (answer_of answer.now)) result }
+{
+    match answer {
+        Answer::Replies(replies) => print_replies(alloc, replies, out),
+        Answer::Flushed(sequence) => print_numbers(NumberLine::Flushed(*sequence), out),
+        Answer::Cleaned(head) => print_numbers(NumberLine::Cleaned(*head), out),
+        Answer::Upgraded(sequence) => print_numbers(NumberLine::Upgraded(*sequence), out),
+    }
+}
+
+pub(crate) fn print_answers<O: Write>(
+    alloc: Global,
+    answers: &[Answer],
+    out: &mut O,
+) -> Result<(), SessionError>
+    ensures { Writes (O.contents out.old) (O.contents out.new)
+        (flat_map shown_answer (map answer_of answers.now)) result }
+{
+    for answer in answers {
+        print_answer(alloc, answer, out)?;
+    }
     Ok(())
 }
 
-fn push_rows(rows: &RowList<Global>, out: &mut Vec<u8>) -> Result<(), AllocError>
-    ensures ok { OnOk result (out.new.items ≡ out.old.items ++ flat_map shown_row rows.now) }
-    ensures err { OnErr result (take (length out.old.items) out.new.items ≡ out.old.items) }
+/// Prints an error: the answer to a bad line of a stream, the last line of a stream whose disk
+/// failed, or the report of a session's end. The error is formatted first, so that it is one write.
+pub fn print_error<O: Write>(error: &SessionError, out: &mut O) -> Result<(), SessionError>
+    ensures ok { OnOk result (IfSome (error_text error.now)
+        (Appends (O.contents out.old) (O.contents out.new))) }
+    ensures err { OnErr result (IfSome (error_text error.now)
+        (IsBegun (O.contents out.old) (O.contents out.new))) }
+    ensures device { IsOkUnless result SessionError.Device }
 {
-    for (key, value) in rows {
-        push_row(key, value, out)?;
+    let mut line = InlineText::<LINE>::new();
+    if write!(line, "{error}").is_err() {
+        return Err(SessionError::Device);
     }
-    Ok(())
+    write_bytes(line.as_str().as_bytes(), out)
 }
 
-fn push_lines(reply: &Reply<Global>, out: &mut Vec<u8>) -> Result<(), AllocError>
-    ensures ok { OnOk result (out.new.items ≡ out.old.items ++ shown_reply reply.now) }
-    ensures err { OnErr result (take (length out.old.items) out.new.items ≡ out.old.items) }
+/// Prints the line that answers a refused order of a stream.
+pub fn print_refusal<O: Write>(fault: &Fault, out: &mut O) -> Result<(), SessionError>
+    ensures { (told : Bytes) × Writes (O.contents out.old) (O.contents out.new)
+        (fault_line told ∷ []) result }
 {
-    push_reply(reply, out)?;
-    out.push(b'\n')?;
-    if let Reply::Rows(rows) = reply {
-        push_rows(rows, out)?;
+    let (mut told, mut line) = (InlineText::<LINE>::new(), InlineText::<LINE>::new());
+    if write!(told, "{fault}").is_err() || writeln!(line, "fault {}", told.as_str()).is_err() {
+        return Err(SessionError::Device);
     }
-    Ok(())
-}
-
-/// Appends the lines of a reply to `out`. If a `show_` function fails, `out` is unchanged.
-pub fn show_reply(reply: &Reply<Global>, out: &mut Vec<u8>) -> Result<(), AllocError>
-    ensures ok { OnOk result (out.new.items ≡ out.old.items ++ shown_reply reply.now) }
-    ensures err { OnErr result (out.new.items ≡ out.old.items) }
-{
-    let len = out.len();
-    let shown = push_lines(reply, out);
-    if shown.is_err() {
-        out.truncate(len);
-    }
-    shown
-}
-
-/// Appends the answer to a flush.
-pub fn show_flushed(sequence: u64, out: &mut Vec<u8>) -> Result<(), AllocError>
-    ensures ok { OnOk result (out.new.items ≡ out.old.items ++ shown_flushed sequence) }
-    ensures err { OnErr result (out.new.items ≡ out.old.items) }
-{
-    let line = format!(in *out.allocator(); "flushed {sequence}\n")?;
-    out.extend_from_slice(line.as_bytes())
-}
-
-/// Appends the answer to a clean, after which `head` is the first segment.
-pub fn show_cleaned(head: u64, out: &mut Vec<u8>) -> Result<(), AllocError>
-    ensures ok { OnOk result (out.new.items ≡ out.old.items ++ shown_cleaned head) }
-    ensures err { OnErr result (out.new.items ≡ out.old.items) }
-{
-    let line = format!(in *out.allocator(); "cleaned {head}\n")?;
-    out.extend_from_slice(line.as_bytes())
-}
-
-/// Appends the answer to an upgrade.
-pub fn show_upgraded(sequence: u64, out: &mut Vec<u8>) -> Result<(), AllocError>
-    ensures ok { OnOk result (out.new.items ≡ out.old.items ++ shown_upgraded sequence) }
-    ensures err { OnErr result (out.new.items ≡ out.old.items) }
-{
-    let line = format!(in *out.allocator(); "upgraded {sequence}\n")?;
-    out.extend_from_slice(line.as_bytes())
-}
-
-/// Appends the answer to a verify.
-pub fn show_report(report: &Report, out: &mut Vec<u8>) -> Result<(), AllocError>
-    ensures ok { OnOk result (out.new.items ≡ out.old.items ++ shown_report report.now) }
-    ensures err { OnErr result (out.new.items ≡ out.old.items) }
-{
-    let Report {
-        pages,
-        height,
-        pairs,
-    } = *report;
-    let line = format!(in *out.allocator(); "ok {pages} {height} {pairs}\n")?;
-    out.extend_from_slice(line.as_bytes())
-}
-
-/// Appends the line of statistics.
-pub fn show_numbers(numbers: &StoreNumbers, out: &mut Vec<u8>) -> Result<(), AllocError>
-    ensures ok { OnOk result (out.new.items ≡ out.old.items ++ shown_numbers numbers.now) }
-    ensures err { OnErr result (out.new.items ≡ out.old.items) }
-{
-    let StoreNumbers {
-        sequence,
-        head,
-        tail,
-        in_use,
-        segments,
-        pages,
-        pairs,
-    } = *numbers;
-    let mut line = format!(in *out.allocator();
-        "stat sequence {sequence} head {head} tail {tail}"
-    )?;
-    write!(
-        line,
-        " segments {in_use} of {segments} pages {pages} pairs {pairs}\n"
-    )?;
-    out.extend_from_slice(line.as_bytes())
+    write_bytes(line.as_str().as_bytes(), out)
 }

@@ -2,8 +2,12 @@
 ghost use Rattle.std.specs.Prelude.{◌≡◌, ◌<◌, ◌++◌, ◌/◌, ◌%◌, [], ◌∷◌, length, take, Some, None, if◌then◌else◌, IfOk, IfSome, MatchOption, OnOk, OnErr};
 ghost use Rattle.std.specs.List.{list_all};
 ghost use Rattle.bwsh.specs.Token.{hex_value, hex_byte, stands_for_itself, unescaped, byte_in_front, with_front, token_bytes, hex_digit, shown_byte, shown_token};
+ghost use Rattle.bwsh.specs.Output.{Puts};
 
+use crate::output::Buffer;
+use crate::session::SessionError;
 use std::alloc::AllocError;
+use std::io::Write;
 
 fn hex_value(digit: u8) -> Option<u8>
     ensures value { result ≡ hex_value digit }
@@ -102,32 +106,32 @@ fn hex_digit(value: u8) -> u8
     }
 }
 
-fn push_byte(byte: u8, out: &mut Vec<u8>) -> Result<(), AllocError>
-    ensures ok { OnOk result (out.new.items ≡ out.old.items ++ shown_byte byte) }
-    ensures err { OnErr result (out.new.items ≡ out.old.items) }
+fn put_byte<O: Write>(byte: u8, buffer: &mut Buffer, out: &mut O) -> Result<(), SessionError>
+    ensures { Puts O.contents buffer.old out.old buffer.new out.new (shown_byte byte) result }
 {
     if stands_for_itself(byte) {
-        out.push(byte)?;
-    } else {
-        out.extend_from_slice(&[b'%', hex_digit(byte / 16), hex_digit(byte % 16)])?;
+        return buffer.put(&[byte], out);
     }
-    Ok(())
+    let token = [b'%', hex_digit(byte / 16), hex_digit(byte % 16)];
+    buffer.put(&token, out)
 }
 
-/// Encodes `bytes` as a token and appends it to `out`. After an `Err`, `out` may have a part of the
-/// token.
-pub fn push_token(bytes: &[u8], out: &mut Vec<u8>) -> Result<(), AllocError>
-    ensures ok { OnOk result (out.new.items ≡ out.old.items ++ shown_token bytes.now) }
-    ensures err { OnErr result (take (length out.old.items) out.new.items ≡ out.old.items) }
+/// Encodes `bytes` as a token and adds it to the buffer.
+pub fn put_token<O: Write>(
+    bytes: &[u8],
+    buffer: &mut Buffer,
+    out: &mut O,
+) -> Result<(), SessionError>
+    ensures { Puts O.contents buffer.old out.old buffer.new out.new (shown_token bytes.now) result }
 {
     if bytes.is_empty() {
-        return out.extend_from_slice(b"%");
+        return buffer.put(b"%", out);
     }
     if are_plain(bytes) {
-        return out.extend_from_slice(bytes);
+        return buffer.put(bytes, out);
     }
     for byte in bytes {
-        push_byte(*byte, out)?;
+        put_byte(*byte, buffer, out)?;
     }
     Ok(())
 }

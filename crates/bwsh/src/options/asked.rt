@@ -23,17 +23,19 @@ pub struct Options {
 pub struct Mode {
     /// Print the version and do nothing else.
     pub version: bool,
-    /// Explain an error on a second line of standard error.
+    /// Explain errors, and options that have no effect, on standard error.
     pub explain: bool,
     /// Print the statistics of the store after all lines of the input.
     pub stat: bool,
-    /// If the log is full for a flush, clean it and flush again.
+    /// Before a flush, clean a log that is full or nearly full, and compact nearly empty pages.
     pub clean_when_full: bool,
-    /// Read line by line, and answer each batch before reading on.
+    /// Read line by line, answer each batch before reading on, and go on after a refusal.
     pub stream: bool,
     /// Before each flush, merge up to this many leaves with fewer than `fan / 4` pairs into their
     /// neighbours.
     pub tidy: u32,
+    /// For how many seconds to wait, at most, for the lock of a file.
+    pub wait: u32,
     /// Show progress on standard error.
     pub progress: bool,
 }

@@ -22,6 +22,8 @@ pub const GRAIN: &str = "Pages that a thread claims at a time, 1 to 65535";
 
 pub const TIDY: &str = "Pages with few pairs to merge before each flush, at most";
 
+pub const WAIT: &str = "Seconds to wait while another program has locked a file";
+
 pub const DISK: &str = "File of the store; without it the store is in memory, and is lost at exit";
 
 pub const COPY_TO: &str = "Copies the store to this new, empty or unfinished file after all lines";
@@ -56,12 +58,27 @@ Lines of a batch file:
   upgrade           Flushes, and upgrades the log to version 2 (compressed keys); irreversible
   verify            Checks the whole tree
   # ...             A comment
+With --stream, also:
+  .stat             Prints the statistics and the settings of the store
+  .copy PATH [N]    Copies the store, as it is now, to a new or empty file, with N segments
+  .tidy N           Merges up to N pages with few pairs
+  .back LO HI LIMIT     Reads at most LIMIT pairs, as scan does, from the last one down
+  .prefix BYTES LIMIT   Reads at most LIMIT pairs whose keys begin with BYTES
+  .help             Lists the lines
 HI may be *, which is no bound; LO may be %, the least key.
 Keys and values are words of printable ASCII; %XX is a byte in hexadecimal, and % alone is the empty string.
 
 Exit status:
-  0  Everything is done, or the help or the version was printed
+  0  Everything is done, or the help or the version was printed; with --stream, the input was read to its end
   2  The command line is refused; nothing was read
-  3  A line is bad; nothing was run, or with --stream only what was complete before it
+  3  A line is bad; nothing was run
   4  A fault, which standard error names; --explain tells more\
+";
+
+/// The answer to `.help`.
+pub const STREAM_LINES: &str = "\
+put K V | add K V | get K | del K | scan LO HI LIMIT | wipe LO HI: a command of the batch
+go: runs the batch
+flush | clean | upgrade | verify: runs the batch, and then this
+.stat | .copy PATH [SEGMENTS] | .tidy N | .back LO HI LIMIT | .prefix BYTES LIMIT | .help: the same
 ";

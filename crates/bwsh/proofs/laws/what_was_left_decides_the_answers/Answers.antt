@@ -1,12 +1,11 @@
-use Rattle.bwsh.specs.Session.{no_tidying}
-use Rattle.bwsh.proofs.RunLemmas.{left_shown, AreLeft-left_shown, AreTidiedBy-left_shown}
-use Rattle.bwsh.proofs.BytesLemmas.{lines-left, accepted-left, end-left}
+use Rattle.bwsh.proofs.BytesLemmas.{lines-left, answered-left, accepted-left, end-left, some_left}
 use Rattle.bwsh.proofs.laws.what_was_left_decides_the_answers.Goals as goal
 
 pub returns : goal.returns
 returns c = record {
-  lines = lines-left;
-  accepted = accepted-left;
-  end = end-left;
-  some = λ settings st file orders. (left_shown no_tidying settings st file orders, AreTidiedBy-left_shown no_tidying settings st file orders, AreLeft-left_shown no_tidying settings st file orders);
+  lines = λ settings st file shown other alike m orders p q. lines-left settings st shown other alike file orders p q m;
+  answered = λ on settings st file shown other alike m orders p q. answered-left settings st shown other alike file orders p q on m;
+  accepted = λ settings st file shown other alike orders p q. accepted-left settings st shown other alike file orders p q;
+  end = λ on settings st file shown other alike orders p q. end-left settings st shown other alike file orders p q on;
+  some = some_left;
 }

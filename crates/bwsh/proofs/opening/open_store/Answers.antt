@@ -1,12 +1,17 @@
-use Rattle.bwsh.proofs.StoreLemmas.{Opens-found, IsUnopened-found}
+use Rattle.std.proofs.Common.{ap, replicate}
+use Rattle.std.specs.Option.{option_map}
+use Rattle.std.specs.Prelude.{string_bytes}
+use Rattle.flush_log.specs.Segments.{disk_size}
+use Rattle.bwsh.specs.Options.{Request, request_of}
+use Rattle.bwsh.specs.Session.{new_start}
+use Rattle.bwsh.proofs.StoreLemmas.{IsStartBy-memory}
 use Rattle.bwsh.proofs.opening.open_store.Goals as goal
 
-pub returns-in-Err-clause-opens : goal.returns-in-Err-clause-opens
-returns-in-Err-clause-opens g c =
-    let (file, is, fault) = c.in-Err.ensures.read c.requires.crew in
-    (file, is.honest, IsUnopened-found file _ _ c.in-Err.refused.0 _ fault c.store_fault.ensures)
-
-pub returns-in-Ok-clause-opens : goal.returns-in-Ok-clause-opens
-returns-in-Ok-clause-opens g c =
-    let (file, is, found) = c.in-Ok.ensures.read c.requires.crew in
-    (file, is.honest, Opens-found g.D.Disk.view file (g.D.Disk.view c.args.disk) c.in-Ok.store found c.in-Ok.ensures.kept is.honest c.in-Ok.ensures.seen)
+pub returns-in_default-clause-opens : goal.returns-in_default-clause-opens
+returns-in_default-clause-opens g c =
+    let request : Request = request_of c.args.at.now.asked.now in (
+      new_start request.settings (replicate (disk_size request.settings) 0),
+      IsStartBy-memory request (ap (option_map string_bytes) c.in_default.is),
+      c.store_in_memory.ensures.opens,
+      λ none. c.store_in_memory.ensures.honest,
+    )

@@ -5,4 +5,4 @@ use Rattle.bwsh.proofs.opening.store_in_memory.Goals as goal
 
 -- the new disk has zeros
 pub returns-clause-opens : goal.returns-clause-opens
-returns-clause-opens c = c.create_store.ensures.opens (replicate (disk_size c.args.settings) 0) (λ honest. search rules)
+returns-clause-opens g c = c.create_store.ensures.opens (replicate (disk_size c.args.at.now.asked.now.settings) 0) (rw c.disk.ensures (λ honest. search rules))

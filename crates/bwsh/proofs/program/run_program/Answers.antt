@@ -1,7 +1,7 @@
 use Rattle.std.proofs.Common.{inl, inr, map, drop}
 use Rattle.std.specs.String.{string_bytes}
 use Rattle.bwsh.proofs.ErrorLemmas.{of_either}
-use Rattle.bwsh.proofs.ProgressLemmas.{both_ok}
+use Rattle.bwsh.proofs.ErrorLemmas.{both_ok}
 use Rattle.bwsh.proofs.program.run_program.Goals as goal
 
 pub returns : goal.returns

@@ -2,7 +2,7 @@ use Rattle.std.proofs.Common.{◌≡◌, ◌∙◌, ℕ, List, ap, map, drop}
 use Rattle.std.specs.String.{string_bytes}
 use Rattle.bwsh.specs.Session.{IsQuiet}
 use Rattle.bwsh.proofs.ErrorLemmas.{request_at}
-use Rattle.bwsh.proofs.ProgressLemmas.{at_words}
+use Rattle.bwsh.proofs.ErrorLemmas.{at_words}
 use Rattle.bwsh.proofs.program.run_words.Goals as goal
 
 pub returns-in-Ok-clause-read : goal.returns-in-Ok-clause-read

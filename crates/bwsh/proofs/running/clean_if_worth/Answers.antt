@@ -1,4 +1,4 @@
-use Rattle.std.proofs.Common.{◌≡◌, ◌<◌, ◌∙◌, ap, arith, inl, refl, subst, sym, ℕ, Ok, Option, Some}
+use Rattle.std.proofs.Common.{◌≡◌, ◌<◌, ◌∙◌, ap, arith, refl, subst, sym, ℕ, Ok, Option, Some}
 use Rattle.std.specs.Prelude.{IfSome}
 use Rattle.std.proofs.lemmas.Result.{err_from_is_err_and}
 use Rattle.keys.specs.declared.settings.Settings.{Settings}
@@ -6,20 +6,20 @@ use Rattle.cleaner.specs.PagesRead.{PagesRead}
 use Rattle.bwsh.specs.Session.{IsReadAhead, RunsCleans, row_of_cleans}
 use Rattle.bwsh.proofs.AheadLemmas.{calm_all, most_all, row_early}
 use Rattle.bwsh.proofs.RoomLemmas.{row_is_some}
-use Rattle.bwsh.proofs.RowLemmas.{RunsCleans-cut, RunsCleans-none}
+use Rattle.bwsh.proofs.RowLemmas.{RunsCleans-memory, RunsCleans-none}
 use Rattle.bwsh.proofs.RunLemmas.{OnOk-always}
 use Rattle.bwsh.proofs.running.clean_if_worth.Goals as goal
 
 pub returns-in_err-is_early-clause-runs : goal.returns-in_err-is_early-clause-runs
-returns-in_err-is_early-clause-runs g c mode under by =
+returns-in_err-is_early-clause-runs g c mode room under by =
     let store = c.args.store.now in
     let disk = g.D.Disk.view store.disk in
     let p = err_from_is_err_and c.from_residual.result c.from_residual.ensures.1 in
-    rw (p.1, p.2) (RunsCleans-cut mode disk.is_honest store.settings under disk.seen by.tidying store.settings.segments by.asked (g.O.Write.contents c.args.out.now) _ store.store disk.seen
-    (inl c.in_err-is_early.ensures.fault))
+    rw (p.1, p.2, c.in_err-is_early.ensures.fault) (RunsCleans-memory mode disk.is_honest store.settings under disk.seen by.tidying store.settings.segments room by.asked store.store by.leaves
+    (g.O.Write.contents c.args.out.now) store.store refl disk.seen (λ h. refl))
 
 pub returns-then-not-branch-clause-runs : goal.returns-then-not-branch-clause-runs
-returns-then-not-branch-clause-runs g c mode under by =
+returns-then-not-branch-clause-runs g c mode room under by =
     let store = c.args.store.now in
     let disk = g.D.Disk.view store.disk in
     let out = g.O.Write.contents c.args.out.now in
@@ -39,7 +39,7 @@ returns-then-not-branch-clause-most g c =
     omega (arith, is)
 
 pub returns-clause-runs : goal.returns-clause-runs
-returns-clause-runs g c mode under by =
+returns-clause-runs g c mode room under by =
     let store = c.args.store.now in
     let disk = g.D.Disk.view store.disk in
     let after = c.run_row.new.store in
@@ -48,14 +48,14 @@ returns-clause-runs g c mode under by =
     (g.D.Disk.view after.disk).seen) is
     (row_early g.D.Disk.view store c.settings-segments.result.segments (Some _) c.requires.read.1 mode under by (sym c.in_ok-is_early.ensures.early ∙ c.if-not-branch.false) c.row_of_cleans-row.result
     (c.row_of_cleans-row.ensures ∙ ap row_of_cleans is) (g.O.Write.contents c.args.out.now) (g.O.Write.contents c.run_row.new.out) c.run_row.result after.store (g.D.Disk.view after.disk).seen
-    (c.run_row.ensures.runs mode under by))
+    (c.run_row.ensures.runs mode room under by))
 
 pub returns-clause-calm : goal.returns-clause-calm
 returns-clause-calm g c =
     let store = c.args.store.now in
     let is : c.settings-segments.result.segments ≡ store.settings.segments = ap (λ (s : Settings). s.segments) c.settings-segments.ensures in
     let some : 0 < c.settings-segments.result.segments = omega (arith, is, c.segments_in_use-some.ensures.least, c.segments_in_use-some.ensures.most) in
-    calm_all g.D.Disk.view c.run_row.new.store c.settings-segments.result.segments (is ∙ sym (ap (λ (s : Settings). s.segments) c.run_row.ensures.settings)) c.run_row.result
+    calm_all g.D.Disk.view c.run_row.new.store c.settings-segments.result.segments (is ∙ sym (ap (λ (s : Settings). s.segments) c.run_row.ensures.rest.0.0)) c.run_row.result
     (c.run_row.ensures.fewer (subst (λ (n : ℕ). 0 < n) (sym c.row_of_cleans-row.ensures) (row_is_some c.settings-segments.result.segments)) some)
 
 pub returns-clause-most : goal.returns-clause-most

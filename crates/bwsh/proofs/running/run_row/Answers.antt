@@ -1,13 +1,11 @@
-use Rattle.std.proofs.Common.{◌≡◌, ◌⊎◌, ◌∙◌, ap, inl, inr, refl, sym}
-use Rattle.mapping.specs.Levels.{contents}
-use Rattle.mapping.specs.Tree.{Store}
-use Rattle.bwsh.proofs.RoomLemmas.{some_mode}
-use Rattle.bwsh.proofs.RowLemmas.{LeadsRow-first, Row-ends, Row-cleaned, Row-refused, as_no_room, fewer_after, fewer_left, fewer_on, ready_in_row, row_left, unless_refused}
+use Rattle.std.proofs.Common.{◌≡◌, ◌⊎◌, ◌∙◌, inl, inr, refl, sym}
+use Rattle.bwsh.proofs.RowLemmas.{LeadsRow-first, Row-ends, Row-cleaned, Row-refused, fewer_after, fewer_left, fewer_on, ready_in_row, row_left, unless_ended}
+use Rattle.bwsh.proofs.RunLemmas.{device_err}
 use Rattle.bwsh.proofs.running.run_row.Goals as goal
 use Rattle.bwsh.proofs.running.run_row.Goals.{then-due-eq0-via-then-due-eq0, then-due-eq0-via-else-due-eq0+then-more-eq0}
 
 pub returns-then-due-eq0-clause-runs : goal.returns-then-due-eq0-clause-runs
-returns-then-due-eq0-clause-runs g c mode under by =
+returns-then-due-eq0-clause-runs g c mode room under by =
     let store = c.args.store.now in
     let disk = g.D.Disk.view store.disk in
     let at = c.cleans in
@@ -28,7 +26,7 @@ returns-then-due-eq0-clause-fewer g c some some_left =
     fewer_left at.more c.args.most at.due c.args.row at.invariant.fewer none some some_left
 
 pub returns-in-Err-clause-runs : goal.returns-in-Err-clause-runs
-returns-in-Err-clause-runs g c mode under by =
+returns-in-Err-clause-runs g c mode room under by =
     let store = c.args.store.now in
     let disk = g.D.Disk.view store.disk in
     let at = c.cleans in
@@ -36,20 +34,21 @@ returns-in-Err-clause-runs g c mode under by =
     let after = c.run_clean.new.store in
     Row-refused c.args.most c.args.row by.tidying mode by.asked disk.is_honest store.settings under disk.seen (g.O.Write.contents c.args.out.now) at.more at.due at.store.store now.seen (g.O.Write.contents at.out)
     (at.invariant.leads mode under by) c.if-more-eq0.false now.seen (λ h. refl) now.is_honest at.invariant.honest at.store.settings at.invariant.settings (g.O.Write.contents c.run_clean.new.out) _
-    after.store (g.D.Disk.view after.disk).seen (c.in-Err.ensures.runs mode) c.in-Err.refused refl c.cleans_after_refusal.result c.cleans_after_refusal.ensures
-    at.store.has_failed after.has_failed (λ none. c.in-Err.ensures.kept (as_no_room c.in-Err.refused none)) (λ other seen these ahead can. ready_in_row at.due c.if-due-eq0.false _ _ _ seen can)
+    after.store (g.D.Disk.view after.disk).seen (c.in-Err.ensures.runs mode) room c.in-Err.refused refl c.cleans_after_refusal.result c.cleans_after_refusal.ensures
+    (λ other. let kept = c.in-Err.ensures.kept other in (kept.0, kept.2)) (λ other seen these ahead unfailed can. ready_in_row at.due c.if-due-eq0.false _ _ _ seen can)
 
-pub returns-in-Err-clause-failed : goal.returns-in-Err-clause-failed
-returns-in-Err-clause-failed g c =
+pub returns-in-Err-clause-rest : goal.returns-in-Err-clause-rest
+returns-in-Err-clause-rest g c =
     let at = c.cleans in
-    unless_refused c.in-Err.refused c.cleans_after_refusal.result c.cleans_after_refusal.ensures
-    (λ none. (c.in-Err.ensures.kept (as_no_room c.in-Err.refused none)).1 ∙ (at.invariant.fine ∙ sym at.invariant.same))
-
-pub returns-in-Err-clause-holds : goal.returns-in-Err-clause-holds
-returns-in-Err-clause-holds g c =
-    let at = c.cleans in
-    unless_refused c.in-Err.refused c.cleans_after_refusal.result c.cleans_after_refusal.ensures
-    (λ none. ap (λ (s : Store). contents s.tree) (c.in-Err.ensures.kept (as_no_room c.in-Err.refused none)).0 ∙ at.invariant.holds)
+    let rest = c.in-Err.ensures.rest in (
+      (
+        rest.0.0 ∙ at.invariant.settings,
+        rest.0.1 ∙ at.invariant.honest,
+        λ other.
+            rest.0.2 (device_err c.in-Err.refused (unless_ended c.in-Err.refused c.cleans_after_refusal.result c.cleans_after_refusal.ensures other)) ∙ (at.invariant.fine ∙ sym at.invariant.same),
+      ),
+      rest.1 ∙ at.invariant.holds,
+    )
 
 pub returns-in-Err-clause-fewer : goal.returns-in-Err-clause-fewer
 returns-in-Err-clause-fewer g c some some_left =
@@ -64,16 +63,16 @@ cleans-preserved g c =
     let after = c.run_clean.new.store in
     let cleaned = c.in_default.ensures in
     record {
-      settings = cleaned.settings ∙ at.invariant.settings;
-      honest = cleaned.honest ∙ at.invariant.honest;
-      fine = cleaned.failed ∙ at.invariant.fine;
+      settings = cleaned.rest.0.0 ∙ at.invariant.settings;
+      honest = cleaned.rest.0.1 ∙ at.invariant.honest;
+      fine = cleaned.rest.0.2 (λ e. absurd (cc)) ∙ at.invariant.fine;
       read = cleaned.read;
       same = at.invariant.same;
-      holds = (cleaned.runs some_mode).3.holds ∙ at.invariant.holds;
+      holds = cleaned.rest.1 ∙ at.invariant.holds;
       leads = λ mode under by.
           Row-cleaned c.args.most c.args.row by.tidying mode by.asked disk.is_honest store.settings under disk.seen (g.O.Write.contents c.args.out.now) at.more at.due at.store.store now.seen (g.O.Write.contents at.out)
           (at.invariant.leads mode under by) c.if-more-eq0.false now.seen (λ h. refl) now.is_honest at.invariant.honest at.store.settings at.invariant.settings (g.O.Write.contents c.run_clean.new.out) _
-          after.store (g.D.Disk.view after.disk).seen (cleaned.runs mode) (λ seen these ahead can. ready_in_row at.due c.if-due-eq0.false _ _ _ seen can)
+          after.store (g.D.Disk.view after.disk).seen (cleaned.runs mode) (λ seen these ahead unfailed can. ready_in_row at.due c.if-due-eq0.false _ _ _ seen can)
           (row_left at.due store.settings c.if-due-eq0.false) c.in_default.field-0 refl;
       fewer = fewer_on at.more c.args.most at.due c.args.row at.invariant.fewer c.if-more-eq0.false;
     }
@@ -93,3 +92,7 @@ cleans-init g c =
           LeadsRow-first c.args.most c.args.row by.tidying mode disk.is_honest store.settings under store.store disk.seen (g.O.Write.contents c.args.out.now) by.leaves;
       fewer = inr (refl, refl);
     }
+
+pub returns-then-due-eq0-clause-rest : goal.returns-then-due-eq0-clause-rest
+returns-then-due-eq0-clause-rest g c =
+    let at = c.cleans in ((at.invariant.settings, at.invariant.honest, λ other. at.invariant.fine ∙ sym at.invariant.same), at.invariant.holds)

@@ -1,4 +1,4 @@
-use Rattle.bwsh.proofs.Prints.{PrintsOneText-written}
+use Rattle.bwsh.proofs.CopiedLemmas.{PrintsOneText-written}
 use Rattle.bwsh.proofs.session.show_help.Goals as goal
 
 pub returns : goal.returns

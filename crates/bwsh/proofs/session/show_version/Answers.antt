@@ -1,5 +1,5 @@
 use Rattle.bwsh.specs.Session.{version_text}
-use Rattle.bwsh.proofs.Prints.{Prints-written}
+use Rattle.bwsh.proofs.CopiedLemmas.{Prints-written}
 use Rattle.bwsh.proofs.session.show_version.Goals as goal
 
 pub returns : goal.returns

@@ -1,0 +1,12 @@
+use Rattle.std.proofs.Common.{◌≡◌, List, None}
+use Rattle.bwsh.specs.declared.order.Order.{Order}
+use Rattle.bwsh.specs.Source.{IsToCome}
+use Rattle.bwsh.proofs.source.Source.next.Given as goal
+
+-- what can come of what is left can come of all
+abbrev pub invariant-loop : goal.invariant-loop
+invariant-loop g l = record {
+  queued : l.self.queued ≡ None;
+  stream : l.self.is_stream ≡ l.fn.self.is_stream;
+  comes : (rest : List Order) → IsToCome g.I.Read.remaining l.self rest → IsToCome g.I.Read.remaining l.fn.self rest;
+}
