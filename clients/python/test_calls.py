@@ -288,22 +288,61 @@ class Faults(StoreTest):
         store.put(b"b", b"2")
         with self.assertRaises(Refused) as caught:
             store.batch([Put(b"c", b"3"), Unchecked(Put(b"much too long", b"4"))])
-        self.assertEqual((caught.exception.number, caught.exception.fault), (2, "fault 2 KeyTooLong 1"))
-        self.assertIn("a key that is longer than max-key", caught.exception.why)
-        self.assertEqual(caught.exception.unflushed, 1)
-        self.assertIn("batches lost since the last flush: 1", str(caught.exception))
-        self.assertIsNone(store.pid)
+        error = caught.exception
+        self.assertEqual((error.number, error.name, error.place), (2, "KeyTooLong", 1))
+        self.assertEqual(error.fault, "fault 2 KeyTooLong 1")
+        self.assertIn("a key that is longer than max-key", error.why)
+        self.assertNotIn("lost", str(error))
+
+    def test_a_refusal_loses_nothing(self) -> None:
+        store = self.store(create=True, max_key=4)
+        store.put(b"a", b"1")
+        pid = store.pid
+        for number in range(100):
+            with self.assertRaises(Refused) as caught:
+                store.batch([Put(b"c", b"3")] * number + [Unchecked(Put(b"too long", b"4")), Put(b"d", b"5")])
+            error = caught.exception
+            self.assertEqual((error.number, error.place, error.unflushed, store.unflushed), (2, number, 0, 1))
+            self.assertEqual(error.why.count("max-key"), 1)  # the explanation of this refusal alone
+        with self.assertRaises(Refused) as caught:
+            store.clean()
+        self.assertEqual((caught.exception.name, caught.exception.place), ("NothingToClean", None))
+        self.assertEqual(store.scan(), [(b"a", b"1")])
+        store.flush()
+        self.assertEqual((store.pid, store.unflushed), (pid, 0))
         store.reopen()
         self.assertEqual(store.scan(), [(b"a", b"1")])
 
-    def test_batches_before_one_that_is_refused_in_the_same_call_are_not_counted(self) -> None:
+    def test_a_line_that_is_no_command_is_reported_and_loses_nothing(self) -> None:
+        @dataclass(frozen=True)
+        class Unknown:
+            def text(self) -> bytes:
+                return b"increment a\n"
+
+            def reply(self, line: Callable[[], bytes]) -> bytes:
+                return line()
+
+        store = self.store(create=True)
+        store.put(b"a", b"1")
+        with self.assertRaisesRegex(StoreError, "^line [0-9]+: unknown command") as caught:
+            store.batch([Put(b"b", b"2"), Unknown()])
+        self.assertEqual((caught.exception.unflushed, store.unflushed), (0, 1))
+        self.assertEqual(store.scan(), [(b"a", b"1")])
+
+    def test_the_batches_beside_one_that_is_refused_are_executed(self) -> None:
         store = self.store(create=True, max_key=4)
         store.put(b"a", b"1")
+        much = [Unchecked(Put(b"much too long", b"4"))]
         with self.assertRaises(Refused) as caught:
-            store.batches([[Put(b"b", b"2")], [Put(b"c", b"3")], [Unchecked(Put(b"much too long", b"4"))]])
-        self.assertEqual(caught.exception.unflushed, 1)
-        store.reopen()
-        self.assertEqual(store.scan(), [])
+            store.batches([[], [Put(b"b", b"2")], [Get(b"b"), *much], [Put(b"c", b"3")], [], much, [Get(b"a")]])
+        self.assertEqual((caught.exception.place, caught.exception.unflushed), (1, 0))
+        self.assertEqual((store.unflushed, [key for key, _ in store.scan()]), (3, [b"a", b"b", b"c"]))
+
+    def test_rows_that_look_like_refusals_are_rows(self) -> None:
+        store = self.store(create=True)
+        rows = [(b"fault", b"9"), (b"line", b"1:")]
+        store.load(rows)
+        self.assertEqual((store.scan(), store.scan_back()), (rows, rows[::-1]))
 
     def test_exceptions_are_the_same_in_another_process(self) -> None:
         errors: list[StoreError] = [
@@ -322,8 +361,7 @@ class Faults(StoreTest):
             self.assertEqual((str(again), vars(again)), (str(error), vars(error)))
 
     def test_what_is_gone_may_be_flushed_where_a_flush_may_be_done(self) -> None:
-        refused = [Refused("fault 6 NoMemory", "", 1), Refused("fault 9 Device", "", 1)]
-        for error in (Killed(signal.SIGKILL, 1), *refused):
+        for error in (Killed(signal.SIGKILL, 1), Refused("fault 9 Device", "", 1)):
             self.assertIn("batches lost since the last flush, unless a flush was in progress: 1", str(error))
         self.assertIn("batches lost since the last flush: 1", str(Refused("fault 10 Full", "", 1)))
 

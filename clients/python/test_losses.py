@@ -22,6 +22,11 @@ FAILS_AT_FLUSH = """\
         print("fault 9 Device", "full", sep="\\n", file=sys.stderr)
         sys.exit(4)
 """
+# The same, after the answer with which a stream whose disk has failed ends.
+ANSWERS_AND_FAILS = FAILS_AT_FLUSH.replace("        print(", """\
+        sys.stdout.buffer.write(b"fault 9 Device\\n")
+        sys.stdout.buffer.flush()
+        print(""")
 
 
 @dataclass
@@ -275,12 +280,12 @@ class Kills(StoreTest):
         with Store(self.path, create=True, program=self.program_that(*lines)) as store:
             store.put(b"a", b"1")
             with self.assertRaises(self.interrupt(after=0)):
-                store.copy_to(copy)
+                store.copy_to(copy, fan=32)
             with self.assertRaises(ProcessLookupError):
                 os.kill(int(mark.read_text()), 0)
             self.assertEqual(store.scan(), [(b"a", b"1")])
             self.program_that("pass")
-            store.copy_to(copy)
+            store.copy_to(copy, fan=32)
         with Store(copy, program=PROGRAM) as copied:
             self.assertEqual(copied.scan(), [(b"a", b"1")])
 
@@ -422,9 +427,27 @@ class Losses(StoreTest):
         self.assertEqual(store.scan(), [])
         store.close()
 
-    def test_a_flush_fails_after_a_request_of_another_thread_was_refused(self) -> None:
-        self.flush_after_loss(lambda store: store.clean(), Refused)
-        self.flush_after_loss(lambda store: store.batch([Unchecked(Put(b"k" * 100, b""))]), Refused)
+    def test_a_flush_succeeds_after_a_request_of_another_thread_was_refused(self) -> None:
+        requests: list[Callable[[Store], object]] = [
+            lambda store: store.clean(),
+            lambda store: store.batch([Unchecked(Put(b"k" * 100, b""))]),
+            lambda store: store.copy_to(self.path.parent),
+        ]
+        store, refused = self.store(create=True, **SMALL, segments=64), list[int]()
+        store.put(b"a", b"1")
+        for request in requests:
+
+            def ask() -> None:
+                try:
+                    request(store)
+                except Refused as error:
+                    refused.append(error.number)
+
+            run_threads(ask, 1)
+        self.assertEqual((refused, store.unflushed), ([11, 2, 9], 1))
+        store.flush()
+        store.reopen()
+        self.assertEqual(store.scan(), [(b"a", b"1")])
 
     def test_a_flush_fails_after_a_kill(self) -> None:
         def kill_and_get(store: Store) -> None:
@@ -449,17 +472,18 @@ class Losses(StoreTest):
         self.flush_after_loss(lambda store: store.batch([Interrupted()]), Interrupt)
 
     def test_a_flush_fails_after_the_disk_has_failed(self) -> None:
-        store = Store(self.path, program=self.program(ANSWERS_EACH_LINE + FAILS_AT_FLUSH))
-        store.batches([[Unchecked(Get(b"a"))], [Unchecked(Get(b"a"))]])
-        with self.assertRaises(Refused) as refused:
-            store.flush()
-        self.assertEqual((refused.exception.number, refused.exception.unflushed), (9, 2))
-        for _ in range(2):
-            with self.assertRaisesRegex(Lost, "fault 9 Device: full.*, unless a flush was in progress: 2"):
+        for fails in (FAILS_AT_FLUSH, ANSWERS_AND_FAILS):
+            store = Store(self.path, program=self.program(ANSWERS_EACH_LINE + fails))
+            store.batches([[Unchecked(Get(b"a"))], [Unchecked(Get(b"a"))]])
+            with self.assertRaises(Refused) as refused:
                 store.flush()
-        store.reopen()
-        self.assertEqual(store.get(b"a"), b"x" * 1_000)
-        store.close()
+            self.assertEqual((refused.exception.number, refused.exception.unflushed), (9, 2))
+            for _ in range(2):
+                with self.assertRaisesRegex(Lost, "fault 9 Device: full.*, unless a flush was in progress: 2"):
+                    store.flush()
+            store.reopen()
+            self.assertEqual(store.get(b"a"), b"x" * 1_000)
+            store.close()
 
     def test_a_loss_lasts_until_a_reopen_succeeds(self) -> None:
         store = self.store(create=True)

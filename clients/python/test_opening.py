@@ -37,6 +37,16 @@ for line in sys.stdin.buffer:
     else:
         batches[-1].append(line)
 """
+REFUSES_EACH_BATCH = """\
+import sys
+print("rows 0", flush=True)
+batches = 0
+for line in sys.stdin.buffer:
+    if line == b"go\\n":
+        batches += 1
+        if batches > 1:
+            print("fault 2 KeyTooLong", batches - 1, flush=True)
+"""
 
 
 class Opening(StoreTest):
@@ -307,14 +317,34 @@ class Copies(StoreTest):
         store.batch([Put(key, b"old") for key, _ in pairs])
         store.flush()
         store.load(pairs)
+        pid = store.pid
         self.assertEqual(synced_folders(lambda: store.copy_to(self.copy)), [self.folder])
-        self.assertEqual(store.unflushed, 0)
-        self.assertIsNotNone(store.pid)
+        self.assertEqual((store.unflushed, store.pid), (1, pid))
         self.assertFalse(store.put(b"000", b"new"))
         copy = self.copied()
         self.assertEqual((copy.scan(), copy.settings, copy.verify().pairs), (pairs, store.settings, 200))
         store.reopen()
-        self.assertEqual(store.scan(), pairs)
+        self.assertEqual(store.scan(), [(key, b"old") for key, _ in pairs])
+
+    def test_a_copy_under_other_settings_flushes_and_the_store_goes_on(self) -> None:
+        store = self.store(create=True, **SMALL, segments=64)
+        store.put(b"a", b"1")
+        self.assertEqual(synced_folders(lambda: store.copy_to(self.copy, fan=4)), [self.folder])
+        self.assertEqual(store.unflushed, 0)
+        self.assertIsNotNone(store.pid)
+        self.assertFalse(store.put(b"a", b"2"))
+        copy = self.copied()
+        self.assertEqual((copy.scan(), copy.settings.fan), ([(b"a", b"1")], 4))
+        store.reopen()
+        self.assertEqual(store.scan(), [(b"a", b"1")])
+
+    def test_a_copy_may_have_any_name(self) -> None:
+        store = self.store(create=True)
+        store.put(b"a", b"1")
+        for name in ("a copy", "%41", "*", "Häuschen", "new\nline", "x" * 200):
+            store.copy_to(self.folder / name)
+            with Store(self.folder / name, program=PROGRAM) as copy:
+                self.assertEqual(copy.scan(), [(b"a", b"1")])
 
     def test_a_copy_has_the_given_settings(self) -> None:
         self.store(create=True, **SMALL, segments=64).close()
@@ -335,19 +365,14 @@ class Copies(StoreTest):
         store.flush()
         pairs = [(b"k%03d" % number, b"v" * 60) for number in range(500)]
         store.load(pairs)
-        with self.assertRaises(Refused) as full:
-            store.copy_to(self.copy, segments=256)
-        self.assertEqual((full.exception.number, full.exception.unflushed), (10, 1))
-        with self.assertRaises(Lost):
-            store.copy_to(self.copy, segments=256)
-        self.assertFalse(self.copy.exists())
-        store.reopen()
+        for _ in range(2):
+            with self.assertRaises(Refused) as full:
+                store.flush()
+            self.assertEqual((full.exception.name, full.exception.unflushed), ("Full", 0))
+            self.assertEqual(store.unflushed, 1)
         store.copy_to(self.copy, segments=256)
         copy = self.copied()
-        copy.load(pairs)
-        copy.flush()
-        copy.reopen()
-        self.assertEqual(copy.scan(), [(b"a", b"1"), *pairs])
+        self.assertEqual((copy.scan(), copy.settings.segments), ([(b"a", b"1"), *pairs], 256))
 
     def test_a_copy_replaces_an_empty_or_unfinished_file(self) -> None:
         store = self.store(create=True, **SMALL, segments=8)
@@ -372,6 +397,7 @@ class Copies(StoreTest):
             (self.folder / "missing/copy", {}, 9),
             (self.folder / "copy 2", {"fan": 3}, 1),
             (self.folder / "copy 3", {"max_value": 0, "segments": 3, "seg_size": 16}, 1),
+            (self.folder / "copy 4", {"segments": 0}, 1),
         ]
         for path, settings, fault in wrong:
             with self.assertRaises(Refused) as refused:
@@ -413,19 +439,19 @@ class Copies(StoreTest):
         self.addCleanup(store.close)
         store.put(b"a", b"1")
         with self.assertRaises(Killed) as killed:
-            store.copy_to(self.copy)
+            store.copy_to(self.copy, fan=32)
         self.assertEqual(killed.exception.unflushed, 0)
         before = signal.signal(signal.SIGCHLD, signal.SIG_IGN)
         self.addCleanup(signal.signal, signal.SIGCHLD, before)
         with self.assertRaisesRegex(StoreError, "SIGCHLD"):
-            store.copy_to(self.copy)
+            store.copy_to(self.copy, fan=32)
         self.program_that(f"open({str(self.copy)!r}, 'wb').write(bytes(5_000))", KILLS_ITSELF)
         with self.assertRaisesRegex(StoreError, "SIGCHLD"):
-            store.copy_to(self.copy)
+            store.copy_to(self.copy, fan=32)
         self.program_that("pass")
-        store.copy_to(self.copy)
+        store.copy_to(self.copy, fan=32)
         with self.assertRaisesRegex(Refused, "fault 9 Device"):
-            store.copy_to(self.copy)
+            store.copy_to(self.copy, fan=32)
         self.assertEqual((store.scan(), self.copied().scan()), ([(b"a", b"1")], [(b"a", b"1")]))
 
     def test_a_process_that_locks_the_file_before_a_copy_is_waited_for(self) -> None:
@@ -435,32 +461,40 @@ class Copies(StoreTest):
         store = Store(self.path, create=True, program=self.program_that(lock))
         store.put(b"a", b"1")
         with self.assertRaises(Refused) as refused:
-            store.copy_to(self.copy)
+            store.copy_to(self.copy, fan=32)
         self.assertTrue(refused.exception.is_locked())
         self.assertFalse(self.copy.exists() and self.copy.read_bytes())
         self.assertEqual(store.scan(), [(b"a", b"1")])
         store.close()
         mark.unlink()
         with Store(self.path, program=self.program_that(lock), wait=taukremil.PATIENCE) as store:
-            store.copy_to(self.copy)
+            store.copy_to(self.copy, fan=32)
         self.assertEqual(self.copied().scan(), [(b"a", b"1")])
 
     def test_a_process_that_locks_the_file_after_a_copy_is_waited_for(self) -> None:
+        mark = self.folder / "mark"
         lock = f"file = os.open({str(self.path)!r}, os.O_RDONLY); fcntl.flock(file, fcntl.LOCK_SH)"
-        leave = "if os.fork() == 0: os.closerange(0, 3); time.sleep(0.5); os._exit(0)"
-        program = self.program_that(lock, leave, "os.close(file)")
+        hold = f"    while os.path.exists({str(mark)!r}): time.sleep(0.01)"
+        leave = ("if os.fork() == 0:", "    os.closerange(0, 3)", hold, "    os._exit(0)")
+        program = self.program_that(lock, *leave, "os.close(file)")
+        mark.touch()
         with Store(self.path, create=True, program=program) as store:
             store.put(b"a", b"1")
             with self.assertRaises(Refused) as refused:
-                store.copy_to(self.copy)
+                store.copy_to(self.copy, fan=32)
             self.assertTrue(refused.exception.is_locked())
             self.assertEqual(self.copied().scan(), [(b"a", b"1")])
+            mark.unlink()
         with Store(self.path, program=program, wait=taukremil.PATIENCE) as store:
-            store.copy_to(self.folder / "copy 2")
+            mark.touch()
+            threading.Timer(0.5, mark.unlink).start()
+            store.copy_to(self.folder / "copy 2", fan=32)
             self.assertEqual(store.scan(), [(b"a", b"1")])
+            mark.touch()
             with self.assertRaisesRegex(Refused, "fault 1 BadSettings"):  # though the store cannot be opened again at once
                 store.copy_to(self.folder / "copy 3", fan=3)
             self.assertIsNone(store.pid)
+            mark.unlink()
             self.assertEqual(store.scan(), [(b"a", b"1")])
 
     def test_copies_beside_threads_that_put(self) -> None:
@@ -511,6 +545,20 @@ class Ranges(StoreTest):
         for size in range(1, len(keys) + 2):
             with unittest.mock.patch("taukremil.store.PAGE_SIZE", size):
                 self.assertEqual([key for key, _ in store], keys)
+
+    def test_a_range_is_read_from_either_end(self) -> None:
+        store = self.store(create=True, max_key=2)
+        keys = [b"", b"\0", b"\0\xff", b"%", b"*", b"a", b"a\0", b"b", b"\xff\xff"]
+        store.load((key, key) for key in keys)
+        for lo in keys:
+            for hi in (*keys, None):
+                rows = [(key, key) for key in keys if lo <= key and (hi is None or key < hi)]
+                for limit in range(len(rows) + 2):
+                    self.assertEqual(store.scan(lo, hi, limit), rows[:limit])
+                    self.assertEqual(store.scan_back(lo, hi, limit), rows[::-1][:limit])
+        self.assertEqual(store.scan_back(), [(key, key) for key in reversed(keys)])
+        with self.assertRaisesRegex(ValueError, "the lower bound has 3 bytes"):
+            store.scan_back(b"abc")
 
     def test_each_key_has_a_next_one(self) -> None:
         for max_key, count in ((1, 257), (2, 65_793)):
@@ -584,6 +632,13 @@ class Loads(StoreTest):
         self.assertEqual(store.load([(b"%d" % number, b"") for number in range(25)], size=10), 25)
         watchdog.cancel()
         self.assertEqual(store.unflushed, 3)
+        store.close()
+
+    def test_the_first_refusal_of_a_load_is_raised(self) -> None:
+        store = Store(self.path, program=self.program(REFUSES_EACH_BATCH))
+        with self.assertRaises(Refused) as refused:
+            store.load([(b"%d" % number, b"") for number in range(9)], size=1)
+        self.assertEqual((refused.exception.fault, store.unflushed), ("fault 2 KeyTooLong 1", 0))
         store.close()
 
     def test_a_wrong_pair_ends_a_load_after_the_batches_before(self) -> None:

@@ -216,6 +216,17 @@ class Wipe(_Checked[int]):
         return count
 
 
+def encode_back(scan: Scan, settings: Settings) -> bytes:
+    """Returns the line that asks for the rows of `scan` from the last key down. It is an order of its own."""
+    return b".back" + scan.checked_text(settings).removeprefix(b"scan")
+
+
+def encode_copy(path: bytes, segments: int | None) -> bytes:
+    """Returns the line that asks for a copy of the store as it is now."""
+    token = b"%" + path.hex("%").encode()
+    return b".copy %b\n" % token if segments is None else b".copy %b %d\n" % (token, _integer(segments))
+
+
 def may_write(command: object) -> bool:
     return not isinstance(command, (Get, Scan))
 

@@ -4,7 +4,8 @@ from __future__ import annotations
 
 import signal
 
-NO_MEMORY, DEVICE = 6, 9  # faults after which a flush may be durable
+KEY_TOO_LONG, VALUE_TOO_LONG = 2, 3  # the faults of one command
+DEVICE = 9  # the fault after which a flush may be durable
 # In the program's explanations of fault 9.
 LOCKED = "Another program has locked the file"
 EXISTS = "entity already exists"
@@ -31,17 +32,23 @@ class StoreError(Exception):
 
 
 class Refused(StoreError):
-    """Reports that the program refused a request, or could not open the file, and has ended.
+    """Reports that the program refused a request, which had no effect, or could not open the file.
 
-    `number` is the fault's number in docs/RULES.md, `fault` the program's line, and `why` the cause and what to do.
-    The request had no effect, except that after faults 6 (out of memory) and 9 (device) a flush may be durable.
+    `fault` is the program's line, such as "fault 2 KeyTooLong 0", with the `number` and `name` of docs/RULES.md and the
+    `place`: the index of the command in its batch, or None if the fault is of no command. `why` is the cause and what
+    to do.
+    Nothing is lost, and the store can be used, except after fault 9 (device): then the program has ended, and a flush
+    may be durable. The fault 9 of a copy is the copy's: then, too, the store can be used.
     """
 
     def __init__(self, fault: str, why: str, unflushed: int = 0) -> None:
+        _, number, *rest = fault.split()
         self.fault = fault
-        self.number = int(fault.split()[1])
+        self.number = int(number)
+        self.name = rest[0] if rest else ""
+        self.place = int(rest[1]) if self.number in (KEY_TOO_LONG, VALUE_TOO_LONG) else None
         self.why = why
-        self.unless = IF_NOT_FLUSHING if self.number in (NO_MEMORY, DEVICE) else ""
+        self.unless = IF_NOT_FLUSHING if self.number == DEVICE else ""
         super().__init__(f"{fault}: {why}" if why else fault, unflushed)
 
     def __reduce__(self) -> tuple[type[StoreError], tuple[object, ...]]:
@@ -95,6 +102,11 @@ class Lost(StoreError):
         if isinstance(error, StoreError):
             return Lost(unflushed, error._text, error.unless)
         return Lost(unflushed, f"{type(error).__name__} interrupted a call", IF_NOT_FLUSHING)
+
+
+def refusal_of(line: str, why: str) -> StoreError:
+    """Returns the exception for a refusal after which the program goes on."""
+    return Refused(line, why) if line.startswith("fault ") else StoreError(f"{line}: {why}" if why else line)
 
 
 def error_of(status: int, said: list[str], unflushed: int) -> StoreError:

@@ -12,6 +12,8 @@ from collections import deque
 READ_SIZE = 1 << 18  # bytes
 PIPE_SIZE = 1 << 20  # bytes, the most that Linux gives to any user
 PATIENCE = 60  # seconds until a program that does not end is killed
+REFUSALS = (b"fault ", b"line ")  # each refusal is one line that begins so
+DEVICE_FAILED = b"fault 9 Device"  # the last answer of a program whose disk has failed
 
 
 class Ended(Exception):
@@ -21,6 +23,16 @@ class Ended(Exception):
 class Unexpected(Exception):
     def __init__(self, line: bytes) -> None:
         super().__init__(f"unexpected answer from the program: {line[:100]!r}")
+
+
+class Rejected(Exception):
+    """Signals that the program answered a request by `line`, a refusal, and goes on. `why` is its explanation.
+
+    `executed` is how many batches with writes of the same call were executed.
+    """
+
+    def __init__(self, line: str, why: str, executed: int = 0) -> None:
+        self.line, self.why, self.executed = line, why, executed
 
 
 def run_once(command: list[str]) -> tuple[int, list[str]]:
@@ -40,6 +52,7 @@ class Program:
         # A full pipe for standard error would block the program. In a session of its own, the program does not get a
         # terminal's interrupt.
         self._stderr = tempfile.TemporaryFile()
+        fcntl.fcntl(self._stderr, fcntl.F_SETFL, os.O_APPEND)  # so that it can be truncated meanwhile
         pipe = subprocess.PIPE
         try:
             self.process = subprocess.Popen(
@@ -97,6 +110,27 @@ class Program:
             *lines, self._partial_line = (self._partial_line + piece).split(b"\n")
             self._lines.extend(lines)
         return self._lines.popleft()
+
+    def check_not_refused(self, is_copy: bool = False) -> None:
+        """Raises `Rejected` if the next line is a refusal, and `Ended` if it is the program's last answer.
+
+        Must be called where an answer begins, because a line of rows can look like a refusal. After a copy whose file
+        fails the program goes on.
+        """
+        line = self.line()
+        if not line.startswith(REFUSALS):
+            self._lines.appendleft(line)
+        elif line == DEVICE_FAILED and not is_copy:
+            raise Ended
+        else:
+            raise Rejected(line.decode(errors="replace"), " ".join(_messages(self._take_messages())))
+
+    def _take_messages(self) -> bytes:
+        """Returns what is in the file of standard error, and empties it. The program writes there before it answers."""
+        descriptor = self._stderr.fileno()
+        said = os.pread(descriptor, READ_SIZE, 0)
+        os.ftruncate(descriptor, 0)
+        return said
 
     def check_nothing_left(self) -> None:
         if self._lines or self._partial_line:

@@ -15,12 +15,12 @@ from types import TracebackType
 from typing import Any, Literal, TypeVar, Union, overload
 
 from .commands import MOST_COMMANDS, MOST_ROWS, Add, Command, Del, Get, NextLine, Put, Row, Scan, Wipe
-from .commands import encode, encode_batch, encode_pairs, may_write, next_key, parse_numbers, prefix_range
+from .commands import encode, encode_back, encode_batch, encode_copy, encode_pairs, may_write, next_key, parse_numbers, prefix_range
 from .copying import create_if_missing, sync_folder, write_copy
-from .errors import Lost, Refused, StoreError, error_of
+from .errors import Lost, Refused, StoreError, error_of, refusal_of
 from .header import LARGEST, SETTINGS, Settings, Stat, read_settings, read_stat
 from .loading import Loading
-from .program import Ended, Program, Unexpected
+from .program import Ended, Program, Rejected, Unexpected
 
 OPTIONS = (*SETTINGS, "workers", "grain", "tidy")
 SEGMENTS = 4_096  # of a new store
@@ -57,6 +57,7 @@ def _check_names(settings: dict[str, int], known: tuple[str, ...]) -> None:
 class Store:
     """Represents an ordered map in a file, which the program locks while it runs.
 
+    A request that the program refuses raises `Refused`. It has no effect, and nothing is lost.
     If the program ends, the call raises `Refused`, `Killed` or `StoreError`. The batches since the last flush are then
     lost. If there were any, each later call in any thread raises `Lost` until `reopen`; if there were none, the next
     call starts the program again. An exception that interrupts a call, such as KeyboardInterrupt, has the same effect.
@@ -189,23 +190,27 @@ class Store:
     def batches(self, batches: Iterable[Iterable[Command[Any]]]) -> list[list[Any]]:
         """Executes `batches` in order, and returns a list of replies for each.
 
-        All are sent at once, which saves waiting for each reply; they remain separate batches.
+        All are sent at once, which saves waiting for each reply; they remain separate batches. If one is refused, the
+        others are executed, and then the first refusal is raised.
         """
         listed = [list(batch) for batch in batches]
         if not any(listed):
             self._run_alone(self._check_not_lost)
             return [[] for _ in listed]
-        texts = [encode_batch(batch, self._settings, f"batch {index}, ") for index, batch in enumerate(listed)]
-        writing = sum(any(map(may_write, batch)) for batch in listed)
-        return self._query(
-            b"".join(texts), lambda line: [[command.reply(line) for command in batch] for batch in listed], writing
-        )
+        texts = [encode_batch(batch, self._settings, f"batch {index}, ") for index, batch in enumerate(listed) if batch]
+
+        def talk(program: Program) -> tuple[list[list[Any]], int]:
+            program.send(b"".join(texts))
+            return _read_replies(program, listed)
+
+        return self._run_alone(lambda: self._talk(self._running_program(), talk))
 
     def load(self, pairs: Iterable[Row], size: int = LOAD_SIZE) -> int:
         """Puts `pairs` in batches of `size`, and returns how many keys were new. Does not flush.
 
         The next batch is sent while the program works at the one before. If `pairs` raises an error or a pair is wrong,
-        the complete batches before are executed, and the error is raised. Calls of other threads wait until the end.
+        the complete batches before are executed, and the error is raised. If a batch is refused, the next may have been
+        sent, and is executed. Calls of other threads wait until the end.
         """
         if not 1 <= size <= MOST_COMMANDS:
             raise ValueError(f"a batch has 1 to {MOST_COMMANDS} pairs, not {size}")
@@ -240,6 +245,11 @@ class Store:
         """Returns the first `limit` pairs with lo <= key < hi (None: no bound), in key order."""
         return self._run_one(Scan(lo, hi, limit))
 
+    def scan_back(self, lo: bytes = b"", hi: bytes | None = None, limit: int = MOST_ROWS) -> list[Row]:
+        """Returns the last `limit` pairs with lo <= key < hi (None: no bound), the greatest key first."""
+        scan = Scan(lo, hi, limit)
+        return self._query(encode_back(scan, self._settings), scan.reply)
+
     def prefix(self, prefix: bytes, limit: int = MOST_ROWS) -> list[Row]:
         """Returns the first `limit` pairs whose keys begin with `prefix`, in key order."""
         return self.scan(*prefix_range(prefix), limit)
@@ -269,16 +279,17 @@ class Store:
         return self._run_alone(self._read_stat)  # not during a flush
 
     def copy_to(self, path: str | os.PathLike[str], **settings: int) -> None:
-        """Flushes, and copies the store to the file `path`, which must be missing, empty or unfinished.
+        """Copies the store, as it is now, to the file `path`, which must be missing, empty or unfinished.
 
         The copy has the settings of this store, except the given ones (`fan`, `chain`, `max_key`, `max_value`,
-        `seg_size` and `segments`), and version 1 of the log. The program is ended for the copy, and then started again.
-        If another process locks the file in between, tries again for as long as `wait` says, and then raises `Refused`.
-        After an error of the copy itself nothing is lost, and the store can be used. After an error of the flush, see
-        `Store`.
+        `seg_size` and `segments`), and version 1 of the log. A new number of `segments` costs nothing more. For other
+        settings the store is flushed, and the program is ended for the copy, and then started again; if another
+        process locks the file in between, tries again for as long as `wait` says, and then raises `Refused`.
+        After an error of the copy itself nothing is lost, and the store can be used.
         """
         _check_names(settings, SETTINGS)
-        self._run_alone(lambda: self._copy_to(Path(path).absolute(), settings))
+        copy = self._copy_alone if settings.keys() - {"segments"} else self._copy_beside
+        self._run_alone(lambda: copy(Path(path).absolute(), settings))
 
     def reopen(self) -> None:
         """Ends the program without a flush, and starts it again with the last flushed store. Ends the state `Lost`."""
@@ -312,18 +323,39 @@ class Store:
             raise Lost(self._lost.unflushed, self._lost.reason, self._lost.unless)
 
     def _flush(self) -> int:
-        def sequence(line: NextLine) -> int:
-            answer = line()
+        def talk(program: Program) -> tuple[int, int]:
+            program.send(b"flush\n")
+            answer = b"cleaned "
             while answer.startswith(b"cleaned "):
-                answer = line()
-            return self._record_commit(answer, b"flushed")
+                program.check_not_refused()
+                answer = program.line()
+            return self._record_commit(answer, b"flushed"), 0
 
-        return self._talk(self._running_program(), lambda program: (_ask(program, b"flush\n", sequence), 0))
+        return self._talk(self._running_program(), talk)
 
-    def _copy_to(self, path: Path, settings: dict[str, int]) -> None:
-        self._running_program()
+    def _check_not_own(self, path: Path) -> None:
         if path.exists() and path.samefile(self.path):
             raise ValueError("a store cannot be copied to its own file")
+
+    def _copy_beside(self, path: Path, settings: dict[str, int]) -> None:
+        """Copies the store while its program goes on."""
+        text = encode_copy(os.fsencode(path), settings.get("segments"))
+
+        def talk(program: Program) -> tuple[None, int]:
+            program.send(text)
+            program.check_not_refused(is_copy=True)
+            parse_numbers(program.line(), b"copied")
+            return None, 0
+
+        program = self._running_program()
+        self._check_not_own(path)
+        self._talk(program, talk)
+        sync_folder(path)
+
+    def _copy_alone(self, path: Path, settings: dict[str, int]) -> None:
+        """Copies the store under other settings, for which its program is ended."""
+        self._running_program()
+        self._check_not_own(path)
         if self._unflushed:
             self._flush()
         options = {**self._options, **asdict(self._settings), **settings}
@@ -431,10 +463,9 @@ class Store:
     def _talk(self, program: Program, talk: Callable[[Program], tuple[T, int]]) -> T:
         """Runs `talk`, which returns a result and how many batches with writes were executed."""
         try:
-            found, writing = talk(program)
+            found, writing = _unless_rejected(program, talk)
             program.check_nothing_left()
             self._unflushed += writing
-            return found
         except Ended:
             unflushed = self._lose(StoreError("the program has ended"))
             error = error_of(*program.end(), unflushed)
@@ -449,6 +480,9 @@ class Store:
             self._lose(interrupt)
             program.kill()
             raise
+        if isinstance(found, Rejected):
+            raise refusal_of(found.line, found.why)
+        return found
 
     def _lose(self, error: BaseException) -> int:
         """Drops the program, and returns how many unflushed batches are lost with it because of `error`."""
@@ -459,7 +493,32 @@ class Store:
 
 def _ask(program: Program, text: bytes, read: Callable[[NextLine], T]) -> T:
     program.send(text)
+    program.check_not_refused()
     return read(program.line)
+
+
+def _read_replies(program: Program, batches: list[list[Command[Any]]]) -> tuple[list[list[Any]], int]:
+    """Reads the replies to all batches. Returns them and how many batches with writes were executed."""
+    replies: list[list[Any]] = []
+    executed, first = 0, None
+    for batch in batches:
+        try:
+            if batch:
+                program.check_not_refused()
+            replies.append([command.reply(program.line) for command in batch])
+            executed += any(map(may_write, batch))
+        except Rejected as rejected:
+            first = first or rejected
+    if first:
+        raise Rejected(first.line, first.why, executed)
+    return replies, executed
+
+
+def _unless_rejected(program: Program, talk: Callable[[Program], tuple[T, int]]) -> tuple[T | Rejected, int]:
+    try:
+        return talk(program)
+    except Rejected as rejected:
+        return rejected, rejected.executed
 
 
 _stores: weakref.WeakSet[Store] = weakref.WeakSet()
