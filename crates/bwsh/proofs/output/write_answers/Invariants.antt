@@ -1,9 +1,0 @@
-use Rattle.std.proofs.Common.{drop}
-use Rattle.bwsh.proofs.AnswerLemmas.{PrintsAfter, lines_of_answers}
-use Rattle.bwsh.proofs.output.write_answers.Given as goal
-
--- the answers that are left print what is still to be printed
-abbrev pub invariant-loop-answer : goal.invariant-loop-answer
-invariant-loop-answer g l = record {
-  leads : PrintsAfter (g.O.Write.contents l.fn.out) (lines_of_answers l.fn.answers) (g.O.Write.contents l.out) (lines_of_answers (drop l.answer-index l.answers));
-}
