@@ -1,5 +1,5 @@
 #!/usr/bin/env python3
-"""Proves the layers of the server that have contracts: today the text layer, as a library of its own in a copy. Takes a few minutes."""
+"""Proves the layers of the server that have contracts: today the text layer, as a library of its own in a copy. Takes a minute."""
 
 import subprocess
 import sys
