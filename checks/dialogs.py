@@ -246,6 +246,25 @@ def explain_copy(programs: Programs) -> Outcome:
         return Outcome(differs(ran, 0, b"fault 9 Device\nnew\n", err.encode()))
 
 
+def explain_damage(programs: Programs) -> Outcome:
+    """A log that is damaged while a stream runs refuses the clean that reads it. The store in memory is whole, and can be copied."""
+    with new_folder() as folder:
+        path, copy = Path(folder) / "file", Path(folder) / "copy"
+        dialog = Dialog(programs.store, "--explain", "--disk", path, "--create", "--fan=4", "--max-value=60", "--seg-size=1024")
+        puts = b"".join(b"put k%03d %s\n" % (number, 60 * b"v") for number in range(99))
+        dialog.send(puts + b"flush\n")
+        answers = [dialog.read_line() for _ in range(100)]
+        with path.open("r+b") as file:
+            file.seek(512 + 16)
+            file.write(200 * b"\xff")
+        dialog.send(b"clean\n.copy %s\n" % str(copy).encode())
+        answers += [dialog.read_line() for _ in range(2)]
+        err = f"{path}: The log in the file is damaged. A stream can save the store with .copy.\n"
+        ended = dialog.finish()
+        is_right = answers == [*99 * [b"new\n"], b"flushed 2\n", b"fault 15 BadFrame 0 16\n", b"copied 99\n"] and ended == (0, b"", err.encode())
+        return Outcome(None if is_right else f"{answers[99:]}, {ended}")
+
+
 def read_without_lock(programs: Programs) -> Outcome:
     """A session that writes nothing gives its lock up once it has read the store, before it prints."""
     with new_folder() as folder:
@@ -329,6 +348,7 @@ def cases(programs: Programs) -> list[Case]:
         Case("pages that a stream merges", tidy_at_once, (programs,)),
         Case("copies of a live store", copy_live_store, (programs,)),
         Case("a copy that is explained", explain_copy, (programs,)),
+        Case("damage that is explained", explain_damage, (programs,)),
         Case("a reader gives its lock up", read_without_lock, (programs,)),
         Case("--wait", wait_for_lock, (programs,)),
         *(Case(f"--wait for a new file, {number}", wait_for_new_file, (programs, number)) for number in range(len(WAITING))),

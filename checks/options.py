@@ -33,7 +33,7 @@ EXPLAINED: list[tuple[tuple[str, ...], bytes, bytes | None, bytes, bytes]] = [
         b"put a 1\ngo\n\n" + 65_536 * b"get a\n",
         b"new\n",
         b"fault 4 BatchTooLong\n",
-        b"The batch that line 65539 ended was not run. It has more than 65535 commands. Divide it by lines go.\n",
+        b"The batch up to line 65539 was not run. It has more than 65535 commands. Divide it by lines go.\n",
     ),
     (
         (),
@@ -96,7 +96,7 @@ EXPLAINED: list[tuple[tuple[str, ...], bytes, bytes | None, bytes, bytes]] = [
         b"scan a b 4294967296\n",
         b"",
         b"line 1: bad number\n",
-        b"Nothing was run. A limit is a number from 0 to 4294967295.\n",
+        b"Nothing was run. Numbers go from 0 to 4294967295.\n",
     ),
     (
         SMALL_STORE,

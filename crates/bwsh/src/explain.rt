@@ -63,7 +63,7 @@ fn line_rule(why: Why) -> &'static str {
         Why::UnknownCommand => "A line begins with a command that --help lists, or with #.",
         Why::WordCount => "--help lists the words of each command. In a word, %20 is a space.",
         Why::BadToken => "Words are printable ASCII, and two hexadecimal digits follow each %.",
-        Why::BadNumber => "A limit is a number from 0 to 4294967295.",
+        Why::BadNumber => "Numbers go from 0 to 4294967295.",
     }
 }
 
@@ -111,7 +111,7 @@ fn explain_order(alloc: Global, lines: &OrderLines, fault: &Fault) -> Result<Str
             explain_command(alloc, lines, *place, what)
         }
         Fault::BatchTooLong => format!(in alloc;
-            "The batch that line {end} ended was not run. It has more than 65535 commands. Divide it by lines go.\n"
+            "The batch up to line {end} was not run. It has more than 65535 commands. Divide it by lines go.\n"
         ),
         _ => format!(in alloc; "line {end}: {}\n", order_rule(fault)),
     }
@@ -176,6 +176,14 @@ impl<'a> Notes<'a> {
         }
     }
 
+    // Explains that a clean has found the log damaged, from which the store was read before.
+    fn explain_damage(&self) -> Result<String, AllocError> {
+        format!(in self.alloc;
+            "{}: The log in the file is damaged. A stream can save the store with .copy.\n",
+            self.store_path()
+        )
+    }
+
     fn explain_fault(&self, fault: &Fault) -> Result<String, AllocError> {
         if let Some(line) = self.unread_line() {
             return format!(in self.alloc; "line {line}: There was not enough memory to read it.\n");
@@ -186,6 +194,9 @@ impl<'a> Notes<'a> {
                     return explain_order(self.alloc, lines, fault);
                 }
             }
+        }
+        if self.is_open() {
+            return self.explain_damage();
         }
         self.explain_start(fault)
     }

@@ -139,8 +139,7 @@ pub fn the_commands_are_answered_in_order()
 
 /// If no order is a clean, the answers, the accepted orders and how the session ends do not depend
 /// on the disk's bytes. In the two runs compared, the store is tidied by the same batches, and the
-/// same orders fail for the same reasons: an allocation, a file of a copy, or a clean before a
-/// flush.
+/// same orders fail for the same reasons, such as an allocation or the file of a copy.
 pub fn the_bytes_of_the_disk_do_not_matter()
     ensures lines { (settings : Settings) → (st : Store) → (shown other : Reads) →
         AreSeenAlike shown other →

@@ -100,6 +100,11 @@ impl<'a> Notes<'a> {
         self.settings.set(Some(settings));
     }
 
+    /// Returns whether the store is open.
+    pub fn is_open(&self) -> bool {
+        self.settings.get().is_some()
+    }
+
     /// Returns whether the settings of the command line were to have an effect, and have none: the
     /// store has others, and there is no copy that could have them.
     pub fn has_idle_settings(&self) -> bool {

@@ -32,7 +32,7 @@ pub const CREATE: &str = "Creates the file of the store; what the file held is l
 
 pub const VERSION: &str = "Prints the version";
 
-pub const EXPLAIN: &str = "Explains an error on a second line of standard error";
+pub const EXPLAIN: &str = "Explains errors on standard error";
 
 pub const STAT: &str = "Prints statistics of the store at the end";
 
@@ -60,7 +60,7 @@ Lines of a batch file:
   # ...             A comment
 With --stream, also:
   .stat             Prints the statistics and the settings of the store
-  .copy PATH [N]    Copies the store, as it is now, to a new or empty file, with N segments
+  .copy PATH [N]    Copies the store, as it is now, to a new, empty or unfinished file, with N segments
   .tidy N           Merges up to N pages with few pairs
   .back LO HI LIMIT     Reads at most LIMIT pairs, as scan does, from the last one down
   .prefix BYTES LIMIT   Reads at most LIMIT pairs whose keys begin with BYTES
