@@ -143,12 +143,26 @@ buffered capacity held known some none = rw (some, none) (prepend-none known)
 -- ---- what a session runs
 
 -- the orders are run on a store that it starts with, and then there is the copy of what they leave, or there is none
+-- the output is handed on after some orders
+pub RunsOn-flushed : (mode : Mode) (honest : Bool) (settings : Settings) (st : Store) (left : Bytes) (orders : List Order) (old mid new : Option Bytes) (done flushed : End) (held : Pairs Bytes)
+    → RunsOn mode honest settings st left orders old mid done held → Keeps mid new → (flushed ≡ done) ⊎ (flushed ≡ Err Device) → RunsOn mode honest settings st left orders old new flushed held
+unfolding Runs
+RunsOn-flushed mode honest settings st left orders old mid new done flushed held (shown, are, runs, leaves) kept ended =
+    let ran : List Order = run_of mode.clean_when_full settings st shown orders in
+    let lines : List Bytes = answered mode.stream settings st shown (contents st.tree) ran in
+    let right : End = orders_end mode.stream settings st shown ran in (
+      shown,
+      are,
+      Prints-flushed mode.stream old mid new lines right done flushed runs kept ended,
+      OnOk-flushed done flushed (held ≡ map_kept settings st shown (contents st.tree) ran) ended leaves,
+    )
+
 module _ (request : Request) (settings : Settings) (st : Store) (file left : Bytes) (honest : Bool) (is_left : IsTrue honest → left ≡ file) (in_memory : request.disk ≡ None → IsTrue honest)
-    (parsed : List Line) (old mid new : Option Bytes) where
-  RunsFrom-run : (done flushed end : End) (held : Pairs Bytes) → RunsOn request.mode honest settings st left (orders_in request.mode.stream request.mode.stat parsed) old mid done held
-      → Keeps mid new → (flushed ≡ done) ⊎ (flushed ≡ Err Device) → IsLeft (copy_of request) held flushed end → RunsFrom request (Ok (settings, (st, file))) parsed old new end
+    (parsed : List Line) (old new : Option Bytes) where
+  RunsFrom-run : (done end : End) (held : Pairs Bytes) → RunsOn request.mode honest settings st left (orders_in request.mode.stream request.mode.stat parsed) old new done held
+      → IsLeft (copy_of request) held done end → RunsFrom request (Ok (settings, (st, file))) parsed old new end
   unfolding RunsFrom Runs
-  RunsFrom-run done flushed end held (shown, (tidies, failing, are), runs, leaves) kept ended follows =
+  RunsFrom-run done end held (shown, (tidies, failing, are), runs, leaves) follows =
       let ran : List Order = run_of request.mode.clean_when_full settings st shown (orders_in request.mode.stream request.mode.stat parsed) in
       let on : Bool = request.mode.stream in
       let lines : List Bytes = answered on settings st shown (contents st.tree) ran in
@@ -160,8 +174,7 @@ module _ (request : Request) (settings : Settings) (st : Store) (file left : Byt
           failing,
           λ memory. let h : IsTrue honest = in_memory memory in subst (λ (f : Bytes). AreLeft settings st f shown ran) (is_left h) (are h),
         ),
-        PrintsCopied-left (copy_of request) m held on old new lines right flushed end (Prints-flushed on old mid new lines right done flushed runs kept ended)
-            (OnOk-flushed done flushed (held ≡ m) ended leaves) follows,
+        PrintsCopied-left (copy_of request) m held on old new lines right done end runs leaves follows,
       )
 
 module _ (request : Request) (parsed : List Line) (old : Option Bytes) where
@@ -192,12 +205,8 @@ module _ (request : Request) (parsed : List Line) (old : Option Bytes) where
             (Prints-none request.mode.stream old (lines_from request.mode.stream start shown ran) (end_from request.mode.stream start shown ran)),
       )
   RunsFrom-device (Ok p) =
-      RunsFrom-run request p.0 p.1.0 p.1.1 p.1.1 true (λ h. refl) (λ memory. refl) parsed old old old (Err Device) (Err Device) (Err Device) []
-      (RunsOn-cut request.mode true p.0 p.1.0 p.1.1 (orders_in request.mode.stream request.mode.stat parsed) old Device (inr refl) []) (Keeps-same old) (inl refl) refl
-    where
-      Keeps-same : (o : Option Bytes) → Keeps o o
-      Keeps-same None = tt
-      Keeps-same (Some xs) = refl
+      RunsFrom-run request p.0 p.1.0 p.1.1 p.1.1 true (λ h. refl) (λ memory. refl) parsed old old (Err Device) (Err Device) []
+      (RunsOn-cut request.mode true p.0 p.1.0 p.1.1 (orders_in request.mode.stream request.mode.stat parsed) old Device (inr refl) []) refl
 
 module _ (request : Request) (known : Option Bytes) where
   -- from a right start, whatever the lines
@@ -240,15 +249,13 @@ module _ (request : Request) (known : Option Bytes) where
     -- there is one: the orders of some lines are run on it, and then there is the copy of what they leave, or there is none
     module _ (settings : Settings) (st : Store) (file left : Bytes) (honest : Bool) (start : Start) (is : IsStartBy request.settings request.disk request.create None start)
         (start_is : start ≡ Ok (settings, (st, file))) (seen_is : IsTrue honest → left ≡ file) (in_memory : request.disk ≡ None → IsTrue honest) (mode : Mode) (mode_is : mode ≡ request.mode) where
-      pub RunsRead-run : (orders : List Order)
-          → ((parsed : List Line) × IfSome known (λ text. AreRead (parse_text mode.stream text) parsed) × (orders ≡ orders_in mode.stream mode.stat parsed))
-          → (old mid new : Option Bytes) (done flushed end : End) (after : Store) → RunsAll mode honest settings st left orders old mid done after
-          → Keeps mid new → (flushed ≡ done) ⊎ (flushed ≡ Err Device) → IsLeft (copy_of request) (contents after.tree) flushed end → RunsRead request known old new end
+      pub RunsRead-run : (parsed : List Line) → IfSome known (λ text. AreRead (parse_text mode.stream text) parsed) → (old new : Option Bytes) (done end : End) (after : Store)
+          → RunsAll mode honest settings st left (orders_in mode.stream mode.stat parsed) old new done after → IsLeft (copy_of request) (contents after.tree) done end
+          → RunsRead request known old new end
       unfolding RunsRequest
-      RunsRead-run orders (parsed, read, orders_are) old mid new done flushed end after runs kept ended follows =
-          let on_request : RunsOn request.mode honest settings st left (orders_in request.mode.stream request.mode.stat parsed) old mid done (contents after.tree) =
-          subst (λ (m : Mode). RunsOn m honest settings st left (orders_in m.stream m.stat parsed) old mid done (contents after.tree)) mode_is
-          (subst (λ (os : List Order). RunsOn mode honest settings st left os old mid done (contents after.tree)) orders_are runs) in
+      RunsRead-run parsed read old new done end after runs follows =
+          let on_request : RunsOn request.mode honest settings st left (orders_in request.mode.stream request.mode.stat parsed) old new done (contents after.tree) =
+          subst (λ (m : Mode). RunsOn m honest settings st left (orders_in m.stream m.stat parsed) old new done (contents after.tree)) mode_is runs in
           inl (
             parsed,
             subst (λ (m : Mode). IfSome known (λ text. AreRead (parse_text m.stream text) parsed)) mode_is read,
@@ -256,7 +263,7 @@ module _ (request : Request) (known : Option Bytes) where
               start,
               opened_start start is,
               subst (λ (s : Start). RunsFrom request s parsed old new end) (sym start_is)
-                  (RunsFrom-run request settings st file left honest seen_is in_memory parsed old mid new done flushed end (contents after.tree) on_request kept ended follows),
+                  (RunsFrom-run request settings st file left honest seen_is in_memory parsed old new done end (contents after.tree) on_request follows),
             ),
           )
 

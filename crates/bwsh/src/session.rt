@@ -13,7 +13,7 @@ ghost use Rattle.bwsh.specs.declared.line.Line.{Line};
 ghost use Rattle.bwsh.specs.declared.order.Order.{Order};
 ghost use Rattle.bwsh.specs.declared.session.SessionError.TheVariants.{Device};
 ghost use Rattle.bwsh.specs.declared.session.SessionError.TheVariants as errors;
-ghost use Rattle.bwsh.specs.BatchFile.{AreRead, first_bad, parse_text};
+ghost use Rattle.bwsh.specs.BatchFile.{AreRead, first_bad, orders_in, parse_text};
 ghost use Rattle.bwsh.specs.Options.{Request, AsksFor, AsksForReports, AsksForText, AsksToExplain, AsksToStream, AreRefused, reports, request_of};
 ghost use Rattle.bwsh.specs.Output.{BeginsWith, IsBegun};
 ghost use Rattle.bwsh.specs.Session.{Answers, EndsBy, EndsReported, IsForWords, IsQuiet, IsReportedWith, IsShown, IsStart, OrdersAll, Prints, PrintsOneText, Reads, RunsRead, Start, device_line, end_from, error_text, lines_from, session_orders, status_of, status_of_end, unread_text, version_text};
@@ -186,6 +186,35 @@ where
     Err(SessionError::Device)
 }
 
+// Answers the orders of `input` on the open store, and flushes `out`.
+fn run_opened<
+    R: Threads + Sync + Files + Clock,
+    P: Observer,
+    D: Disk + LastError,
+    I: BufRead + Drop,
+    O: Write,
+>(at: &Session<'_, R, P>, store: &mut Store<D>, input: I, out: &mut O) -> Result<(), SessionError>
+where
+    R::File: LockFile,
+    requires fine { store.old.has_failed ≡ false }
+    ensures { (parsed : List Line)
+        × IfSome (I.remaining input)
+        (λ text. AreRead (parse_text at.now.calls.mode.stream text) parsed)
+        × OrdersAll D.view O.contents at.now.calls.mode
+        (orders_in at.now.calls.mode.stream at.now.calls.mode.stat parsed) store.old out.old result
+        store.new out.new }
+{
+    at.notes.store_opened(store.settings());
+    let mode = at.calls.mode;
+    let last = mode.stat.then_some(Order::Numbers);
+    let mut source = lines::Source::new(at.calls.alloc, input, mode.stream, last);
+    let done = run_orders(at, store, &mut source, out);
+    if done.is_err() {
+        at.notes.record_failure(Source::File, store.disk().reason());
+    }
+    flush(done, out)
+}
+
 // Opens the files and answers the orders of `input`. If no error ends them, writes the copy.
 fn run_source<
     R: AllocGlobal + Threads + Sync + Files + Clock,
@@ -200,16 +229,9 @@ where
     ensures { RunsRead (request_of at.now.asked.now) (I.remaining input) (O.contents out.old)
         (O.contents out.new) result }
 {
-    let last = at.calls.mode.stat.then_some(Order::Numbers);
     let copy = prepare_copy(at)?;
     let mut store = open_store(at, writes)?;
-    at.notes.store_opened(store.settings());
-    let mut source = lines::Source::new(at.calls.alloc, input, at.calls.mode.stream, last);
-    let done = run_orders(at, &mut store, &mut source, out);
-    if done.is_err() {
-        at.notes.record_failure(Source::File, store.disk().reason());
-    }
-    flush(done, out)?;
+    run_opened(at, &mut store, input, out)?;
     write_copy(at, &store, copy)
 }
 
