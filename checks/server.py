@@ -662,8 +662,6 @@ def lock_file(program: Path) -> Outcome:
 
 def cases(programs: Programs, failing: Path) -> list[Case]:
     program = programs.examples / "bwserve"
-    if not program.is_file():
-        return [Case("all", leave_out)]
     tests: dict[str, tuple[Callable[..., Wrong], tuple[int, ...]]] = {
         "requests one at a time": (answer_table, (False,)),
         "requests in a pipeline": (answer_table, (True,)),
@@ -697,10 +695,6 @@ def cases(programs: Programs, failing: Path) -> list[Case]:
         Case("closed streams", close_streams, (program,)),
         Case("one server a file", lock_file, (program,)),
     ]
-
-
-def leave_out() -> Outcome:
-    return Outcome(left_out="bwserve is not built")
 
 
 def is_ok(text: str) -> bool:
