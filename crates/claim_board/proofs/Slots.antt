@@ -1,6 +1,7 @@
 -- The slots as they are laid.
-use Rattle.std.proofs.Common.{◌≡◌, ℕ, zero, suc, ◌<◌, List, [], ◌∷◌, ◌++◌, map, length, get_or, drop, refl, sym, ap, subst, ◌∙◌, append_assoc, arith}
+use Rattle.std.proofs.Common.{◌≡◌, ℕ, zero, suc, ◌<◌, List, [], ◌∷◌, ◌++◌, map, length, get_or, drop, reverse, refl, sym, ap, subst, ◌∙◌, append_assoc, arith}
 use mathlib.Core.Option.{some, some-injective, some-ne-none}
+use Rattle.std.proofs.lemmas.List.{reverse-append}
 use Rattle.std.specs.Prelude.{Some, slice_get}
 use lib.ListN.{get_elem?}
 use Rattle.claim_board.specs.declared.rule.Slot.{Slot}
@@ -43,6 +44,12 @@ piece_of (x ∷ xs) ys s (a ∷ all) e = piece_of xs ys s all (ap (drop 1) e)
 -- what was popped was a piece
 pub popped : {P : Type 0} (slots rest : List (Slot P)) (s : Slot P) (following all : List P) → slots ++ map Piece following ≡ map Piece all → slots ≡ rest ++ s ∷ [] → (p : P) × (s ≡ Piece p)
 popped slots rest s following all e cut = piece_of rest (map Piece following) s all (sym (append_assoc rest (s ∷ []) (map Piece following)) ∙ subst (λ l. l ++ map Piece following ≡ map Piece all) cut e)
+
+-- what was popped goes to the other list
+pub one_back : {P : Type 0} (slots rest all : List (Slot P)) (s : Slot P) (pieces : List P) (piece : P) → slots ≡ rest ++ s ∷ [] → s ≡ Piece piece → slots ++ map Piece (reverse pieces) ≡ all → rest ++ map Piece (reverse (pieces ++ piece ∷ [])) ≡ all
+one_back slots rest all s pieces piece cut is was =
+    ap (λ ps. rest ++ map Piece ps) (reverse-append pieces (piece ∷ [])) ∙ ap (λ x. rest ++ x ∷ map Piece (reverse pieces)) (sym is)
+    ∙ sym (append_assoc rest (s ∷ []) (map Piece (reverse pieces))) ∙ ap (λ l. l ++ map Piece (reverse pieces)) (sym cut) ∙ was
 
 same_pieces : {P : Type 0} (xs ys : List P) → map Piece xs ≡ map Piece ys → xs ≡ ys
 same_pieces [] [] e = refl

@@ -1,5 +1,6 @@
 pub mod RoundLemmas
 mod HomeLemmas
+mod InTurnLemmas
 mod PieceLemmas
 mod DrawnLemmas
 pub mod Forgotten

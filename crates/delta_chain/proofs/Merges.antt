@@ -1,5 +1,5 @@
 -- How a run is applied to pairs, from their fronts on, for the proofs of this crate and of those above it.
-use Rattle.std.proofs.Common.{◌≡◌, ◌<◌, ◌≤◌, ℕ, zero, suc, List, [], ◌∷◌, ◌++◌, length, drop, slice_get, Option, Some, None, refl, sym, ap, ◌∙◌, arith, append_assoc, Ordering, Less, Equal, Greater}
+use Rattle.std.proofs.Common.{◌≡◌, ◌+◌, ◌-◌, ◌<◌, ◌≤◌, ℕ, zero, suc, List, [], ◌∷◌, ◌++◌, length, drop, slice_get, Option, Some, None, refl, sym, ap, ◌∙◌, arith, append_assoc, Ordering, Less, Equal, Greater}
 use Rattle.std.specs.Map.{keys_of, values_of}
 use Rattle.std.proofs.lemmas.Map.Keys.{sorted_head, sorted_tail}
 use Rattle.keys.specs.Order.{order, IsRising}
@@ -8,6 +8,13 @@ use Rattle.keys.proofs.MapLemmas.{IsBelowAll, below_all, same_key, order_itself,
 use Rattle.delta_chain.specs.Layers.{with_change, with_run}
 use Rattle.delta_chain.specs.Merging.{pair_if, first_order}
 use Rattle.delta_chain.proofs.Places.{drop_pair, front_under, front_at}
+
+-- one step of a merge leaves fewer pairs and changes together
+pub fewer_pairs : (from under at run : ℕ) → from < under → (under - (from + 1)) + (run - at) < (under - from) + (run - at)
+fewer_pairs from under at run l = omega arith
+
+pub fewer_changes : (from under at run : ℕ) → at < run → (under - from) + (run - (at + 1)) < (under - from) + (run - at)
+fewer_changes from under at run l = omega arith
 
 module _ {T : Type 0} where
   -- what stands from a place on rises too

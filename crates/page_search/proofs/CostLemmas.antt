@@ -16,6 +16,11 @@ module _ {V : Type 0} where
       let here : cost_under cost k (run ∷ runs) base ≡ cost true (length (keys_of run)) + 0 = rw (h, length-keys_of) refl in
       omega arith
 
+  pub most_here : (cost : Bool → ℕ → ℕ) (k : List ℕ) (run : List (List ℕ × Option V)) (runs : List (List (List ℕ × Option V))) (base : List (List ℕ × V)) (before after limit : ℕ) → is_some (value_at k run) ≡ true → after ≤ before + cost true (length (keys_of run)) → before + cost_under cost k (run ∷ runs) base ≤ limit → after ≤ limit
+  most_here cost k run runs base before after limit h p q =
+      let here : cost_under cost k (run ∷ runs) base ≡ cost true (length (keys_of run)) + 0 = rw (h, length-keys_of) refl in
+      omega arith
+
   -- ---- where a run does not name the key, and the search goes on below
 
   -- the cost of the run, and of what is below it

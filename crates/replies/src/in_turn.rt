@@ -7,7 +7,7 @@ ghost use Rattle.keys.specs.OrderedMap.{value_at, with_pair, without};
 ghost use Rattle.keys.specs.Range.{is_before, in_range, out_of_range, rows};
 ghost use Rattle.keys.specs.Step.{found, reply_to, map_after, map_after_all, replies_to};
 ghost use Rattle.keys.specs.declared.command.Reply.TheVariants.{New, Replaced, Deleted, Missing, Added, Exists, Wiped};
-ghost use Rattle.keys.specs.declared.command.Command.TheVariants.{Del};
+ghost use Rattle.keys.specs.declared.command.Command.TheVariants.{Put, Add, Del};
 ghost use Rattle.replies.specs.InTurn.{points_by, points_of, dels_of};
 
 use keys::{Command, Key, KeyRef, Reply, RowList, Value, is_before};
@@ -80,15 +80,15 @@ impl<'a> LentMap<'a> {
         match command {
             Command::Get(key) => self.get(alloc, key.as_bytes()),
             Command::Put(key, value) => {
-                points.push(Command::Put(key.copy(alloc)?, value.copy(alloc)?))?;
+                push_put(alloc, key.as_bytes(), value.as_bytes(), points)?;
                 self.put(key.as_bytes(), value.as_bytes())
             }
             Command::Add(key, value) => {
-                points.push(Command::Add(key.copy(alloc)?, value.copy(alloc)?))?;
+                push_add(alloc, key.as_bytes(), value.as_bytes(), points)?;
                 self.add(key.as_bytes(), value.as_bytes())
             }
             Command::Del(key) => {
-                points.push(Command::Del(key.copy(alloc)?))?;
+                push_del(alloc, key.as_bytes(), points)?;
                 Ok(self.del(key.as_bytes()))
             }
             Command::Scan(lo, hi, limit) => {
@@ -279,6 +279,32 @@ fn execute_next<'a>(
 {
     let reply = map.execute(alloc, command, points)?;
     replies.push(reply)?;
+    Ok(())
+}
+
+// Appends a put of `value` under `key`.
+fn push_put(
+    alloc: Global,
+    key: &[u8],
+    value: &[u8],
+    points: &mut Vec<Command<Global>>,
+) -> Result<(), AllocError>
+    ensures { OnOk result (points.new.items ≡ points.old.items ++ Put key.now value.now ∷ []) }
+{
+    points.push(Command::put(alloc, key, value)?)?;
+    Ok(())
+}
+
+// Appends an add of `value` under `key`.
+fn push_add(
+    alloc: Global,
+    key: &[u8],
+    value: &[u8],
+    points: &mut Vec<Command<Global>>,
+) -> Result<(), AllocError>
+    ensures { OnOk result (points.new.items ≡ points.old.items ++ Add key.now value.now ∷ []) }
+{
+    points.push(Command::add(alloc, key, value)?)?;
     Ok(())
 }
 

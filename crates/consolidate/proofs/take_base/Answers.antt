@@ -1,4 +1,4 @@
-use Rattle.std.proofs.Common.{◌≡◌, ◌∙◌, ap, arith, add-one}
+use Rattle.std.proofs.Common.{◌≡◌, refl, ◌∙◌, ap, arith, add-one}
 use Rattle.std.specs.Prelude.{ℕ, List, slice_get, Option, Some, unwrap_or, Result, Ok, Err, IfOk}
 use Rattle.std.specs.Map.{keys_of, values_of}
 use Rattle.delta_chain.specs.Layers.{holds, entries_of}
@@ -12,13 +12,34 @@ from_ok : {T E : Type 0} (r : Result T E) (P Q : T → Type 0) → ((x : T) → 
 from_ok (Ok x) P Q f h = f x h
 from_ok (Err e) P Q f h = tt
 
+pub returns-then-depth-gt-FEW_RUNS-clause-base : goal.returns-then-depth-gt-FEW_RUNS-clause-base
+returns-then-depth-gt-FEW_RUNS-clause-base g c = c.consolidate.ensures
+
 pub returns-then-depth-gt-FEW_RUNS-clause-back : goal.returns-then-depth-gt-FEW_RUNS-clause-back
 returns-then-depth-gt-FEW_RUNS-clause-back g c =
     from_ok c.consolidate.result _ (λ base. put_back c.args.chain.now base ≡ c.args.chain.now)
     (λ base h. ap (λ (es : List (List ℕ × _)). put_back c.args.chain.now es) h ∙ put_back-copies c.args.chain.now c.depth.ensures.rising) c.consolidate.ensures
 
+pub loop-at-init : goal.loop-at-init
+loop-at-init g c =
+    let first = rw c.in_ok-pairs.ensures.entries at c.in_ok-base.ensures in
+    record {
+      keys = first;
+      moved = refl;
+      back = refl;
+      order = c.depth.ensures.rising;
+      rest = λ m q l h. refl;
+    }
+
 pub key-requires : goal.key-requires
 key-requires g c =
+    let first = rw c.in_ok-pairs.ensures.entries at c.in_ok-base.ensures in
+    let made = length-keys c.in_ok-base.base (entries_of c.args.chain.now) first in
+    let now = length-keys c.loop-at.base (entries_of c.args.chain.now) c.loop-at.invariant.keys in
+    omega (arith, made, now, c.len-at-end.ensures.count, c.loop-at-test.true)
+
+pub exchange-blank-requires : goal.exchange-blank-requires
+exchange-blank-requires g c =
     let first = rw c.in_ok-pairs.ensures.entries at c.in_ok-base.ensures in
     let made = length-keys c.in_ok-base.base (entries_of c.args.chain.now) first in
     let now = length-keys c.loop-at.base (entries_of c.args.chain.now) c.loop-at.invariant.keys in

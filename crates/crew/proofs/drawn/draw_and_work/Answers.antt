@@ -6,6 +6,26 @@ use Rattle.crew.specs.Home.{IsWorkedOf}
 use Rattle.crew.proofs.DrawnLemmas.{all_append, is_worked}
 use Rattle.crew.proofs.drawn.draw_and_work.Goals as goal
 
+pub loop-init : goal.loop-init
+loop-init g c = c.requires.hand
+
+pub returns-in_default : goal.returns-in_default
+returns-in_default g c = record {
+  pass = c.loop.invariant.pass;
+  numbers = rw c.reserve.ensures.items c.loop.invariant.numbers;
+  worked = rw c.reserve.ensures.items c.loop.invariant.worked;
+}
+
+pub returns-in_default-claim : goal.returns-in_default-claim
+returns-in_default-claim g c = record {
+  pass = c.claim.ensures.same_board;
+  numbers = rw c.reserve.ensures.items c.loop.invariant.numbers ∙ sym c.in_default-claim.ensures.none;
+  worked = rw c.reserve.ensures.items c.loop.invariant.worked;
+}
+
+pub returns : goal.returns
+returns g c = c.loop.invariant
+
 pub loop-preserved : goal.loop-preserved
 loop-preserved g c =
     let pieces = pieces_of c.args.board.now in let w = c.args.work.now in

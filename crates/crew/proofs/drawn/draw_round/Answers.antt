@@ -1,16 +1,50 @@
 use Rattle.std.proofs.Common.{rules, ◌≡◌, ◌-◌, map, length, replicate, sym, ap, subst, ◌∙◌, arith}
 use Rattle.std.specs.Prelude.{None}
 use Rattle.std.specs.List.{AllByRecursion, flat_map}
-use Rattle.std.proofs.lemmas.List.{length-replicate}
+use Rattle.std.proofs.lemmas.List.{length-map, length-replicate, length-reverse}
 use Rattle.claim_board.specs.Passes.{pieces_of, drawn_by_all, Closes}
 use Rattle.crew.specs.Drawn.{held_in}
 use Rattle.crew.specs.Home.{placed, undrawn, home_origins, IsMadeHome}
 use Rattle.crew.proofs.DrawnLemmas.{dealt, passes_of, left_length, length-placed, all_home, all_made}
 use Rattle.crew.proofs.drawn.draw_round.Goals as goal
 
+pub returns-in-Err-clause-back : goal.returns-in-Err-clause-back
+returns-in-Err-clause-back g c = c.in-Err.ensures.refused
+
+pub deal-requires : goal.deal-requires
+deal-requires g c =
+    let room = c.in-Ok-with_capacity.ensures in
+    record { room = (room.items, omega (arith, room.capacity, c.in-Ok-open.ensures.as_many)) }
+
+pub draw_all-requires-clause-accepted : goal.draw_all-requires-clause-accepted
+draw_all-requires-clause-accepted g c κs within = rw c.in-Ok-open.ensures.pieces c.requires.accepted
+
+pub draw_all-requires-clause-some : goal.draw_all-requires-clause-some
+draw_all-requires-clause-some g c κs within =
+    let passes = c.in-Ok-open.opened.1.items in
+    omega (arith, ap length c.deal.ensures.passes, length-map c.deal.new.hands.items (λ hand. hand.pass), length-reverse passes, c.in-Ok-open.ensures.as_many, c.requires.workers.0)
+
 pub draw_all-requires-clause-hands : goal.draw_all-requires-clause-hands
 draw_all-requires-clause-hands g c κs within =
     dealt g.W.Work c.args.work.now c.in-Ok-open.opened.0 c.deal.new.hands.items c.in-Ok-open.opened.1.items c.deal.ensures.passes c.deal.ensures.none c.in-Ok-open.ensures.new
+
+pub bring_home-requires : goal.bring_home-requires
+bring_home-requires g c =
+    let passes = c.in-Ok-open.opened.1.items in
+    record {
+      room = (
+        c.deal.ensures.emptied,
+        omega (
+          arith,
+          c.draw_all.ensures.len,
+          ap length c.deal.ensures.passes,
+          length-map c.deal.new.hands.items (λ hand. hand.pass),
+          length-reverse passes,
+          c.deal.ensures.same,
+          c.in-Ok-open.opened.1.ok,
+        ),
+      );
+    }
 
 pub close-left-requires-clause-passes : goal.close-left-requires-clause-passes
 close-left-requires-clause-passes g c =

@@ -1,7 +1,21 @@
-use Rattle.std.proofs.Common.{rules, ◌≡◌, ◌-◌, ◌*◌, ◌/◌, ◌<◌, ◌++◌, [], ◌∷◌, length, take, drop, reverse, ap, ◌∙◌, arith}
+use Rattle.std.proofs.Common.{rules, ◌≡◌, ◌-◌, ◌*◌, ◌/◌, ◌<◌, ◌++◌, [], ◌∷◌, length, take, drop, reverse, vec_capacity, ap, ◌∙◌, append-nil, arith}
 use Rattle.crew.specs.Pieces.{jobs_of}
 use Rattle.crew.proofs.PieceLemmas.{cut_off, one_less}
 use Rattle.crew.proofs.pieces.cut.Goals as goal
+
+pub loop-jobs-init : goal.loop-jobs-init
+loop-jobs-init g c = record {
+  jobs = rw c.in_ok-pieces.ensures.items (append-nil c.args.jobs.now.items);
+  room = (vec_capacity c.in_ok-pieces.pieces, search rules, search rules);
+  exact = search rules;
+  same = omega arith;
+}
+
+pub returns-in-Err-clause-kept : goal.returns-in-Err-clause-kept
+returns-in-Err-clause-kept g c =
+    let kept : c.split_off.new.self.items ≡ c.loop-jobs.jobs.items = search rules in
+    c.put_together.ensures.jobs ∙ ap (λ xs. xs ++ jobs_of c.reverse.new.self.items) kept ∙ ap (λ ps. c.loop-jobs.jobs.items ++ jobs_of ps) c.reverse.ensures.items
+    ∙ c.loop-jobs.invariant.jobs
 
 pub loop-jobs-preserved : goal.loop-jobs-preserved
 loop-jobs-preserved g c =

@@ -1,10 +1,31 @@
-use Rattle.std.proofs.Common.{◌<◌, ◌≤◌, length, arith, add-one, Some, Less, Equal}
+use Rattle.std.proofs.Common.{rules, ◌<◌, ◌≤◌, length, refl, arith, add-one, Some, Less, Equal}
 use Rattle.delta_chain.specs.Lent.{pairs_lent}
 use Rattle.delta_chain.specs.Merging.{asserted, overlaid}
 use Rattle.delta_chain.proofs.Lending.{pairs_lent-push}
-use Rattle.delta_chain.proofs.Merges.{less_step, equal_step, greater_step, there_is_one, all_changes}
+use Rattle.delta_chain.proofs.Merges.{fewer_pairs, fewer_changes, less_step, equal_step, greater_step, there_is_one, all_changes}
 use Rattle.delta_chain.proofs.Overlays.{rising-asserted, key-asserted, change-asserted, length-asserted}
 use Rattle.delta_chain.proofs.merging.overlaid.Goals as goal
+
+pub loop-at-init : goal.loop-at-init
+loop-at-init g c = record {
+  place = omega arith;
+  turn = omega arith;
+  count = omega (arith, c.in_ok-lent.ensures.len);
+  room = search rules;
+  made = rw c.in_ok-lent.ensures.items refl;
+}
+
+pub loop-at-smaller-in-Less : goal.loop-at-smaller-in-Less
+loop-at-smaller-in-Less g c =
+    fewer_pairs c.loop-at.from (length c.args.older.now) c.loop-at.at (length c.args.newer.now) (there_is_one c.args.older.now c.loop-at.from c.key-key.result.now Less c.in-Less.ensures (λ e. cc))
+
+pub loop-at-smaller-in-Equal : goal.loop-at-smaller-in-Equal
+loop-at-smaller-in-Equal g c =
+    fewer_pairs c.loop-at.from (length c.args.older.now) c.loop-at.at (length c.args.newer.now) (there_is_one c.args.older.now c.loop-at.from c.key-key.result.now Equal c.in-Equal.ensures (λ e. cc))
+
+pub loop-at-smaller : goal.loop-at-smaller
+loop-at-smaller g c =
+    fewer_changes c.loop-at.from (length c.args.older.now) c.loop-at.at (length c.args.newer.now) (omega (arith, c.loop-at-test.true, c.len-count.ensures))
 
 pub loop-at-preserved-in-Less : goal.loop-at-preserved-in-Less
 loop-at-preserved-in-Less g c =
@@ -37,6 +58,18 @@ loop-at-preserved g c =
       room = rw c.push_reserved-in-Greater.ensures.capacity c.loop-at.invariant.room;
       made = simp add-one (rw (c.push_reserved-in-Greater.ensures.items, pairs_lent-push) (greater_step c.args.older.now (asserted c.args.newer.now) c.loop-at.from c.loop-at.at c.key-key.result.now (Some c.cell-in-Greater.result.now) (pairs_lent c.loop-at.lent.items) _ c.requires.older (rising-asserted c.args.newer.now c.requires.newer) (key-asserted c.args.newer.now c.loop-at.at c.key-key.result.now c.key-key.ensures) (change-asserted c.args.newer.now c.loop-at.at c.cell-in-Greater.result.now c.cell-in-Greater.ensures) c.in-Greater.ensures c.loop-at.invariant.made));
     }
+
+pub push_reserved-requires : goal.push_reserved-requires
+push_reserved-requires g c =
+    let at = c.loop-at.invariant in omega (arith, at.place, at.count, at.room, c.loop-at-test.true, c.len-count.ensures)
+
+pub push_reserved-requires-in-Greater : goal.push_reserved-requires-in-Greater
+push_reserved-requires-in-Greater g c =
+    let at = c.loop-at.invariant in omega (arith, at.place, at.count, at.room, c.loop-at-test.true, c.len-count.ensures)
+
+pub push_rest-requires : goal.push_rest-requires
+push_rest-requires g c =
+    let at = c.loop-at.invariant in omega (arith, at.place, at.turn, at.count, at.room)
 
 pub returns : goal.returns
 returns g c =

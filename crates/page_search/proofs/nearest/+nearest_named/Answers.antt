@@ -1,9 +1,22 @@
 use Rattle.std.proofs.Common.{arith}
 use Rattle.std.specs.Option.{option_copied}
+use Rattle.std.proofs.lemmas.Map.Entries.{length-keys_of}
 use Rattle.page_search.proofs.NearestLemmas.{base-none, base-at, run-none, run-alone, run-under, run-here}
 use Rattle.page_search.proofs.WalkLemmas.{least_of_base, least_with_run, most_of_base, most_with_run}
 use Rattle.page_search.proofs.nearest.+nearest_named.Goals.{in_default-under-via-in-Some-under+else-is_nearer, in_default-under-via-in_default-under}
 use Rattle.page_search.proofs.nearest.+nearest_named.Goals as goal
+
+pub key-requires : goal.key-requires
+key-requires g t c = rw length-keys_of at c.in_ok-at.ensures.place.within
+
+pub cell-requires : goal.cell-requires
+cell-requires g t c = rw length-keys_of at c.in_ok-at.ensures.place.within
+
+pub key_ref-here-requires : goal.key_ref-here-requires
+key_ref-here-requires g t c = rw length-keys_of at c.in-Some-nearest_place.ensures.place.within
+
+pub change-requires : goal.change-requires
+change-requires g t c = rw length-keys_of at c.in-Some-nearest_place.ensures.place.within
 
 pub returns-in_err-at-clause-value : goal.returns-in_err-at-clause-value
 returns-in_err-at-clause-value g t c =

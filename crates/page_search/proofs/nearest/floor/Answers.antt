@@ -6,6 +6,9 @@ use Rattle.page_search.proofs.NearestLemmas.{nearest-entries}
 use Rattle.page_search.proofs.WalkLemmas.{floor_by, most_at_key}
 use Rattle.page_search.proofs.nearest.floor.Goals as goal
 
+pub nearest-requires : goal.nearest-requires
+nearest-requires g c = rw c.lent.ensures c.depth-in_order.ensures.rising
+
 pub returns-clause-value : goal.returns-clause-value
 returns-clause-value g c =
     let rising = c.depth-in_order.ensures.rising in
@@ -19,3 +22,12 @@ returns-clause-cost g c =
 
 pub returns-clause-at_key : goal.returns-clause-at_key
 returns-clause-at_key g c = most_at_key c.args.key.now c.args.chain.now _ _ (rw c.lent.ensures at c.nearest.ensures.one_walk)
+
+pub returns-clause-one_walk : goal.returns-clause-one_walk
+returns-clause-one_walk g c = rw c.lent.ensures at c.nearest.ensures.one_walk
+
+pub returns-clause-least : goal.returns-clause-least
+returns-clause-least g c = rw c.lent.ensures at c.nearest.ensures.least
+
+pub returns-clause-kept : goal.returns-clause-kept
+returns-clause-kept g c = c.nearest.ensures.kept

@@ -1,6 +1,11 @@
-use Rattle.std.proofs.Common.{◌≤◌, length, ⊎_elim, arith}
+use Rattle.std.proofs.Common.{◌≤◌, length, ⊎_elim, sym, ap, arith}
+use Rattle.std.proofs.lemmas.List.{length-take-le}
 use Rattle.delta_chain.proofs.NewestRunLemmas.{held-for, held-all}
 use Rattle.delta_chain.proofs.chain.Chain.lent_for.Goals as goal
+
+pub slice_bounds-result-end : goal.slice_bounds-result-end
+slice_bounds-result-end g c =
+    sym (length-take-le c.reach-count.result c.deref.result.now (omega (arith, c.len.ensures, c.reach-count.ensures.within, ap length c.deref.ensures.value)))
 
 pub returns : goal.returns
 returns g c =

@@ -4,6 +4,9 @@ use Rattle.mapping.proofs.DueTable.{noted-marked}
 use Rattle.mapping.proofs.page_table.PageTable.flushed.Goals as goal
 use Rattle.mapping.proofs.page_table.PageTable.flushed.Goals.{in-Some, in-None}
 
+pub flushed_at-requires : goal.flushed_at-requires
+flushed_at-requires g c = λ pid no. c.self.invariant pid (c.in-Some.ensures pid ∙ no)
+
 pub invariant_of-self : goal.invariant_of-self
 invariant_of-self g c =
     let marked = noted-marked c.self.inside.table c.clear.new.self c.pids-rising.ensures.rising in
