@@ -26,6 +26,7 @@ pub mod InstalledLevel
 pub mod Climbing
 pub mod ClimbingLevel
 pub mod ClimbingTop
+mod Copying
 -- ---- the table: pages that are taken and put, numbers that are drawn and given back
 pub mod Installing
 pub mod InstallingLemmas

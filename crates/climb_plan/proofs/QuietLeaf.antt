@@ -1,6 +1,6 @@
 -- Where of a batch's leaves just one changes, and is neither replaced nor thin nor fat, no group is rewritten and no parent gets a run: the
 -- plan is the tree with that leaf back in its place.
-use Rattle.std.specs.Prelude.{◌≡◌, ◌≢◌, ℕ, zero, suc, ◌+◌, ◌<◌, true, false, nat_eq, List, [], ◌∷◌, ◌++◌, map, flat_map, take, drop, length, Option, Some, None}
+use Rattle.std.specs.Prelude.{◌≡◌, ℕ, zero, suc, ◌+◌, ◌<◌, false, nat_eq, List, [], ◌∷◌, ◌++◌, map, flat_map, take, drop, length, Option, Some, None}
 use Rattle.std.proofs.Common.{refl, sym, ap, ◌∙◌, subst, arith}
 use Rattle.std.proofs.lemmas.List.{length-map}
 use Rattle.std.specs.List.{AllByRecursion}
@@ -12,7 +12,7 @@ use Rattle.index_page.specs.Page.{Page, PageOfKind}
 use Rattle.index_page.specs.Page.PageOfKind.{Leaf, Index}
 use Rattle.index_page.specs.Rules.{IsHeaded}
 use Rattle.mapping.specs.FreshPids.{is_among}
-use Rattle.mapping.specs.Levels.{Placed, Levels, entries, joined, name, pids, all_pids, levels_of, top_pid}
+use Rattle.mapping.specs.Levels.{Placed, entries, joined, name, pids, levels_of, top_pid}
 use Rattle.mapping.specs.Proper.{AreRisingPids, IsBranchedTop, Stacked}
 use Rattle.mapping.specs.Table.{Mapping, pids_in_use, place_of, with_place}
 use Rattle.mapping.specs.Tree.{Tree}
@@ -35,7 +35,6 @@ use Rattle.climb_plan.proofs.Arrived.{leaves_after}
 use Rattle.climb_plan.proofs.Families.{families_by_length}
 use Rattle.climb_plan.proofs.Installing.{place_here, placed_apart}
 use Rattle.climb_plan.proofs.InstallingLemmas.{none_of, rising_with_place}
-use Rattle.climb_plan.proofs.LevelParts.{level_of}
 use Rattle.climb_plan.proofs.Ready.{ready_plan, ready_level, ready_to_shrink, ready_arrives}
 use Rattle.climb_plan.proofs.Untouched.{all_same, parents_same, as_they_were, climb_same, not_lone_by, none_outdated}
 

@@ -1,5 +1,5 @@
 -- A leaf, some of whose runs may count as merged, after a run.
-use Rattle.std.specs.Prelude.{◌≡◌, ◌<◌, ◌≤◌, ◌-◌, ◌^◌, min, ℕ, Bool, true, false, List, [], ◌∷◌, length}
+use Rattle.std.specs.Prelude.{◌≡◌, ◌<◌, ◌≤◌, ◌-◌, ◌^◌, min, ℕ, true, false, [], ◌∷◌, length}
 use Rattle.std.proofs.Common.{refl, sym, ap, ◌∙◌, arith}
 use Rattle.keys.specs.Bytes.{Pairs, Changes}
 use Rattle.keys.specs.declared.settings.Settings.{Settings}

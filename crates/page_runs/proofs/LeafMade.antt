@@ -13,7 +13,6 @@ use Rattle.crew.specs.declared.Turn.TheVariants.{Done, Back}
 use Rattle.delta_chain.specs.Late.{Late, seen}
 use Rattle.delta_chain.specs.Layers.{Layers, entries_of}
 use Rattle.delta_chain.proofs.LateLemmas.{entries-seen}
-use Rattle.index_page.specs.InMemory.{InMemory}
 use Rattle.index_page.specs.InMemory.InMemory.{LeafInMemory}
 use Rattle.index_page.specs.Page.{PageOfKind}
 use Rattle.index_page.specs.Page.PageOfKind.{Leaf}

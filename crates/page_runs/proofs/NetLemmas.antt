@@ -7,7 +7,7 @@ use Rattle.std.specs.Map.{keys_of}
 use Rattle.std.proofs.lemmas.Map.Entries.{lookup-filter-keys}
 use Rattle.keys.specs.Order.{order, IsRising}
 use Rattle.keys.specs.OrderedMap.{value_at, with_pair, without}
-use Rattle.keys.specs.Range.{is_within, in_range, out_of_range}
+use Rattle.keys.specs.Range.{is_within, in_range}
 use Rattle.keys.specs.Step.{map_after, map_after_all}
 use Rattle.keys.proofs.MapLemmas.{alike, passes_same, value_at-with_pair_here, value_at-with_pair_apart, value_at-without, rising-with_pair, same_map}
 use Rattle.keys.proofs.RangeLemmas.{value_at-out_of_range}

@@ -10,7 +10,7 @@ use Rattle.delta_chain.specs.Late.{Late, seen}
 use Rattle.index_page.specs.InMemory.{InMemory, page_shown}
 use Rattle.index_page.specs.InMemory.InMemory.{LeafInMemory, IndexInMemory}
 use Rattle.index_page.specs.Page.{PageOfKind, IsLeaf, leaf_of, entries}
-use Rattle.index_page.specs.Page.PageOfKind.{Leaf, Index}
+use Rattle.index_page.specs.Page.PageOfKind.{Leaf}
 use Rattle.mapping.specs.Levels.{Placed}
 use Rattle.routing.specs.Routes.{Route}
 use Rattle.page_runs.specs.NetRun.{net_run}

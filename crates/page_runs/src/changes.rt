@@ -146,11 +146,7 @@ impl Changes {
         let room = self.writes.min(FEW);
         match &mut self.kept {
             KeptChanges::Few(run) => {
-                // A run keeps its room while it stands in front of the page, so it is given no more than it can need, and
-                // grows where that is much.
-                if run.len() == 0 {
-                    *run = Run::with_capacity(alloc, room)?;
-                }
+                make_room(alloc, run, room)?;
                 run.set(key, change)
             }
             KeptChanges::Many(map) => {
@@ -173,6 +169,17 @@ impl Changes {
             KeptChanges::Many(map) => run_of(alloc, map),
         }
     }
+}
+
+// Gives an empty run room for this many changes. It keeps that while it stands in front of the page, so it is given no more than it can
+// need, and grows where that is much.
+fn make_room(alloc: Global, run: &mut LeafRun, room: usize) -> Result<(), AllocError>
+    ensures { OnOk result (run.new ≡ run.old) }
+{
+    if run.len() == 0 {
+        *run = Run::with_capacity(alloc, room)?;
+    }
+    Ok(())
 }
 
 fn run_of(alloc: Global, map: ChangeMap) -> Result<LeafRun, AllocError>

@@ -1,10 +1,11 @@
 //! The rows of a scan and the keys of a wipe on one page: the page's pairs and the changes so far are gone through together, in key order.
 ghost use Rattle.std.specs.Prelude.{◌≡◌, ◌∷◌, [], None, IfOk, MatchOption};
 ghost use Rattle.std.specs.Map.{keys_of};
-ghost use Rattle.std.specs.Iterator.{YieldsFirstBy, item_count};
+ghost use Rattle.keys.specs.Bytes as bytes;
+ghost use Rattle.keys.specs.Bytes.{Bytes, Pairs};
 ghost use Rattle.keys.specs.Order.{IsRising};
 ghost use Rattle.keys.specs.Range.{is_before, in_range, rows};
-ghost use Rattle.delta_chain.specs.Layers.{entries_of, IsInOrder};
+ghost use Rattle.delta_chain.specs.Layers.{entries_of, with_run, IsInOrder};
 ghost use Rattle.scan.specs.Leaf.{from};
 ghost use Rattle.page_runs.specs.PageRows.{change_lent, named_by_either};
 ghost use Rattle.page_runs.specs.Replay.{map_by_now};
@@ -32,8 +33,25 @@ pub(crate) fn rows_of(
     ensures { IfOk result
         (λ list. list ≡ rows low.now end.now limit (map_by_now page.now changes.now)) }
 {
+    let mut named = NamedKeys::new(alloc, page, changes, low);
+    rows_left(alloc, &mut named, end, limit)
+}
+
+// The rows that the keys which are left give.
+fn rows_left(
+    alloc: Global,
+    named: &mut NamedKeys<'_>,
+    end: &Option<Key<Global>>,
+    limit: u32,
+) -> Result<RowList<Global>, AllocError>
+    requires { IsRising named.old }
+    ensures { (pairs : Pairs Bytes) (changes : bytes.Changes Bytes) (low : Bytes) → IsRising pairs
+        → IsRising changes
+        → named.old ≡ named_by_either (from low pairs) (in_range low None changes)
+        → IfOk result (λ list. list ≡ rows low end.now limit (with_run pairs changes)) }
+{
     let mut rows = RowList::empty(alloc);
-    for (key, value) in NamedKeys::new(alloc, page, changes, low) {
+    while let Some((key, value)) = named.step() {
         if rows.len() >= limit as usize || !is_before_end(end, key) {
             break;
         }
@@ -58,14 +76,29 @@ pub(crate) fn keys_within(
     ensures { IfOk result (λ keys. keys.items
         ≡ keys_of (in_range low.now end.now (map_by_now page.now changes.now))) }
 {
+    let mut named = NamedKeys::new(alloc, page, changes, low);
+    keys_left(alloc, &mut named, end)
+}
+
+// Those of the keys which are left that have a value and are below the end.
+fn keys_left(
+    alloc: Global,
+    named: &mut NamedKeys<'_>,
+    end: &Option<Key<Global>>,
+) -> Result<Vec<Key<Global>>, AllocError>
+    requires { IsRising named.old }
+    ensures { (pairs : Pairs Bytes) (changes : bytes.Changes Bytes) (low : Bytes) → IsRising pairs
+        → IsRising changes
+        → named.old ≡ named_by_either (from low pairs) (in_range low None changes)
+        → IfOk result (λ keys. keys.items ≡ keys_of (in_range low end.now (with_run pairs changes))) }
+{
     let mut keys = Vec::new(alloc);
-    for (key, value) in NamedKeys::new(alloc, page, changes, low) {
+    while let Some((key, value)) = named.step() {
         if !is_before_end(end, key) {
             break;
         }
         if value.is_some() {
-            let copy = Key::from_bytes(alloc, key)?;
-            keys.push(copy)?;
+            keys.push(Key::from_bytes(alloc, key)?)?;
         }
     }
     Ok(keys)
@@ -157,17 +190,5 @@ impl<'a> NamedKeys<'a> {
                 }
             },
         }
-    }
-}
-
-impl<'a> Iterator for NamedKeys<'a> {
-    type Item = Change<'a>;
-
-    ghost next_gives = { YieldsFirstBy change_lent (λ left. left) };
-
-    ghost remaining = { item_count (λ left. left) };
-
-    fn next(&mut self) -> Option<Change<'a>> {
-        self.step()
     }
 }

@@ -1,6 +1,6 @@
 //! The commands of one page, replayed in the order of their places. What they have changed so far lies over the page
 //! like a run, and in the end it is the net run.
-ghost use Rattle.std.specs.Prelude.{◌≡◌, ◌≤◌, length, min, Some, None, is_some, if◌then◌else◌, IfOk, OnOk};
+ghost use Rattle.std.specs.Prelude.{◌≡◌, ◌≤◌, [], length, min, Some, None, is_some, if◌then◌else◌, IfOk, OnOk};
 ghost use Rattle.std.specs.Map.{keys_of};
 ghost use Rattle.keys.specs.OrderedMap.{value_at, with_pair};
 ghost use Rattle.keys.specs.Range.{in_range, rows};
@@ -35,21 +35,46 @@ pub(crate) fn replay(
     ensures fewest { IfOk result (λ r. r.2.fewest ≤ length (map_by_now page.now r.0)) }
     ensures most { IfOk result (λ r. min (length (map_by_now page.now r.0)) usize.MAX ≤ r.2.most) }
 {
+    let kinds = Kinds::of(commands, places);
+    let mut pieces = Pieces::with_capacity(alloc, kinds.room())?;
+    let mut changes = Changes::for_commands(alloc, commands, places, kinds.writes);
+    let bounds = execute_all(alloc, commands, page, places, &mut changes, &mut pieces)?;
+    Ok((changes.into_run(alloc)?, pieces, bounds))
+}
+
+// Executes the commands at these places, where there are no changes and no answers yet. Returns the bounds on the number of entries after
+// them.
+fn execute_all(
+    alloc: Global,
+    commands: &[Command<Global>],
+    page: &LeafChain,
+    places: &[usize],
+    changes: &mut Changes,
+    pieces: &mut Pieces<Global>,
+) -> Result<EntryBounds, AllocError>
+    requires places { ArePlacesOf commands.now places.now }
+    requires unchanged { changes.old ≡ [] }
+    requires unanswered { pieces.old ≡ [] }
+    ensures changes { OnOk result
+        (changes.new ≡ net_run (entries_of page.now) (commands_at commands.now places.now)) }
+    ensures pieces { OnOk result (pieces.new ≡ pieces_of places.now
+        (replies_to (entries_of page.now) (commands_at commands.now places.now))) }
+    ensures fewest { IfOk result (λ bounds. bounds.fewest ≤ length (map_by_now page.now changes.new)) }
+    ensures most { IfOk result
+        (λ bounds. min (length (map_by_now page.now changes.new)) usize.MAX ≤ bounds.most) }
+{
     // Only for the proof: `depth` says that the page is in order.
     let _in_order = page.depth();
-    let kinds = Kinds::of(commands, places);
-    let mut changes = Changes::for_commands(alloc, commands, places, kinds.writes);
-    let mut pieces = Pieces::with_capacity(alloc, kinds.room())?;
     let mut bounds = page.bounds();
     for place in places {
-        let reply = execute(alloc, page, &mut changes, &commands[*place], bounds.most)?;
+        let reply = execute(alloc, page, changes, &commands[*place], bounds.most)?;
         bounds = bounds_after(bounds, &reply);
         pieces.push(Piece {
             place: *place,
             reply,
         })?;
     }
-    Ok((changes.into_run(alloc)?, pieces, bounds))
+    Ok(bounds)
 }
 
 // The bounds on the number of entries after a command.

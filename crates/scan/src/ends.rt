@@ -1,11 +1,11 @@
 //! The keys at which a batch's scans may end, since before them there are certainly as many rows as each may have. So a scan
 //! goes only to the leaves before its end, and not to each that its range meets.
-ghost use Rattle.std.specs.Prelude.{◌≡◌, ◌≤◌, [], true, Some, map, min, IfOk, IfSome};
+ghost use Rattle.std.specs.Prelude.{◌≡◌, ◌≤◌, ◌&&◌, [], true, Some, map, min, IfOk, IfSome};
 ghost use Rattle.std.specs.Map.{keys_of};
 ghost use Rattle.std.specs.Option.{option_copied};
 ghost use Rattle.keys.specs.Bytes.{Bytes, Pairs};
 ghost use Rattle.keys.specs.Narrowed.{IsEnough, MayEndAt, MayEndAtAll};
-ghost use Rattle.keys.specs.Range.{is_below, in_range};
+ghost use Rattle.keys.specs.Range.{is_before, is_below, in_range};
 ghost use Rattle.delta_chain.specs.Layers.{entries_of};
 ghost use Rattle.mapping.specs.Levels.{levels_of, names, contents};
 ghost use Rattle.mapping.specs.Proper.{AreLevels, HoldsItsLevels};
@@ -244,13 +244,13 @@ fn end_of_scan<'a>(
     let mut certain: usize = 0;
     while let Some(next) = leaves.next() {
         let end = next.0;
-        if !is_before(hi, end) || !compare(lo, end).is_lt() {
-            return None;
+        if !is_inside(lo, hi, end) {
+            break;
         }
         let here = taken.below(end);
         let more = certain_pairs(leaf.1.whole(), leaf.0, lo, &before, &here);
         if !may_go_on(more, room) {
-            return None;
+            break;
         }
         certain = certain.saturating_add(more);
         if certain >= limit as usize {
@@ -260,6 +260,13 @@ fn end_of_scan<'a>(
         before = here;
     }
     None
+}
+
+// Whether a leaf that begins at this key begins within a scan's range, and not at its lower bound.
+fn is_inside(lo: &[u8], hi: Option<&[u8]>, low: &[u8]) -> bool
+    ensures { result ≡ (is_before (option_copied hi.entry) low.now && is_below lo.now low.now) }
+{
+    is_before(hi, low) && compare(lo, low).is_lt()
 }
 
 // Returns whether a scan may go on after a leaf of which `more` pairs are certain. If none is, takes this visit off `room`.

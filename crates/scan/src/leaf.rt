@@ -64,9 +64,10 @@ impl<'a> LeafPairs<'a> {
         if entries.most == 0 {
             return;
         }
+        let depth = chain.depth();
         match &mut self.way {
-            Way::Plain(pairs) if chain.depth() == 0 => *pairs = BasePairs::new(chain.base(), &[]),
-            Way::Merging(merge) if chain.depth() <= 16 => merge.restart(chain, &[]),
+            Way::Plain(pairs) if depth == 0 => *pairs = BasePairs::new(chain.base(), &[]),
+            Way::Merging(merge) if depth <= 16 => merge.restart(chain, &[]),
             _ => *self = LeafPairs::new(alloc, chain, &[]),
         }
     }

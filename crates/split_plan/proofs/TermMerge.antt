@@ -1,6 +1,6 @@
 -- Terms, taken from the fronts of the names of freed members and of new pieces.
 use Rattle.std.specs.Prelude.{◌≡◌, ℕ, List, [], ◌∷◌, drop, Option, Some, None}
-use Rattle.std.proofs.Common.{refl, sym, ap, ◌∙◌, Less, Equal, Greater}
+use Rattle.std.proofs.Common.{refl, sym, ap, ◌∙◌, arith, length, Less, Equal, Greater}
 use Rattle.std.specs.List.Sorted.{IsStrictlySortedBy}
 use Rattle.std.specs.Map.{keys_of}
 use Rattle.keys.specs.Order.{order, IsRising}
@@ -75,3 +75,19 @@ front_is ns rest n m e h = rw e h
 pub rising_left : (ns : Names) → IsRising ns → IsRising (drop 1 ns)
 rising_left [] r = r
 rising_left (n ∷ ns) r = rising_rest n ns r
+
+-- ---- what the order of the first names says of the lists
+
+pub some_freed : (freed fresh : Names) → length freed ≡ 0 → Less ≡ front_order freed fresh → ⊥
+some_freed [] fresh e h = absurd (cc)
+some_freed (f ∷ fs) fresh e h = absurd (omega (arith, e))
+
+pub some_fresh : (freed fresh : Names) → length fresh ≡ 0 → Equal ≡ front_order freed fresh → ⊥
+some_fresh [] [] e h = absurd (cc)
+some_fresh (f ∷ fs) [] e h = absurd (cc)
+some_fresh freed (m ∷ ms) e h = absurd (omega (arith, e))
+
+pub none_left : (freed fresh : Names) → length fresh ≡ 0 → Greater ≡ front_order freed fresh → with_run (absent freed) (present fresh) ≡ []
+none_left [] [] e h = refl
+none_left (f ∷ fs) [] e h = absurd (cc)
+none_left freed (m ∷ ms) e h = absurd (omega (arith, e))

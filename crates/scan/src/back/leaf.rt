@@ -64,8 +64,9 @@ impl<'a> LeafBack<'a> {
         if entries.most == 0 {
             return;
         }
+        let depth = chain.depth();
         match &mut self.way {
-            WayBack::Merging(merge) if chain.depth() <= 16 => merge.restart(chain, None),
+            WayBack::Merging(merge) if depth <= 16 => merge.restart(chain, None),
             _ => *self = LeafBack::new(alloc, chain, None),
         }
     }

@@ -1,5 +1,29 @@
-use Rattle.split_plan.proofs.TermMerge.{freed_first, fresh_first, fresh_replaces, front_is, rising_left}
+use Rattle.std.proofs.Common.{arith}
+use Rattle.split_plan.proofs.TermMerge.{freed_first, fresh_first, fresh_replaces, front_is, rising_left, some_freed, some_fresh, none_left}
 use Rattle.split_plan.proofs.parent_run.next_term.Goals as goal
+
+-- ---- nothing is taken out: but where both lists are empty, the order says that there is something
+
+pub returns-in_err-member-in-Less : goal.returns-in_err-member-in-Less
+returns-in_err-member-in-Less c = absurd (some_freed c.args.freed.now.items c.args.fresh.now.items (omega (arith, c.in_err-member-in-Less.ensures.cases.0)) c.in-Less.ensures)
+
+pub returns-in_err-both-in-Equal : goal.returns-in_err-both-in-Equal
+returns-in_err-both-in-Equal c = absurd (some_fresh c.args.freed.now.items c.args.fresh.now.items (omega (arith, c.in_err-both-in-Equal.ensures.cases.0)) c.in-Equal.ensures)
+
+pub returns-in_err-piece-in-Greater-clause-freed : goal.returns-in_err-piece-in-Greater-clause-freed
+returns-in_err-piece-in-Greater-clause-freed c = c.requires.freed
+
+pub returns-in_err-piece-in-Greater-clause-fresh : goal.returns-in_err-piece-in-Greater-clause-fresh
+returns-in_err-piece-in-Greater-clause-fresh c = rw c.pop_front-in-Greater.ensures.rest (rising_left c.args.fresh.now.items c.requires.fresh)
+
+pub returns-in_err-piece-in-Greater-clause-terms : goal.returns-in_err-piece-in-Greater-clause-terms
+returns-in_err-piece-in-Greater-clause-terms c =
+    rw c.from_residual-in_err-piece-in-Greater.ensures (none_left c.args.freed.now.items c.args.fresh.now.items (omega (arith, c.in_err-piece-in-Greater.ensures.cases.0)) c.in-Greater.ensures)
+
+pub returns-in_err-piece-in-Greater-clause-fewer : goal.returns-in_err-piece-in-Greater-clause-fewer
+returns-in_err-piece-in-Greater-clause-fewer c = rw c.from_residual-in_err-piece-in-Greater.ensures tt
+
+-- ---- a term is taken out
 
 pub returns-in_ok-member-in-Less-clause-freed : goal.returns-in_ok-member-in-Less-clause-freed
 returns-in_ok-member-in-Less-clause-freed c = rw c.pop_front.ensures.rest (rising_left c.args.freed.now.items c.requires.freed)
@@ -28,3 +52,18 @@ pub returns-in_ok-piece-in-Greater-clause-terms : goal.returns-in_ok-piece-in-Gr
 returns-in_ok-piece-in-Greater-clause-terms c =
     fresh_first c.args.freed.now.items c.args.fresh.now.items c.pop_front-in-Greater.new.self.items (c.piece.inside.low, c.piece.inside.pid) c.requires.fresh
     (front_is c.args.fresh.now.items c.pop_front-in-Greater.new.self.items _ _ c.piece.view_is c.in_ok-piece-in-Greater.ensures.items) c.in-Greater.ensures
+
+pub returns-in_ok-member-in-Less-clause-fresh : goal.returns-in_ok-member-in-Less-clause-fresh
+returns-in_ok-member-in-Less-clause-fresh c = c.requires.fresh
+
+pub returns-in_ok-member-in-Less-clause-fewer : goal.returns-in_ok-member-in-Less-clause-fewer
+returns-in_ok-member-in-Less-clause-fewer c = omega (arith, c.in_ok-member-in-Less.ensures.cases)
+
+pub returns-in_ok-both-in-Equal-clause-fewer : goal.returns-in_ok-both-in-Equal-clause-fewer
+returns-in_ok-both-in-Equal-clause-fewer c = omega (arith, c.pop_front-replaced.ensures.len, c.in_ok-both-in-Equal.ensures.cases)
+
+pub returns-in_ok-piece-in-Greater-clause-freed : goal.returns-in_ok-piece-in-Greater-clause-freed
+returns-in_ok-piece-in-Greater-clause-freed c = c.requires.freed
+
+pub returns-in_ok-piece-in-Greater-clause-fewer : goal.returns-in_ok-piece-in-Greater-clause-fewer
+returns-in_ok-piece-in-Greater-clause-fewer c = omega (arith, c.in_ok-piece-in-Greater.ensures.cases)

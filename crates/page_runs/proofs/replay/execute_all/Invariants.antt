@@ -4,7 +4,7 @@ use Rattle.delta_chain.specs.Layers.{entries_of}
 use Rattle.page_runs.specs.NetRun.{net_run}
 use Rattle.page_runs.specs.Replay.{map_by_now}
 use Rattle.page_runs.specs.Replies.{commands_at, pieces_of}
-use Rattle.page_runs.proofs.replay.replay.Given as goal
+use Rattle.page_runs.proofs.replay.execute_all.Given as goal
 
 -- the changes are the net run of the commands so far; the pieces so far and those of the rest, on the page with the
 -- changes, are all the pieces; and the page with the changes has as many entries as the bounds say

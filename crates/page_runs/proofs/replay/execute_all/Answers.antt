@@ -11,7 +11,7 @@ use Rattle.page_runs.proofs.NetLemmas.{Pairs, Changes}
 use Rattle.page_runs.specs.NetRun.{net_run}
 use Rattle.page_runs.specs.Replies.{commands_at}
 use Rattle.page_runs.proofs.Replays.{place_within, read_place_within, commands_at-take, changes_step, map_step, pieces_step}
-use Rattle.page_runs.proofs.replay.replay.Goals as goal
+use Rattle.page_runs.proofs.replay.execute_all.Goals as goal
 
 pub loop-place-preserved : goal.loop-place-preserved
 loop-place-preserved c =
@@ -25,7 +25,7 @@ loop-place-preserved c =
     let after : Changes = c.execute.new.changes in
     let rising : IsRising held = rising-entries_of c.args.page.now c.depth-in_order.ensures.rising in
     let here : slice_get places i ≡ Some place = slice_get-get_or places i 0 (omega arith) in
-    let within : place < length batch = place_within batch places i place c.requires here in
+    let within : place < length batch = place_within batch places i place c.requires.places here in
     let there : slice_get batch place ≡ Some command = slice_get_read batch (length batch) place command refl within c.index-commands-place.is in
     let so_far : List (Command Global) = commands_at batch (take i places) in
     let changes : after ≡ net_run held (so_far ++ command ∷ []) = changes_step held rising so_far command before after c.loop-place.invariant.changes c.in_ok-reply.ensures.changes in
@@ -41,4 +41,4 @@ loop-place-preserved c =
     }
 
 pub bounds-commands-place : goal.bounds-commands-place
-bounds-commands-place c = read_place_within c.args.commands.now c.args.places.now c.loop-place.place-index c.requires c.loop-place-test.true
+bounds-commands-place c = read_place_within c.args.commands.now c.args.places.now c.loop-place.place-index c.requires.places c.loop-place-test.true
