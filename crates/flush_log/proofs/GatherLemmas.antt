@@ -102,6 +102,18 @@ module _ (s : Settings) where
       ap (λ (n : ℕ). with_bytes p (slice_range buffer p.from p.end ++ replicate (s.seg_size - n) 0)) (end_of_part p buffer is room)
       ∙ ap (with_bytes p) (sym h)
 
+  -- a frame that fits in leaves nothing, and the part goes on with it
+  pub left-part : (p : Part) (buffer bytes : Bytes) → IsInside s p → s.seg_size ≤ length buffer → p.end + length bytes ≤ s.seg_size → left_by s (span_of p buffer) (bytes ∷ []) ≡ []
+  left-part p buffer bytes is room fits = let end = end_of_part p buffer is room in left-here (span_of p buffer) bytes (omega (arith, end, fits))
+
+  pub open-part : (p : Part) (buffer next bytes : Bytes) → IsInside s p → s.seg_size ≤ length buffer → p.end + length bytes ≤ s.seg_size
+      → slice_range next p.from (p.end + length bytes) ≡ slice_range buffer p.from p.end ++ bytes
+      → span_of (record { segment = p.segment; from = p.from; end = p.end + length bytes }) next ≡ open_after s (span_of p buffer) (bytes ∷ [])
+  open-part p buffer next bytes is room fits h =
+      let end = end_of_part p buffer is room in
+      let made : Bytes → Span = λ bs. record { segment = p.segment; offset = p.from; bytes = bs } in
+      ap made h ∙ sym (open-here (span_of p buffer) bytes (omega (arith, end, fits)))
+
   -- so it is what the frame leaves that doesn't fit in
   pub left-whole : (p : Part) (buffer padded bytes : Bytes) → IsInside s p → s.seg_size ≤ length buffer → s.seg_size < p.end + length bytes
       → slice_range padded p.from s.seg_size ≡ slice_range buffer p.from p.end ++ replicate (s.seg_size - p.end) 0 → left_by s (span_of p buffer) (bytes ∷ []) ≡ span_of (whole_of p) padded ∷ []

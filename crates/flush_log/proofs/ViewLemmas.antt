@@ -1,10 +1,10 @@
 -- What a crash leaves of runs of calls, on any disk: for the proofs of what writes to a disk. A view is no value that a contract
 -- can name for all, so these laws stand on no function.
-use Rattle.std.proofs.Common.{◌≡◌, inl, inr, ⊎_elim, ℕ, zero, suc, ◌+◌, ◌-◌, ◌^◌, ◌≤◌, min, List, [], ◌∷◌, ◌++◌, length, take, refl, sym, ap, subst, ◌∙◌, arith}
-use Rattle.std.proofs.lemmas.Bool.{cases_lt}
+use Rattle.std.proofs.Common.{◌≡◌, inl, inr, ⊎_elim, ℕ, zero, suc, ◌+◌, ◌-◌, ◌^◌, ◌≤◌, min, List, [], ◌∷◌, ◌++◌, length, take, refl, sym, ap, subst, ◌∙◌, arith, Result, Ok, Err, IsErr, IfOk}
+use Rattle.std.proofs.lemmas.Bool.{cases_lt, false≢true}
 use Rattle.std.proofs.lemmas.List.{length-take}
 use Rattle.flush_log.specs.Overlay.{overlay, IsBeside}
-use Rattle.flush_log.specs.Disk.{HasFailed, View, Lawful, Only, IsSettled, Torn, Elapses, Leaves, LeavesOnly}
+use Rattle.flush_log.specs.Disk.{HasFailed, CountsFailure, View, Lawful, Only, IsSettled, Torn, Elapses, Leaves, LeavesOnly}
 use Rattle.flush_log.specs.Commit.{Call, seen_after, MayLeave, LeftDuring}
 use Rattle.flush_log.specs.Commit.Call.{Write, Sync}
 use Rattle.flush_log.proofs.OverlayLemmas.{agree_less}
@@ -18,6 +18,20 @@ counted_failed old new is = elim (cases_lt (old + 1) (2 ^ 64 - 1)) [
   | inl less ↦ inl (omega (arith, is, less))
   | inr most ↦ inr (omega (arith, is, most))
 ]
+
+-- a call that failed is counted, and owes nothing that an Ok promises
+pub counts_failed : {X E : Type 0} (result : Result X E) (old new : ℕ) → IsErr result → new ≡ min (old + 1) (2 ^ 64 - 1) → CountsFailure result old new
+counts_failed (Ok x) old new is h = absurd (false≢true is)
+counts_failed (Err e) old new is h = h
+
+pub owes_nothing : {X E : Type 0} (result : Result X E) (P : X → Type 0) → IsErr result → IfOk result P
+owes_nothing (Ok x) P is = absurd (false≢true is)
+owes_nothing (Err e) P is = tt
+
+-- and what holds is no less after an Ok
+pub always : {X E P : Type 0} (result : Result X E) → P → IfOk result (λ _. P)
+always (Ok x) p = p
+always (Err e) p = tt
 
 -- ---- runs by steps
 

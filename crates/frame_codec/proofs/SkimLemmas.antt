@@ -1,5 +1,7 @@
 -- What is skipped and not kept: entries one after the other, a base or a run of them, a content, and a frame.
 use Rattle.std.proofs.Common.{◌≡◌, ℕ, zero, suc, ◌+◌, ◌<◌, ◌-◌, ◌≤◌, Bool, true, false, ◌&&◌, if◌then◌else◌, List, [], ◌∷◌, ◌++◌, length, take, drop, Option, Some, None, refl, sym, ap, ◌∙◌, arith, add-one, length-append}
+use Rattle.std.specs.Prelude.{MatchOption}
+use Rattle.std.specs.Borrow.{Bor}
 use Rattle.std.proofs.Math.Seq.{take-append_seam}
 use Rattle.keys.specs.Cells.{Codec, AreBytes, read_on, read_as, read_where, read_number, counted}
 use Rattle.std.specs.Ordering.{is_lt}
@@ -13,7 +15,8 @@ use Rattle.frame_codec.specs.declared.format.Spelling.{Spelling}
 use Rattle.frame_codec.specs.declared.format.Spelling.TheVariants.{Shared}
 use Rattle.frame_codec.specs.Frame.{Content, Frame, read_base, full, header, bytes_of, is_pid, is_key, are_entries, is_full, is_allowed}
 use Rattle.frame_codec.specs.Reading.{read_content, read_frame}
-use Rattle.frame_codec.specs.Skimmed.{is_above}
+use Rattle.frame_codec.specs.Skimmed.{kind_of, is_above}
+use Rattle.frame_codec.specs.declared.skim.FrameKind.{FrameKind}
 use Rattle.frame_codec.proofs.BaseLemmas.{base-taken}
 use Rattle.frame_codec.proofs.EachLemmas.{IsReadUpTo, next_entry, last_key, last_key-push, read_entries, read-none, read-next, read-ends, read-falls, read-done, read-many}
 use Rattle.frame_codec.proofs.FoundLemmas.{IsReadOf, IsContent, read_allowed, content-found, content-none, frame-answered}
@@ -162,11 +165,28 @@ module _ {V : Type 0} (s : Settings) (short : V → Bool) (spelling : Spelling) 
 -- ---- a content, and a frame
 
 -- what was read, and is within the settings as a part of its content
-pub made-passed : {Y Z : Type 0} (make : Y → Z) (test : Z → Bool) (o : Option (Y × List ℕ)) (y : Y) (rest : List ℕ)
+made-passed : {Y Z : Type 0} (make : Y → Z) (test : Z → Bool) (o : Option (Y × List ℕ)) (y : Y) (rest : List ℕ)
     → read_where (λ y. test (make y)) o ≡ Some (y, rest) → read_where test (read_as make o) ≡ Some (make y, rest)
 made-passed {Y = Y} make test o y rest h =
     let (read, passed) = read_where-gave (λ (y : Y). test (make y)) o y rest h in
     ap (λ (o : Option (Y × List ℕ)). read_where test (read_as make o)) read ∙ rw passed refl
+
+made-none : {Y Z : Type 0} (make : Y → Z) (test : Z → Bool) (o : Option (Y × List ℕ)) → read_where (λ y. test (make y)) o ≡ None → read_where test (read_as make o) ≡ None
+made-none make test None h = refl
+made-none {Z = Z} make test (Some p) h = by (test (make p.0)) h
+  where
+    by : (b : Bool) → (if b then gave p.0 p.1 else None) ≡ None → (if b then gave {X = Z} (make p.0) p.1 else None) ≡ None
+    by true e = absurd (nothing_read (p.0, p.1) (sym e))
+    by false e = refl
+
+-- a content that was skipped has this kind, if what was skipped made it
+pub made-kind : {Y : Type 0} (g : Format) (make : Y → Content) (kind : FrameKind) → ((y : Y) → kind_of (make y) ≡ kind) → (o : Option (Y × List ℕ))
+    → (rest : Option (Bor (List ℕ))) (result : Option (FrameKind × Bor (List ℕ)))
+    → MatchOption rest (read_where (λ y. is_allowed g (make y)) o ≡ None) (λ r. (y : Y) × (read_where (λ y. is_allowed g (make y)) o ≡ Some (y, r.now)))
+    → MatchOption rest (result ≡ None) (λ r. result ≡ Some (kind, r))
+    → MatchOption result (read_where (is_allowed g) (read_as make o) ≡ None) (λ p. (content : Content) × (read_where (is_allowed g) (read_as make o) ≡ Some (content, p.1.now)) × (kind_of content ≡ p.0))
+made-kind g make kind same o None result none is = rw is (made-none make (is_allowed g) o none)
+made-kind g make kind same o (Some r) result (y, read) is = rw is (make y, made-passed make (is_allowed g) o y r.now read, same y)
 
 -- the frame of this page with this content
 abbrev pub with_content : ℕ → Content → Frame

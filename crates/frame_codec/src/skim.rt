@@ -227,32 +227,39 @@ fn skim_content<'a>(number: u8, bytes: &'a [u8], format: &Format) -> Option<(Fra
 {
     match number {
         FULL_LEAF => {
-            let rest = skim_known::<Value<Global>>(Spelling::Whole, bytes, format)?;
-            Some((FrameKind::FullLeaf, rest))
+            let rest = skim_known::<Value<Global>>(Spelling::Whole, bytes, format);
+            with_kind(FrameKind::FullLeaf, rest)
         }
         DELTA_LEAF => {
-            let rest = skim_run::<Value<Global>>(bytes, &format.settings)?;
-            Some((FrameKind::DeltaLeaf, rest))
+            let rest = skim_run::<Value<Global>>(bytes, &format.settings);
+            with_kind(FrameKind::DeltaLeaf, rest)
         }
         FULL_INDEX => {
-            let rest = skim_known::<Pid>(Spelling::Whole, bytes, format)?;
-            Some((FrameKind::FullIndex, rest))
+            let rest = skim_known::<Pid>(Spelling::Whole, bytes, format);
+            with_kind(FrameKind::FullIndex, rest)
         }
         DELTA_INDEX => {
-            let rest = skim_run::<Pid>(bytes, &format.settings)?;
-            Some((FrameKind::DeltaIndex, rest))
+            let rest = skim_run::<Pid>(bytes, &format.settings);
+            with_kind(FrameKind::DeltaIndex, rest)
         }
         FREE => Some((FrameKind::Free, bytes)),
         SHARED_LEAF => {
-            let rest = skim_known::<Value<Global>>(Spelling::Shared, bytes, format)?;
-            Some((FrameKind::FullLeaf, rest))
+            let rest = skim_known::<Value<Global>>(Spelling::Shared, bytes, format);
+            with_kind(FrameKind::FullLeaf, rest)
         }
         SHARED_INDEX => {
-            let rest = skim_known::<Pid>(Spelling::Shared, bytes, format)?;
-            Some((FrameKind::FullIndex, rest))
+            let rest = skim_known::<Pid>(Spelling::Shared, bytes, format);
+            with_kind(FrameKind::FullIndex, rest)
         }
         _ => None,
     }
+}
+
+// The kind with the bytes after the content, where there is one.
+fn with_kind<'a>(kind: FrameKind, rest: Option<&'a [u8]>) -> Option<(FrameKind, &'a [u8])>
+    ensures { MatchOption rest.entry (result ≡ None) (λ rest. result ≡ Some (kind, rest)) }
+{
+    Some((kind, rest?))
 }
 
 /// Like `read_frame`, but returns only the page, the kind and the size, and takes no memory. It finds a frame for exactly

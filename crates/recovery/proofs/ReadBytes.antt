@@ -61,6 +61,13 @@ read_before a b file kept same read = record {
   honest = λ honest. read.honest (subst IsTrue (sym kept.honest) honest) ∙ (same honest).seen;
 }
 
+-- and later it may still have been read
+pub read_after : (a b : View) (file : List ℕ) → Kept a b → (IsTrue a.is_honest → Same a b) → IsReadOf a file → IsReadOf b file
+read_after a b file kept same read = record {
+  whole = read.whole ∙ sym kept.size;
+  honest = λ honest. let was : IsTrue a.is_honest = subst IsTrue kept.honest honest in read.honest was ∙ sym (same was).seen;
+}
+
 -- a fault that was handed on
 pub handed_on : {X : Type 0} (r : Result X Fault) (P : X → Type 0) (Q : Fault → Type 0) (fault : Fault) → IsErrAnd r (λ f. f ≡ fault) → Q fault → MatchResult r P Q
 handed_on (Ok x) P Q fault is h = absurd is

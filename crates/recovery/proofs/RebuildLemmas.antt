@@ -1,6 +1,6 @@
 -- How a page is built of its frames, one after the other.
 use Rattle.std.specs.Prelude.{◌≡◌, ℕ, ◌-◌, ◌<◌, ◌≤◌, ◌==◌, Bool, true, false, List, [], ◌∷◌, ◌++◌, map, fold, length, take, drop, Option, Some, None, Result, Ok, Err}
-use Rattle.std.proofs.Common.{refl, sym, ap, ◌∙◌, subst, arith, append_assoc}
+use Rattle.std.proofs.Common.{refl, sym, ap, ◌∙◌, arith, append_assoc}
 use Rattle.std.proofs.lemmas.Bool.{ne_eqb}
 use Rattle.std.proofs.lemmas.List.{map-append, length-drop}
 use Rattle.keys.specs.Bytes.{Bytes}
@@ -44,7 +44,7 @@ module _ (s : Format) where
   abbrev following : ℕ → Bytes → Bytes
   following size rest = take (length rest - size) (drop size rest)
 
-  pub less_after : (rest : Bytes) (f : Frame) (size : ℕ) → IsReadAt rest f size → length (following size rest) < length rest
+  less_after : (rest : Bytes) (f : Frame) (size : ℕ) → IsReadAt rest f size → length (following size rest) < length rest
   less_after rest f size h =
       let some = some_bytes f in
       let long = ap (λ (bs : Bytes). length bs) (left-following size rest) in
@@ -53,11 +53,20 @@ module _ (s : Format) where
       let fits = h.within in
       omega (arith, some, long, left, is, fits)
 
-  one_more : (long : ℕ) (body rest : Bytes) (fs : List Frame) (f : Frame) (size : ℕ) → AreRead s is_at_tail long body fs rest → is_at_tail rest ≡ false → IsReadAt rest f size
-      → AreRead s is_at_tail long body (fs ++ f ∷ []) (following size rest)
-  one_more long body rest fs f size h more at =
-      let less = subst (λ (bs : Bytes). length bs < length rest) (left-following size rest) (less_after rest f size at) in
-      subst (λ (bs : Bytes). AreRead s is_at_tail long body (fs ++ f ∷ []) bs) (sym (left-following size rest)) (read-more s is_at_tail long body fs rest (drop size rest) f h more at.found less)
+  -- a frame that was read at the front of bytes, with the bytes after it
+  pub record IsFront (bytes : Bytes) (f : Frame) (rest : Bytes) : Type 0 where
+    pub found : read_frame s bytes ≡ Some (f, rest)
+    pub less : length rest < length bytes
+
+  pub front_of : (bytes : Bytes) (f : Frame) (size : ℕ) → IsReadAt bytes f size → IsFront bytes f (following size bytes)
+  front_of bytes f size at = record {
+    found = at.found ∙ ap (λ (rest : Bytes). let read : Option (Frame × Bytes) = Some (f, rest) in read) (sym (left-following size bytes));
+    less = less_after bytes f size at;
+  }
+
+  one_more : (long : ℕ) (body rest : Bytes) (fs : List Frame) (f : Frame) (next : Bytes) → AreRead s is_at_tail long body fs rest → is_at_tail rest ≡ false → IsFront rest f next
+      → AreRead s is_at_tail long body (fs ++ f ∷ []) next
+  one_more long body rest fs f next h more at = read-more s is_at_tail long body fs rest next f h more at.found at.less
 
   -- of these bytes these are left, and the frames in front of them make this page
   pub record IsDecidedUpto (bytes : Bytes) (p : PageOfKind) (rest : Bytes) : Type 0 where
@@ -65,26 +74,22 @@ module _ (s : Format) where
     pub read : AreRead s is_at_tail (length bytes) bytes frames rest
     pub state : page_from_start (said frames) ≡ Present p
 
-  has_more : (bytes : Bytes) (f : Frame) (size : ℕ) → IsReadAt bytes f size → is_at_tail bytes ≡ false
-  has_more bytes f size h =
-      let some = some_bytes f in
-      let is = h.long in
-      let fits = h.within in
-      not_at_tail bytes (omega (arith, some, is, fits))
+  has_more : (bytes : Bytes) (f : Frame) (next : Bytes) → IsFront bytes f next → is_at_tail bytes ≡ false
+  has_more bytes f next h = let less = h.less in not_at_tail bytes (omega (arith, less))
 
   -- the first frame is a base
-  pub upto-first : (bytes : Bytes) (f : Frame) (size : ℕ) (p : PageOfKind) → IsReadAt bytes f size → base_in f.content ≡ Some p → IsDecidedUpto bytes p (following size bytes)
-  upto-first bytes f size p h base = record {
+  pub upto-first : (bytes : Bytes) (f : Frame) (next : Bytes) (p : PageOfKind) → IsFront bytes f next → base_in f.content ≡ Some p → IsDecidedUpto bytes p next
+  upto-first bytes f next p h base = record {
     frames = f ∷ [];
-    read = one_more (length bytes) bytes bytes [] f size (read-none s is_at_tail (length bytes) bytes (omega arith)) (has_more bytes f size h) h;
+    read = one_more (length bytes) bytes bytes [] f next (read-none s is_at_tail (length bytes) bytes (omega arith)) (has_more bytes f next h) h;
     state = ap present_or_missing base;
   }
 
   -- and the next one a run of that page
-  pub upto-more : (bytes rest : Bytes) (p q : PageOfKind) (f : Frame) (size : ℕ) → IsDecidedUpto bytes p rest → IsReadAt rest f size → continued (Present p) f.content ≡ Present q → IsDecidedUpto bytes q (following size rest)
-  upto-more bytes rest p q f size h at run = record {
+  pub upto-more : (bytes rest : Bytes) (p q : PageOfKind) (f : Frame) (next : Bytes) → IsDecidedUpto bytes p rest → IsFront rest f next → continued (Present p) f.content ≡ Present q → IsDecidedUpto bytes q next
+  upto-more bytes rest p q f next h at run = record {
     frames = h.frames ++ f ∷ [];
-    read = one_more (length bytes) bytes rest h.frames f size h.read (has_more rest f size at) at;
+    read = one_more (length bytes) bytes rest h.frames f next h.read (has_more rest f next at) at;
     state = ap page_from_start (map-append (λ (g : Frame). g.content) h.frames (f ∷ [])) ∙ state-more (said h.frames) (f.content ∷ []) p h.state ∙ run;
   }
 
@@ -100,15 +105,15 @@ module _ (s : Format) where
   state-other bytes rest p h e none = sym (ap page_state (read-broken s is_at_tail (length bytes) bytes h.frames rest h.read e none))
 
   -- or with one that doesn't fit
-  pub state-unfit : (bytes rest : Bytes) (p : PageOfKind) (f : Frame) (size : ℕ) → IsDecidedUpto bytes p rest → IsReadAt rest f size → continued (Present p) f.content ≡ Broken → None ≡ page_in (page_of_frames s bytes)
-  state-unfit bytes rest p f size h at unfit =
+  pub state-unfit : (bytes rest : Bytes) (p : PageOfKind) (f : Frame) (next : Bytes) → IsDecidedUpto bytes p rest → IsFront rest f next → continued (Present p) f.content ≡ Broken → None ≡ page_in (page_of_frames s bytes)
+  state-unfit bytes rest p f next h at unfit =
       let fs = h.frames in
-      let read = one_more (length bytes) bytes rest fs f size h.read (has_more rest f size at) at in
+      let read = one_more (length bytes) bytes rest fs f next h.read (has_more rest f next at) at in
       let broken : (gs : List Frame) → page_in (page_from_start (said ((fs ++ f ∷ []) ++ gs))) ≡ None = λ gs.
       ap (λ (hs : List Frame). page_in (page_from_start (said hs))) (append_assoc fs (f ∷ []) gs)
       ∙ ap (λ (cs : List Content). page_in (page_from_start cs)) (map-append (λ (g : Frame). g.content) fs (f ∷ gs))
       ∙ ap page_in (state-more (said fs) (f.content ∷ said gs) p h.state ∙ ap (λ (t : InLog). fold continued t (said gs)) unfit ∙ broken-stays (said gs)) in
-      sym (ap page_state read.read ∙ none_read (fs ++ f ∷ []) (read_frames s is_at_tail (length bytes - length (fs ++ f ∷ [])) (following size rest)) broken)
+      sym (ap page_state read.read ∙ none_read (fs ++ f ∷ []) (read_frames s is_at_tail (length bytes - length (fs ++ f ∷ [])) next) broken)
 
   -- there is no frame at all
   pub state-none : (bytes : Bytes) → read_frame s bytes ≡ None → None ≡ page_in (page_of_frames s bytes)
@@ -122,11 +127,11 @@ module _ (s : Format) where
       of false e = sym (ap page_state (read-broken s is_at_tail (length bytes) bytes [] bytes start e none))
 
   -- or the first is no base
-  pub state-no_base : (bytes : Bytes) (f : Frame) (size : ℕ) → IsReadAt bytes f size → base_in f.content ≡ None → None ≡ page_in (page_of_frames s bytes)
-  state-no_base bytes f size at none =
-      let read = one_more (length bytes) bytes bytes [] f size (read-none s is_at_tail (length bytes) bytes (omega arith)) (has_more bytes f size at) at in
+  pub state-no_base : (bytes : Bytes) (f : Frame) (next : Bytes) → IsFront bytes f next → base_in f.content ≡ None → None ≡ page_in (page_of_frames s bytes)
+  state-no_base bytes f next at none =
+      let read = one_more (length bytes) bytes bytes [] f next (read-none s is_at_tail (length bytes) bytes (omega arith)) (has_more bytes f next at) at in
       let no_base : is_base f.content ≡ false = rw none refl in
-      sym (ap page_state read.read ∙ none_read (f ∷ []) (read_frames s is_at_tail (length bytes - length (f ∷ [])) (following size bytes)) (λ gs. none-page f.content (said gs) no_base))
+      sym (ap page_state read.read ∙ none_read (f ∷ []) (read_frames s is_at_tail (length bytes - length (f ∷ [])) next) (λ gs. none-page f.content (said gs) no_base))
 
 -- as code asks it
 pub tail_by : (rest : Bytes) (b : Bool) → (length rest == 0) ≡ b → is_at_tail rest ≡ b

@@ -1,5 +1,6 @@
 //! A page that is being built of its frames.
 ghost use Rattle.std.specs.Prelude.{◌≡◌, None, Some, IfOk, MatchOption};
+ghost use Rattle.std.specs.Bool.{MatchBool};
 ghost use Rattle.frame_codec.specs.Frame.Content.{DeltaLeaf, DeltaIndex};
 ghost use Rattle.recovery.specs.PageByLog.{base_in};
 ghost use Rattle.recovery.specs.Rebuild.{content_of, page_of_parts, IsPushed};
@@ -28,54 +29,50 @@ impl PageParts {
         match frame {
             Frame::FullLeaf { low, base, .. } => Some(PageParts::Leaf(low, Chain::of_base(base))),
             Frame::FullIndex { low, base, .. } => Some(PageParts::Index(low, Chain::of_base(base))),
-            Frame::DeltaLeaf { .. } => None,
-            Frame::DeltaIndex { .. } => None,
-            Frame::Free { .. } => None,
+            _ => None,
         }
     }
 
-    // The page with one more run, where it is a leaf.
-    fn with_leaf_run(self, run: Run<Value<Global>, Global>) -> Result<Option<Self>, AllocError>
-        ensures { IfOk result (IsPushed (page_of_parts self) (DeltaLeaf run)) }
-    {
-        match self {
-            PageParts::Leaf(low, chain) => {
-                let mut chain = chain;
-                match chain.prepend(run) {
-                    Ok(()) => Ok(Some(PageParts::Leaf(low, chain))),
-                    Err(_refused) => Err(AllocError),
-                }
-            }
-            PageParts::Index(_low, _chain) => Ok(None),
-        }
-    }
-
-    // The page with one more run, where it is an index page.
-    fn with_index_run(self, run: Run<Pid, Global>) -> Result<Option<Self>, AllocError>
-        ensures { IfOk result (IsPushed (page_of_parts self) (DeltaIndex run)) }
-    {
-        match self {
-            PageParts::Leaf(_low, _chain) => Ok(None),
-            PageParts::Index(low, chain) => {
-                let mut chain = chain;
-                match chain.prepend(run) {
-                    Ok(()) => Ok(Some(PageParts::Index(low, chain))),
-                    Err(_refused) => Err(AllocError),
-                }
-            }
-        }
-    }
-
-    /// The page with the frame's run as its newest; nothing where the frame is no run of such a page.
-    pub(crate) fn with_run(self, frame: Frame) -> Result<Option<Self>, AllocError>
-        ensures { IfOk result (IsPushed (page_of_parts self) (content_of frame)) }
+    /// Puts the frame's run on the page as its newest, and returns whether it did: a frame that is no run of such a page is dropped.
+    pub(crate) fn push(&mut self, frame: Frame) -> Result<bool, AllocError>
+        ensures { let old = page_of_parts self.old in let content = content_of frame in IfOk result
+            (λ is_run. MatchBool is_run (IsPushed old content (Some self.new))
+            (IsPushed old content None)) }
     {
         match frame {
-            Frame::DeltaLeaf { run, .. } => self.with_leaf_run(run),
-            Frame::DeltaIndex { run, .. } => self.with_index_run(run),
-            Frame::FullLeaf { .. } => Ok(None),
-            Frame::FullIndex { .. } => Ok(None),
-            Frame::Free { .. } => Ok(None),
+            Frame::DeltaLeaf { run, .. } => self.push_leaf_run(run),
+            Frame::DeltaIndex { run, .. } => self.push_index_run(run),
+            _ => Ok(false),
+        }
+    }
+
+    // Puts the run on the page as its newest, where that is a leaf, and returns whether it is one.
+    fn push_leaf_run(&mut self, run: Run<Value<Global>, Global>) -> Result<bool, AllocError>
+        ensures { let old = page_of_parts self.old in IfOk result
+            (λ is_run. MatchBool is_run (IsPushed old (DeltaLeaf run) (Some self.new))
+            (IsPushed old (DeltaLeaf run) None)) }
+    {
+        match self {
+            PageParts::Leaf(_low, chain) => match chain.prepend(run) {
+                Ok(()) => Ok(true),
+                Err(_refused) => Err(AllocError),
+            },
+            PageParts::Index(_low, _chain) => Ok(false),
+        }
+    }
+
+    // Puts the run on the page as its newest, where that is an index page, and returns whether it is one.
+    fn push_index_run(&mut self, run: Run<Pid, Global>) -> Result<bool, AllocError>
+        ensures { let old = page_of_parts self.old in IfOk result
+            (λ is_run. MatchBool is_run (IsPushed old (DeltaIndex run) (Some self.new))
+            (IsPushed old (DeltaIndex run) None)) }
+    {
+        match self {
+            PageParts::Leaf(_low, _chain) => Ok(false),
+            PageParts::Index(_low, chain) => match chain.prepend(run) {
+                Ok(()) => Ok(true),
+                Err(_refused) => Err(AllocError),
+            },
         }
     }
 

@@ -1,7 +1,11 @@
 //! Builds a page again from its frames, as they stand in the log.
-ghost use Rattle.std.specs.Prelude.{◌≡◌, IfOk};
-ghost use Rattle.recovery.specs.PageByLog.{page_in};
-ghost use Rattle.recovery.specs.Rebuild.{page_of_frames};
+ghost use Rattle.std.specs.Prelude.{◌≡◌, ◌⊎◌, ◌<◌, length, None, Some, IfOk, MatchOption};
+ghost use Rattle.keys.specs.Bytes.{Bytes};
+ghost use Rattle.frame_codec.specs.Frame.{Frame};
+ghost use Rattle.frame_codec.specs.Reading.{read_frame};
+ghost use Rattle.recovery.specs.PageByLog.{page_in, continued};
+ghost use Rattle.recovery.specs.PageByLog.InLog.{Present, Broken};
+ghost use Rattle.recovery.specs.Rebuild.{page_of_frames, page_of_parts};
 
 use crate::page_parts::PageParts;
 use crew::{Turn, Work};
@@ -46,16 +50,40 @@ pub fn rebuild(
     let mut page = begun;
     let mut rest = &frames[size..];
     while !rest.is_empty() {
-        let Some((run, size)) = read_frame(alloc, rest, format)? else {
+        let Some(following) = push_next(alloc, format, &mut page, rest)? else {
             return Ok(None);
         };
-        let Some(newer) = page.with_run(run)? else {
-            return Ok(None);
-        };
-        page = newer;
-        rest = &rest[size..];
+        rest = following;
     }
     Ok(Some(page.into_page(alloc)?))
+}
+
+// Puts the run of the frame at the front on the page, and returns the bytes after the frame; nothing where there is no frame, or one
+// that is no run of such a page.
+fn push_next<'a>(
+    alloc: Global,
+    format: &Format,
+    page: &mut PageParts,
+    bytes: &'a [u8],
+) -> Result<Option<&'a [u8]>, AllocError>
+    ensures { let read = read_frame format.now bytes.now in
+        let then =
+        λ (f : Frame). continued (Present (page_of_parts page.old)) f.content in
+        IfOk result (λ found. MatchOption found
+        ((read ≡ None) ⊎ ((f : Frame) × (rest : Bytes) × (read ≡ Some (f, rest))
+        × (length rest < length bytes.now) × (then f ≡ Broken)))
+        (λ rest. (f : Frame) × (read ≡ Some (f, rest.now))
+        × (length rest.now < length bytes.now)
+        × (then f ≡ Present (page_of_parts page.new)))) }
+{
+    let Some((frame, size)) = read_frame(alloc, bytes, format)? else {
+        return Ok(None);
+    };
+    let is_run = page.push(frame)?;
+    if !is_run {
+        return Ok(None);
+    }
+    Ok(Some(&bytes[size..]))
 }
 
 /// The work of building pages again: the frames of a page go in, and the page comes out.

@@ -1,11 +1,13 @@
 -- How a walk goes on from a level, and what it comes to.
-use Rattle.std.specs.Prelude.{◌≡◌, ℕ, zero, suc, pred, ◌+◌, ◌-◌, ◌<◌, List, [], ◌∷◌, ◌++◌, map, flat_map, length, Option, Some, None}
-use Rattle.std.proofs.Common.{refl, sym, ap, ◌∙◌, arith, subst}
+use Rattle.std.specs.Prelude.{◌≡◌, Result, Ok, Err, IsErr, IfOk, ℕ, zero, suc, pred, ◌+◌, ◌-◌, ◌<◌, List, [], ◌∷◌, ◌++◌, map, flat_map, length, Option, Some, None}
+use Rattle.std.proofs.Common.{inl, refl, sym, ap, ◌∙◌, arith, subst}
 use Rattle.std.specs.Map.{values_of}
+use Rattle.std.proofs.lemmas.Bool.{false≢true}
 use Rattle.std.proofs.lemmas.List.{length-append, map-append}
 use Rattle.keys.specs.Finding.{Finding}
 use Rattle.keys.specs.declared.settings.Settings.{Settings}
 use Rattle.keys.specs.declared.fault.Fault.{Fault}
+use Rattle.keys.specs.declared.fault.Fault.TheVariants.{NoMemory}
 use Rattle.index_page.specs.Page.{PageOfKind}
 use Rattle.index_page.specs.Page as page
 use Rattle.index_page.specs.Page.PageOfKind.{Leaf, Index}
@@ -99,3 +101,15 @@ module _ (s : Settings) (t : Tree) where
       let v = subst (λ (m : ℕ). HasComeTo s t m least met ats) e w in
       subst (λ (o : Option Finding). IsFaultOf o fault) v.found
       (fault_or_else (on_level (broken_at s (Above least) t.pages) met ats) (finding_below s t.pages n 1 (all_met met ats) (flat_map (children_at t.pages) ats)) fault f)
+
+-- ---- where a walk stops
+
+-- an Err owes nothing that an Ok promises
+pub owes_nothing : {T : Type 0} (r : Result T Fault) (P : T → Type 0) → IsErr r → IfOk r P
+owes_nothing (Ok x) P is = absurd (false≢true is)
+owes_nothing (Err f) P is = tt
+
+-- memory may be refused whatever is found
+pub fault_of_memory : (o : Option Finding) → IsFaultOf o NoMemory
+fault_of_memory None = refl
+fault_of_memory (Some f) = inl refl

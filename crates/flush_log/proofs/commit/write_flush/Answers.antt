@@ -1,13 +1,37 @@
 use Rattle.std.proofs.Common.{◌≡◌, false, IsTrue, OnOk, List, ℕ, sym, ap, subst, ◌∙◌}
 use Rattle.flush_log.specs.Overlay.{overlay}
-use Rattle.flush_log.specs.Disk.{LeavesOnly}
+use Rattle.flush_log.specs.Disk.{LeavesOnly, CountsFailure}
 use Rattle.flush_log.specs.Layout.{spans, with_spans}
 use Rattle.flush_log.specs.Slot.{Slot, slot_place, slot_bytes, is_open}
 use Rattle.flush_log.specs.Commit.{seen_after, close_gate, IsUncommitted}
+use Rattle.flush_log.proofs.ViewLemmas.{counts_failed, owes_nothing}
 use Rattle.flush_log.proofs.OutcomeLemmas.{within_more}
 use Rattle.flush_log.proofs.SlotRuns.{slots_within, has_slots, all_within}
 use Rattle.flush_log.proofs.CommitRuns.{slot_committed, mid_closed, unfinished, commit_leaves}
 use Rattle.flush_log.proofs.commit.write_flush.Goals as goal
+
+pub returns-in_err-write_hidden-clause-kept : goal.returns-in_err-write_hidden-clause-kept
+returns-in_err-write_hidden-clause-kept g c = c.write_hidden.ensures.kept
+
+pub returns-in_err-write_hidden-clause-failed : goal.returns-in_err-write_hidden-clause-failed
+returns-in_err-write_hidden-clause-failed g c =
+    counts_failed c.from_residual.result (g.D.Disk.failed c.args.disk.now) (g.D.Disk.failed c.write_hidden.new.disk) c.from_residual.ensures.0
+    c.in_err-write_hidden.ensures.failed
+
+pub returns-in_err-write_hidden-clause-written : goal.returns-in_err-write_hidden-clause-written
+returns-in_err-write_hidden-clause-written g c text of some inside honest = owes_nothing c.from_residual.result _ c.from_residual.ensures.0
+
+pub returns-in_err-write_hidden-clause-settled : goal.returns-in_err-write_hidden-clause-settled
+returns-in_err-write_hidden-clause-settled g c honest = owes_nothing c.from_residual.result _ c.from_residual.ensures.0
+
+pub returns-clause-kept : goal.returns-clause-kept
+returns-clause-kept g c = record { honest = c.write_slot.ensures.kept.honest ∙ c.write_hidden.ensures.kept.honest; size = c.write_slot.ensures.kept.size ∙ c.write_hidden.ensures.kept.size }
+
+pub returns-clause-failed : goal.returns-clause-failed
+returns-clause-failed g c = subst (λ (n : ℕ). CountsFailure c.write_slot.result n (g.D.Disk.failed c.write_slot.new.disk)) c.in_ok-write_hidden.ensures.failed c.write_slot.ensures.failed
+
+pub returns-clause-settled : goal.returns-clause-settled
+returns-clause-settled g c honest = c.write_slot.ensures.settled (subst IsTrue (sym c.write_hidden.ensures.kept.honest) honest)
 
 pub returns-in_err-write_hidden-clause-crash : goal.returns-in_err-write_hidden-clause-crash
 returns-in_err-write_hidden-clause-crash g c text of some inside settled was =

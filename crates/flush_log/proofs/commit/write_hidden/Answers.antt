@@ -1,9 +1,57 @@
-use Rattle.std.proofs.Common.{IsTrue, sym, subst}
-use Rattle.flush_log.specs.Layout.{spans}
+use Rattle.std.proofs.Common.{IsTrue, sym, subst, ◌≡◌, ℕ, ◌+◌, ◌-◌, ◌^◌, min, List, ap, ◌∙◌}
+use Rattle.flush_log.specs.Layout.{spans, with_spans}
+use Rattle.flush_log.specs.Disk.{CountsFailure}
+use Rattle.flush_log.proofs.ViewLemmas.{counts_failed, owes_nothing, always}
 use Rattle.flush_log.proofs.OutcomeLemmas.{within_more}
 use Rattle.flush_log.proofs.SlotRuns.{slots_within, has_slots, all_within}
 use Rattle.flush_log.proofs.CommitRuns.{closing_leaves, spans_leave, prepare_leaves}
 use Rattle.flush_log.proofs.commit.write_hidden.Goals as goal
+
+pub returns-in_err-close_gate-clause-kept : goal.returns-in_err-close_gate-clause-kept
+returns-in_err-close_gate-clause-kept g c = c.close_gate.ensures.kept
+
+pub returns-in_err-close_gate-clause-failed : goal.returns-in_err-close_gate-clause-failed
+returns-in_err-close_gate-clause-failed g c =
+    counts_failed c.from_residual.result (g.D.Disk.failed c.args.disk.now) (g.D.Disk.failed c.close_gate.new.disk) c.from_residual.ensures.0
+    c.in_err-close_gate.ensures.failed
+
+pub returns-in_err-close_gate-clause-written : goal.returns-in_err-close_gate-clause-written
+returns-in_err-close_gate-clause-written g c text of some honest = owes_nothing c.from_residual.result _ c.from_residual.ensures.0
+
+pub returns-in_err-close_gate-clause-settled : goal.returns-in_err-close_gate-clause-settled
+returns-in_err-close_gate-clause-settled g c honest = owes_nothing c.from_residual.result _ c.from_residual.ensures.0
+
+pub returns-in_err-write_images-clause-kept : goal.returns-in_err-write_images-clause-kept
+returns-in_err-write_images-clause-kept g c = record { honest = c.write_images.ensures.kept.honest ∙ c.close_gate.ensures.kept.honest; size = c.write_images.ensures.kept.size ∙ c.close_gate.ensures.kept.size }
+
+pub returns-in_err-write_images-clause-failed : goal.returns-in_err-write_images-clause-failed
+returns-in_err-write_images-clause-failed g c =
+    counts_failed c.from_residual-in_err-write_images.result (g.D.Disk.failed c.args.disk.now) (g.D.Disk.failed c.write_images.new.disk) c.from_residual-in_err-write_images.ensures.0
+    (subst (λ (n : ℕ). g.D.Disk.failed c.write_images.new.disk ≡ min (n + 1) (2 ^ 64 - 1)) c.in_ok-close_gate.ensures.failed c.in_err-write_images.ensures.failed)
+
+pub returns-in_err-write_images-clause-written : goal.returns-in_err-write_images-clause-written
+returns-in_err-write_images-clause-written g c text of some honest = owes_nothing c.from_residual-in_err-write_images.result _ c.from_residual-in_err-write_images.ensures.0
+
+pub returns-in_err-write_images-clause-settled : goal.returns-in_err-write_images-clause-settled
+returns-in_err-write_images-clause-settled g c honest = owes_nothing c.from_residual-in_err-write_images.result _ c.from_residual-in_err-write_images.ensures.0
+
+pub returns-clause-kept : goal.returns-clause-kept
+returns-clause-kept g c = record { honest = c.sync.ensures.kept.honest ∙ c.write_images.ensures.kept.honest ∙ c.close_gate.ensures.kept.honest; size = c.sync.ensures.kept.size ∙ c.write_images.ensures.kept.size ∙ c.close_gate.ensures.kept.size }
+
+pub returns-clause-failed : goal.returns-clause-failed
+returns-clause-failed g c = subst (λ (n : ℕ). CountsFailure c.sync.result n (g.D.Disk.failed c.sync.new.self)) (c.in_ok-write_images.ensures.failed ∙ c.in_ok-close_gate.ensures.failed) c.sync.ensures.failed
+
+pub returns-clause-written : goal.returns-clause-written
+returns-clause-written g c text of some honest =
+    let s = c.args.settings.now in
+    let honest1 = subst IsTrue (sym c.close_gate.ensures.kept.honest) honest in
+    let honest2 = subst IsTrue (sym c.write_images.ensures.kept.honest) honest1 in
+    always c.sync.result
+    (c.sync.ensures.seen honest2 ∙ c.in_ok-write_images.ensures.written text of some honest1 ∙ ap (λ (f : List ℕ). with_spans s f (spans s c.args.tail text)) (c.in_ok-close_gate.ensures.written honest))
+
+pub returns-clause-settled : goal.returns-clause-settled
+returns-clause-settled g c honest =
+    c.sync.ensures.settled (subst IsTrue (sym c.write_images.ensures.kept.honest) (subst IsTrue (sym c.close_gate.ensures.kept.honest) honest))
 
 pub returns-in_err-close_gate-clause-crash : goal.returns-in_err-close_gate-clause-crash
 returns-in_err-close_gate-clause-crash g c text of some fit settled was =

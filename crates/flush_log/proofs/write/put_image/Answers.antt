@@ -1,11 +1,44 @@
-use Rattle.std.proofs.Common.{◌≡◌, List, ◌∷◌, [], ◌+◌, drop, refl, subst, ◌∙◌, arith}
+use Rattle.std.proofs.Common.{◌≡◌, List, ◌∷◌, [], ◌+◌, drop, refl, subst, ◌∙◌, arith, ℕ, ◌-◌, ◌^◌, ◌≤◌, min, sym}
 use Rattle.std.proofs.lemmas.List.{drop_all}
 use Rattle.keys.specs.Bytes.{Bytes}
 use Rattle.flush_log.specs.Gathering.{span_of, left_by, open_after}
 use Rattle.flush_log.specs.Layout.{with_spans}
+use Rattle.flush_log.specs.Segments.{disk_size}
+use Rattle.flush_log.proofs.ViewLemmas.{counts_failed, owes_nothing}
 use Rattle.flush_log.proofs.ReachLemmas.{front}
 use Rattle.flush_log.proofs.GatherRuns.{Going, going-starts, going-room, going-leaves, going-on}
 use Rattle.flush_log.proofs.write.put_image.Goals as goal
+
+pub put_frame-requires-clause-checked : goal.put_frame-requires-clause-checked
+put_frame-requires-clause-checked g c = c.requires.checked
+
+pub put_frame-requires-clause-inside : goal.put_frame-requires-clause-inside
+put_frame-requires-clause-inside g c = c.loop-at.invariant.inside
+
+pub put_frame-requires-clause-buffer : goal.put_frame-requires-clause-buffer
+put_frame-requires-clause-buffer g c = c.loop-at.invariant.buffer
+
+pub put_frame-requires-clause-within : goal.put_frame-requires-clause-within
+put_frame-requires-clause-within g c = subst (λ (n : ℕ). disk_size c.args.settings.now ≤ n) (sym c.loop-at.invariant.going.kept.size) c.requires.within
+
+pub returns-in_err-gathered-clause-inside : goal.returns-in_err-gathered-clause-inside
+returns-in_err-gathered-clause-inside g c = owes_nothing c.from_residual.result _ c.from_residual.ensures.0
+
+pub returns-in_err-gathered-clause-same : goal.returns-in_err-gathered-clause-same
+returns-in_err-gathered-clause-same g c = owes_nothing c.from_residual.result _ c.from_residual.ensures.0
+
+pub returns-in_err-gathered-clause-kept : goal.returns-in_err-gathered-clause-kept
+returns-in_err-gathered-clause-kept g c =
+    let so_far = c.loop-at.invariant.going.kept in
+    record { honest = c.put_frame.ensures.kept.honest ∙ so_far.honest; size = c.put_frame.ensures.kept.size ∙ so_far.size }
+
+pub returns-in_err-gathered-clause-failed : goal.returns-in_err-gathered-clause-failed
+returns-in_err-gathered-clause-failed g c =
+    counts_failed c.from_residual.result (g.D.Disk.failed c.args.disk.now) (g.D.Disk.failed c.put_frame.new.disk) c.from_residual.ensures.0
+    (subst (λ (n : ℕ). g.D.Disk.failed c.put_frame.new.disk ≡ min (n + 1) (2 ^ 64 - 1)) c.loop-at.invariant.failed c.in_err-gathered.ensures.failed)
+
+pub returns-in_err-gathered-clause-written : goal.returns-in_err-gathered-clause-written
+returns-in_err-gathered-clause-written g c honest = owes_nothing c.from_residual.result _ c.from_residual.ensures.0
 
 pub loop-at-init : goal.loop-at-init
 loop-at-init g c =

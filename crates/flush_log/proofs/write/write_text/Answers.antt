@@ -1,17 +1,52 @@
-use Rattle.std.proofs.Common.{refl, ◌+◌, ◌/◌, ◌%◌, drop, List, sym, ap, subst, ◌∙◌, arith}
+use Rattle.std.proofs.Common.{refl, ◌+◌, ◌/◌, ◌%◌, drop, List, sym, ap, subst, ◌∙◌, arith, ◌≡◌, ℕ, ◌-◌, ◌^◌, ◌≤◌, min}
 use Rattle.std.proofs.lemmas.List.{at_drop_all}
 use Rattle.keys.specs.Bytes.{Bytes}
 use Rattle.flush_log.specs.Commit.{IsBesideSpans}
-use Rattle.flush_log.specs.Disk.{Leaves}
+use Rattle.flush_log.specs.Disk.{Leaves, CountsFailure}
 use Rattle.flush_log.specs.Gathering.{span_of}
 use Rattle.flush_log.specs.Images.{frames_in, FitSegments}
 use Rattle.flush_log.specs.Layout.{Span, opened, with_spans}
 use Rattle.flush_log.specs.Overlay.{AgreeAt}
+use Rattle.flush_log.specs.Segments.{disk_size}
+use Rattle.flush_log.proofs.ViewLemmas.{counts_failed, owes_nothing}
 use Rattle.flush_log.proofs.FitLemmas.{are_sized}
 use Rattle.flush_log.proofs.GatherLemmas.{text-spans, open-upto}
 use Rattle.flush_log.proofs.GatherRuns.{Going, going-starts, going-room, going-leaves, going-on, leaves-all, on_ok, alive, ends-written, ends-leaves}
 use Rattle.flush_log.proofs.ReachLemmas.{front_item, fits-before}
 use Rattle.flush_log.proofs.write.write_text.Goals as goal
+
+pub put_image-requires-clause-checked : goal.put_image-requires-clause-checked
+put_image-requires-clause-checked g c = c.requires.checked
+
+pub put_image-requires-clause-inside : goal.put_image-requires-clause-inside
+put_image-requires-clause-inside g c = c.loop-image.invariant.inside
+
+pub put_image-requires-clause-buffer : goal.put_image-requires-clause-buffer
+put_image-requires-clause-buffer g c = c.loop-image.invariant.buffer
+
+pub put_image-requires-clause-within : goal.put_image-requires-clause-within
+put_image-requires-clause-within g c = subst (λ (n : ℕ). disk_size c.args.settings.now ≤ n) (sym c.loop-image.invariant.going.kept.size) c.requires.within
+
+pub returns-in_err-part-clause-kept : goal.returns-in_err-part-clause-kept
+returns-in_err-part-clause-kept g c =
+    let so_far = c.loop-image.invariant.going.kept in
+    record { honest = c.put_image.ensures.kept.honest ∙ so_far.honest; size = c.put_image.ensures.kept.size ∙ so_far.size }
+
+pub returns-in_err-part-clause-failed : goal.returns-in_err-part-clause-failed
+returns-in_err-part-clause-failed g c =
+    counts_failed c.from_residual.result (g.D.Disk.failed c.args.disk.now) (g.D.Disk.failed c.put_image.new.disk) c.from_residual.ensures.0
+    (subst (λ (n : ℕ). g.D.Disk.failed c.put_image.new.disk ≡ min (n + 1) (2 ^ 64 - 1)) c.loop-image.invariant.failed c.in_err-part.ensures.failed)
+
+pub returns-in_err-part-clause-written : goal.returns-in_err-part-clause-written
+returns-in_err-part-clause-written g c text of some honest = owes_nothing c.from_residual.result _ c.from_residual.ensures.0
+
+pub returns-clause-kept : goal.returns-clause-kept
+returns-clause-kept g c =
+    let so_far = c.loop-image.invariant.going.kept in
+    record { honest = c.write_part.ensures.kept.honest ∙ so_far.honest; size = c.write_part.ensures.kept.size ∙ so_far.size }
+
+pub returns-clause-failed : goal.returns-clause-failed
+returns-clause-failed g c = subst (λ (n : ℕ). CountsFailure c.write_part.result n (g.D.Disk.failed c.write_part.new.disk)) c.loop-image.invariant.failed c.write_part.ensures.failed
 
 pub loop-image-init : goal.loop-image-init
 loop-image-init g c =

@@ -1,10 +1,12 @@
-use Rattle.std.proofs.Common.{◌++◌, List, Vec, map, refl, sym, ap, subst, ◌∙◌}
+use Rattle.std.proofs.Common.{◌≡◌, ◌++◌, List, Vec, map, refl, sym, ap, subst, ◌∙◌}
 use Rattle.std.specs.Map.{keys_of}
+use Rattle.keys.specs.declared.fault.Fault.TheVariants.{NoMemory}
 use Rattle.mapping.specs.Proper.{AreRisingPids}
 use Rattle.recovery.specs.BuiltTree.{log_pids, pages_of_logs, filled}
 use Rattle.recovery.specs.Rebuild.{HeldLog, held_log}
 use Rattle.recovery.specs.declared.rebuild.PageLog.{PageLog}
 use Rattle.recovery.proofs.BuildLemmas.{AreAside, aside-none, aside-more, aside-passed, aside-rise, aside-built, put-aside, empty_by}
+use Rattle.recovery.proofs.ReadBytes.{err_on, nothing_of}
 use Rattle.recovery.proofs.build_tree.table_of.Goals as goal
 
 pub loop-entry-init : goal.loop-entry-init
@@ -43,3 +45,36 @@ loop-entry-preserved-in-Continue-branch-2 g c =
     aside-built s t now c.next.new.self c.args.by_pid.entries more c.build_pages.new.table (map held_log c.replace-full.new.dest.items)
     (c.in_ok-build_pages.ensures.ok ∙ ap (λ (v : Vec PageLog _). filled t (pages_of_logs s (map held_log v.items))) c.replace-full.ensures.value)
     (ap (λ (v : Vec PageLog _). map held_log v.items) c.replace-full.ensures.after ∙ ap (λ (ls : List PageLog). map held_log ls) c.new.ensures.items)
+
+pub returns-in_err-push-clause-ok : goal.returns-in_err-push-clause-ok
+returns-in_err-push-clause-ok g c = nothing_of c.from_residual.result _ c.from_residual.ensures.0
+
+pub returns-in_err-push-clause-err : goal.returns-in_err-push-clause-err
+returns-in_err-push-clause-err g c = err_on c.from_residual.result (λ fault. fault ≡ NoMemory) NoMemory c.from_residual.ensures.1 refl
+
+pub returns-in_err-push-clause-ordered : goal.returns-in_err-push-clause-ordered
+returns-in_err-push-clause-ordered g c = c.len-rising.ensures.ordered
+
+pub returns-in_err-build_pages-clause-ok : goal.returns-in_err-build_pages-clause-ok
+returns-in_err-build_pages-clause-ok g c = nothing_of c.from_residual-in_err-build_pages.result _ c.from_residual-in_err-build_pages.ensures.0
+
+pub returns-in_err-build_pages-clause-err : goal.returns-in_err-build_pages-clause-err
+returns-in_err-build_pages-clause-err g c = err_on c.from_residual-in_err-build_pages.result (λ fault. fault ≡ NoMemory) c.in_err-build_pages.field-0.0 c.from_residual-in_err-build_pages.ensures.1 c.in_err-build_pages.ensures.err
+
+pub returns-in_err-build_pages-clause-ordered : goal.returns-in_err-build_pages-clause-ordered
+returns-in_err-build_pages-clause-ordered g c = c.len-rising.ensures.ordered
+
+pub returns-in_err-build_pages-2-clause-ok : goal.returns-in_err-build_pages-2-clause-ok
+returns-in_err-build_pages-2-clause-ok g c = nothing_of c.from_residual-in_err-build_pages-2.result _ c.from_residual-in_err-build_pages-2.ensures.0
+
+pub returns-in_err-build_pages-2-clause-err : goal.returns-in_err-build_pages-2-clause-err
+returns-in_err-build_pages-2-clause-err g c = err_on c.from_residual-in_err-build_pages-2.result (λ fault. fault ≡ NoMemory) c.in_err-build_pages-2.field-0.0 c.from_residual-in_err-build_pages-2.ensures.1 c.in_err-build_pages-2.ensures.err
+
+pub returns-in_err-build_pages-2-clause-ordered : goal.returns-in_err-build_pages-2-clause-ordered
+returns-in_err-build_pages-2-clause-ordered g c = c.len-rising.ensures.ordered
+
+pub returns-clause-err : goal.returns-clause-err
+returns-clause-err g c = tt
+
+pub returns-clause-ordered : goal.returns-clause-ordered
+returns-clause-ordered g c = c.len-rising.ensures.ordered

@@ -1,6 +1,7 @@
-use Rattle.std.proofs.Common.{◌≡◌, ℕ, ◌+◌, ◌-◌, ◌*◌, ◌^◌, ◌≤◌, ◌<◌, length, arith, rules, sym, subst, ◌∙◌, refl}
+use Rattle.std.proofs.Common.{inl, ◌≡◌, ℕ, ◌+◌, ◌-◌, ◌*◌, ◌^◌, ◌≤◌, ◌<◌, length, arith, rules, sym, subst, ◌∙◌, refl}
 use Rattle.std.specs.List.{All}
 use Rattle.std.proofs.lemmas.List.Elements.{All-push}
+use Rattle.keys.specs.declared.fault.Fault.TheVariants.{NoMemory}
 use Rattle.flush_log.specs.Overlay.{overlay}
 use Rattle.flush_log.specs.Segments.{disk_size, place_of_segment}
 use Rattle.flush_log.proofs.FitLemmas.{are_sized}
@@ -40,6 +41,11 @@ returns-in_err-segments-clause-counted g c = counted_by c.from_residual.result (
 
 pub returns-in_err-segments-clause-uncounted : goal.returns-in_err-segments-clause-uncounted
 returns-in_err-segments-clause-uncounted g c = uncounted_by c.from_residual.result (g.D.Disk.failed c.args.disk.now) (g.D.Disk.failed c.args.disk.now) refl
+
+pub returns-in_err-segments-clause-err : goal.returns-in_err-segments-clause-err
+returns-in_err-segments-clause-err g c =
+    let failed = g.D.Disk.failed c.args.disk.now in
+    err_on c.from_residual.result (IsLate failed failed) NoMemory c.from_residual.ensures.1 (inl refl)
 
 -- a segment was not read
 pub returns-in_err-read-clause-read : goal.returns-in_err-read-clause-read
@@ -141,3 +147,9 @@ returns-clause-same g c honest = c.loop-number.invariant.same honest
 
 pub returns-clause-counted : goal.returns-clause-counted
 returns-clause-counted g c = c.loop-number.invariant.counted
+
+pub returns-clause-err : goal.returns-clause-err
+returns-clause-err g c = tt
+
+pub returns-clause-uncounted : goal.returns-clause-uncounted
+returns-clause-uncounted g c = tt

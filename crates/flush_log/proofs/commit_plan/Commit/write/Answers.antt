@@ -1,13 +1,45 @@
-use Rattle.std.proofs.Common.{◌≡◌, ◌⊎◌, ◌≤◌, IsTrue, List, ℕ, [], length, sym, ap, subst, ◌∙◌}
-use Rattle.flush_log.specs.Commit.{AreWithin}
-use Rattle.flush_log.specs.CommitPlan.{CommitPlan}
+use Rattle.std.proofs.Common.{◌≡◌, ◌⊎◌, ◌≤◌, IsTrue, List, ℕ, [], length, sym, ap, subst, ◌∙◌, inl}
+use Rattle.flush_log.specs.Commit.{AreWithin, IsBesideSpans}
+use Rattle.flush_log.specs.CommitPlan.{CommitPlan, LeftOf}
 use Rattle.flush_log.specs.Images.{AreOfText, FitSegments, frames_in}
 use Rattle.flush_log.specs.Layout.{spans}
 use Rattle.flush_log.specs.Segments.{disk_size}
 use Rattle.flush_log.specs.Slot.{Slot, is_open}
+use Rattle.flush_log.specs.Disk.{CountsFailure}
+use Rattle.flush_log.proofs.ViewLemmas.{counts_failed, owes_nothing}
+use Rattle.flush_log.proofs.OverlayLemmas.{agree_same}
 use Rattle.flush_log.proofs.PlannedLemmas.{planned-fits, gate-still, planned-left, planned-written}
-use Rattle.flush_log.proofs.SameLemmas.{settled_still}
+use Rattle.flush_log.proofs.SameLemmas.{settled_still, leaves_the_same}
 use Rattle.flush_log.proofs.commit_plan.Commit.write.Goals as goal
+
+pub returns-in_err-is_open-clause-kept : goal.returns-in_err-is_open-clause-kept
+returns-in_err-is_open-clause-kept g c = c.is_gate_open.ensures.kept
+
+pub returns-in_err-is_open-clause-failed : goal.returns-in_err-is_open-clause-failed
+returns-in_err-is_open-clause-failed g c = counts_failed c.from_residual.result (g.D.Disk.failed c.args.disk.now) (g.D.Disk.failed c.is_gate_open.new.disk) c.from_residual.ensures.0 c.in_err-is_open.ensures.failed
+
+pub returns-in_err-is_open-clause-written : goal.returns-in_err-is_open-clause-written
+returns-in_err-is_open-clause-written g c t text is honest = owes_nothing c.from_residual.result _ c.from_residual.ensures.0
+
+pub returns-in_err-is_open-clause-settled : goal.returns-in_err-is_open-clause-settled
+returns-in_err-is_open-clause-settled g c honest = owes_nothing c.from_residual.result _ c.from_residual.ensures.0
+
+pub returns-in_err-is_open-clause-crash : goal.returns-in_err-is_open-clause-crash
+returns-in_err-is_open-clause-crash g c t text is settled =
+    let view = g.D.Disk.view in
+    let s = c.args.settings.now in
+    let old = view c.args.disk.now in
+    leaves_the_same old (view c.is_gate_open.new.disk) (LeftOf s t text old.seen) (g.met.D.Disk.lawful c.args.disk.now settled.honest) (c.is_gate_open.ensures.same settled.honest) settled
+    (inl (inl (agree_same (IsBesideSpans s (spans s t.tail text)) old.seen)))
+
+pub returns-clause-kept : goal.returns-clause-kept
+returns-clause-kept g c = record { honest = c.write_flush.ensures.kept.honest ∙ c.is_gate_open.ensures.kept.honest; size = c.write_flush.ensures.kept.size ∙ c.is_gate_open.ensures.kept.size }
+
+pub returns-clause-failed : goal.returns-clause-failed
+returns-clause-failed g c = subst (λ (n : ℕ). CountsFailure c.write_flush.result n (g.D.Disk.failed c.write_flush.new.disk)) c.in_ok-is_open.ensures.failed c.write_flush.ensures.failed
+
+pub returns-clause-settled : goal.returns-clause-settled
+returns-clause-settled g c honest = c.write_flush.ensures.settled (subst IsTrue (sym c.is_gate_open.ensures.kept.honest) honest)
 
 pub write_flush-requires-clause-fits : goal.write_flush-requires-clause-fits
 write_flush-requires-clause-fits g c =

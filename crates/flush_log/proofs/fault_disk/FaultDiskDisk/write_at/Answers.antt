@@ -1,4 +1,4 @@
-use Rattle.std.proofs.Common.{◌≡◌, true, take, replicate, sym, ◌∙◌}
+use Rattle.std.proofs.Common.{◌≡◌, true, take, replicate, sym, ◌∙◌, refl}
 use Rattle.flush_log.specs.Overlay.{overlay}
 use Rattle.flush_log.specs.Disk.{HasFailed}
 use Rattle.flush_log.specs.Commit.{seen_after}
@@ -7,6 +7,42 @@ use Rattle.flush_log.specs.Faults.{is_wanted}
 use Rattle.flush_log.proofs.ViewLemmas.{leaves_part}
 use Rattle.flush_log.proofs.FaultLemmas.{cut_short, not_cut, part_written}
 use Rattle.flush_log.proofs.fault_disk.FaultDiskDisk.write_at.Goals as goal
+
+pub returns-then-is_to_fail-clause-kept : goal.returns-then-is_to_fail-clause-kept
+returns-then-is_to_fail-clause-kept g c = c.write_recorded.ensures.kept
+
+pub returns-then-is_to_fail-clause-failed : goal.returns-then-is_to_fail-clause-failed
+returns-then-is_to_fail-clause-failed g c = c.count_failure.ensures
+
+pub returns-then-is_to_fail-clause-written : goal.returns-then-is_to_fail-clause-written
+returns-then-is_to_fail-clause-written g c _ = tt
+
+pub returns-then-is_to_fail-clause-counted : goal.returns-then-is_to_fail-clause-counted
+returns-then-is_to_fail-clause-counted g c = c.is_to_fail.ensures.counted
+
+pub returns-then-is_to_fail-clause-same : goal.returns-then-is_to_fail-clause-same
+returns-then-is_to_fail-clause-same g c = (refl, refl)
+
+pub returns-then-is_to_fail-clause-wanted : goal.returns-then-is_to_fail-clause-wanted
+returns-then-is_to_fail-clause-wanted g c = tt
+
+pub returns-clause-kept : goal.returns-clause-kept
+returns-clause-kept g c = c.write_recorded-2.ensures.kept
+
+pub returns-clause-failed : goal.returns-clause-failed
+returns-clause-failed g c = c.counted.ensures.failed
+
+pub returns-clause-torn : goal.returns-clause-torn
+returns-clause-torn g c _ = c.write_recorded-2.ensures.torn
+
+pub returns-clause-crash : goal.returns-clause-crash
+returns-clause-crash g c _ = c.write_recorded-2.ensures.crash
+
+pub returns-clause-counted : goal.returns-clause-counted
+returns-clause-counted g c = c.is_to_fail.ensures.counted
+
+pub returns-clause-same : goal.returns-clause-same
+returns-clause-same g c = (refl, refl)
 
 pub returns-then-is_to_fail-clause-crash : goal.returns-then-is_to_fail-clause-crash
 returns-then-is_to_fail-clause-crash g c honest =

@@ -7,6 +7,9 @@ use Rattle.flush_log.proofs.OverlayLemmas.{agree_same}
 use Rattle.flush_log.proofs.RecordLemmas.{in_bytes, zeros-overlay, zeros-whole, if_grown, written_length, write_in_range, write_recorded, write_seen, write_torn, write_leaves, none_same, none_leaves}
 use Rattle.flush_log.proofs.mem_disk.MemDisk.write_recorded.Goals as goal
 
+pub overflow_add-end : goal.overflow_add-end
+overflow_add-end g c = let within = in_bytes c.args.self.now.len (c.args.at + length c.args.bytes.now) c.requires in omega (arith, within)
+
 pub lengthen-requires-clause-short : goal.lengthen-requires-clause-short
 lengthen-requires-clause-short g c = c.args.self.now.short
 

@@ -1,0 +1,32 @@
+use Rattle.flush_log.proofs.ViewLemmas.{owes_nothing}
+use Rattle.flush_log.proofs.crash_disk.CrashDisk.new.Goals as goal
+
+pub returns-in_err-resize-clause-size : goal.returns-in_err-resize-clause-size
+returns-in_err-resize-clause-size g c = owes_nothing c.from_residual.result _ c.from_residual.ensures.0
+
+pub returns-in_err-resize-clause-seen : goal.returns-in_err-resize-clause-seen
+returns-in_err-resize-clause-seen g c = owes_nothing c.from_residual.result _ c.from_residual.ensures.0
+
+pub returns-in_err-resize-clause-settled : goal.returns-in_err-resize-clause-settled
+returns-in_err-resize-clause-settled g c = owes_nothing c.from_residual.result _ c.from_residual.ensures.0
+
+pub returns-in_err-resize-clause-failures : goal.returns-in_err-resize-clause-failures
+returns-in_err-resize-clause-failures g c = owes_nothing c.from_residual.result _ c.from_residual.ensures.0
+
+pub returns-in_err-resize-clause-running : goal.returns-in_err-resize-clause-running
+returns-in_err-resize-clause-running g c = owes_nothing c.from_residual.result _ c.from_residual.ensures.0
+
+pub returns-in_err-resize-clause-calls : goal.returns-in_err-resize-clause-calls
+returns-in_err-resize-clause-calls g c = owes_nothing c.from_residual.result _ c.from_residual.ensures.0
+
+pub returns-clause-settled : goal.returns-clause-settled
+returns-clause-settled g c = c.holding.ensures.settled
+
+pub returns-clause-failures : goal.returns-clause-failures
+returns-clause-failures g c = c.holding.ensures.failures
+
+pub returns-clause-running : goal.returns-clause-running
+returns-clause-running g c = c.holding.ensures.running
+
+pub returns-clause-calls : goal.returns-clause-calls
+returns-clause-calls g c = c.holding.ensures.calls
