@@ -9,11 +9,17 @@ use Rattle.keys.specs.declared.command.Command.{Command}
 use Rattle.keys.specs.declared.fault.Fault.{Fault}
 use Rattle.climb_plan.specs.Limits.{IsShortPair, IsShortDeed, IsShortCommand, AreShort}
 use Rattle.engine.specs.Refusal.{key_fault, value_fault, bound_fault, deed_fault, fault_at, first_fault, refusal}
+use Rattle.engine.proofs.RefusedCalls.{refused_as, same_refusal}
 
 -- a batch that was let through isn't refused
 pub passed_by : {U : Type 0} (o : Option Fault) (r : Result U Fault) (u v : U) → MatchOption o (r ≡ Ok u) (λ fault. r ≡ Err fault) → r ≡ Ok v → o ≡ None
 passed_by None r u v h e = refl
 passed_by (Some fault) r u v h e = absurd (cc)
+
+-- one that wasn't is refused by its own fault
+pub refused_by_own : {U : Type 0} (Y : Type 0) (o : Option Fault) (r : Result U Fault) (u : U) (fault : Fault) (P : Type 0) → MatchOption o (r ≡ Ok u) (λ f. r ≡ Err f) → r ≡ Err fault → MatchOption o P (λ f. refused_as {Y = Y} fault ≡ Err f)
+refused_by_own Y None r u fault P own was = absurd (cc)
+refused_by_own Y (Some f) r u fault P own was = same_refusal r fault f was own
 
 pub neither : {X : Type 0} (o p : Option X) → option_or o p ≡ None → (o ≡ None) × (p ≡ None)
 neither None p e = (refl, e)

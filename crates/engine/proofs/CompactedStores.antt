@@ -6,6 +6,7 @@ use Rattle.keys.specs.Bytes.{Bytes, Pairs}
 use Rattle.keys.specs.Order.{IsRising}
 use Rattle.keys.specs.Step.{map_after_all}
 use Rattle.keys.specs.declared.command.Command.{Command}
+use Rattle.keys.specs.declared.fault.Fault.{Fault}
 use Rattle.keys.specs.declared.settings.Settings.{Settings}
 use Rattle.keys.specs.declared.version.Version.{Version}
 use Rattle.mapping.specs.Levels.{contents}
@@ -19,7 +20,8 @@ use Rattle.flush_log.specs.Disk.{View}
 use Rattle.flush_log.specs.declared.slot.LogEnds.{LogEnds}
 use Rattle.recovery.specs.InStep.{IsInStep, IsStore, IsStoreOf}
 use Rattle.recovery.proofs.KeptStore.{batch-in_step, batch-kept}
-use Rattle.engine.specs.Compacted.{IsCompacted, all_puts, compacted, outdated_tree}
+use Rattle.engine.specs.Batch.{IsLaterFault}
+use Rattle.engine.specs.Compacted.{IsCompactFault, IsCompacted, all_puts, compacted, outdated_tree}
 use Rattle.engine.specs.SoundTree.{IsSoundInMemory, IsSoundTree}
 use Rattle.engine.specs.State.{IsSoundStore, store_in}
 use Rattle.engine.proofs.BatchInStep.{KeepsPages, keeps_logged}
@@ -73,6 +75,16 @@ outdated_sound s t new is first h = record {
 
 pub short_as : (s : Settings) (t : Tree) (cs : List (Command Global)) → IsProper s t → cs ≡ all_puts t → AreShort s cs
 short_as s t cs p puts = subst (λ (x : List (Command Global)). AreShort s x) (sym puts) (puts_are_short s t p)
+
+-- puts of all pairs on the outdated tree
+module _ (s : Settings) (t old : Tree) (cs : List (Command Global)) where
+  pub fault_as : (fault : Fault) → old ≡ outdated_tree t → cs ≡ all_puts t → IsLaterFault s old cs fault → IsCompactFault s t fault
+  fault_as fault is puts late =
+      subst (λ (x : Tree). IsLaterFault s x (all_puts t) fault) is (subst (λ (xs : List (Command Global)). IsLaterFault s old xs fault) puts late)
+
+  pub planned_as : old ≡ outdated_tree t → cs ≡ all_puts t → planned_tree s old cs ≡ compacted s t
+  planned_as is puts =
+      ap (λ (x : Tree). planned_tree s x cs) is ∙ ap (λ (xs : List (Command Global)). planned_tree s (outdated_tree t) xs) puts
 
 pub store_compacted : (s : Settings) (t new : TreeInMemory) (log : LogEnds) (version : Version) → tree_of new ≡ compacted s (tree_of t)
     → store_in new log version ≡ with_tree (store_in t log version) (compacted s (tree_of t))

@@ -7,7 +7,8 @@ use Rattle.std.specs.declared.io.Error.{Error}
 use Rattle.keys.specs.Bytes.{Bytes}
 use Rattle.keys.specs.Limits.{first_bad_field}
 use Rattle.keys.specs.declared.fault.Fault.{Fault}
-use Rattle.keys.specs.declared.fault.Fault.TheVariants.{Device, NotAStore}
+use Rattle.keys.specs.declared.fault.Fault.TheVariants.{BadSettings, Device, NotAStore}
+use Rattle.keys.specs.declared.settings.Field.{Field}
 use Rattle.keys.specs.declared.settings.Settings.{Settings}
 use Rattle.mapping.specs.Tree.{Store}
 use Rattle.flush_log.specs.Disk.{View, Lawful, Kept}
@@ -234,3 +235,18 @@ pub of_new : {D : Type 0} (s : Settings) (file : Bytes) (r : Result (State D) Op
     → MatchResult r (IsStoreOfFile s file) (IsFaultOfFile file)
 of_new s file (Ok x) unfinished made refused = inl (unfinished, made)
 of_new s file (Err e) unfinished made refused = refused file
+
+-- ---- what is reported
+
+-- a setting is out of range
+pub field_reported : {X U : Type 0} (o : Option Field) (r : Result U Fault) (u : U) (fault : Fault) (reported : Result X OpenFault) (P : Type 0) → MatchOption o (r ≡ Ok u) (λ field. r ≡ Err (BadSettings field)) → r ≡ Err fault
+    → reported ≡ Err (open_fault.Store fault) → MatchOption o P (λ field. reported ≡ Err (open_fault.Store (BadSettings field)))
+field_reported None r u fault reported P own was is = absurd (cc)
+field_reported (Some field) r u fault reported P own was is =
+    let same : fault ≡ BadSettings field = cc in
+    cc
+
+-- the system refused a call
+pub of_system : (file : Bytes) (fault : OpenFault) (reason : Error) → (fault ≡ open_fault.Locked) ⊎ (fault ≡ open_fault.File reason) → IsFaultOfFile file fault
+of_system file fault reason (inl is) = rw is tt
+of_system file fault reason (inr is) = rw is tt

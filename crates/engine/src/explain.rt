@@ -30,7 +30,7 @@ pub fn meaning(fault: &Fault) -> &'static str {
     }
 }
 
-/// Returns what to do about a fault, in a sentence, or an empty text if nothing helps.
+/// Returns what to do about a fault, in a sentence, or an empty string if there is no advice.
 pub fn remedy(fault: &Fault) -> &'static str {
     match fault {
         Fault::BadSettings(_) =>
@@ -48,7 +48,7 @@ pub fn remedy(fault: &Fault) -> &'static str {
     }
 }
 
-/// Returns what to do if a file cannot be used for this reason, or an empty text.
+/// Returns what to do if a file cannot be used for this reason, or an empty string if there is no advice.
 pub fn file_remedy(reason: &io::Error) -> &'static str {
     match reason.kind() {
         ErrorKind::ReadOnlyFilesystem => "A session can only read the store there.",
@@ -59,7 +59,7 @@ pub fn file_remedy(reason: &io::Error) -> &'static str {
     }
 }
 
-/// A fault in words.
+/// Displays a fault in words: what it means, and what to do about it.
 #[derive(Drop)]
 pub struct ExplainedFault<'a>(pub &'a Fault);
 

@@ -1,5 +1,5 @@
 //! The copy: a new store on another disk, under settings of its own, with the same contents.
-ghost use Rattle.std.specs.Prelude.{◌≡◌, ◌≢◌, ◌⊎◌, ◌<◌, ◌≤◌, ◌++◌, [], None, Some, Err, Ok, IsTrue, IfOk, IfErr, IsErr, OnOk, MatchOption, MatchResult, length, take, false};
+ghost use Rattle.std.specs.Prelude.{◌≡◌, ◌≢◌, ◌⊎◌, ◌<◌, ◌≤◌, ◌++◌, ◌∷◌, [], None, Some, Err, Ok, IsTrue, IfOk, IfErr, IsErr, OnOk, MatchOption, MatchResult, length, take, false};
 ghost use Rattle.std.specs.Option.{option_copied};
 ghost use Rattle.keys.specs.Bytes.{Bytes, Pairs};
 ghost use Rattle.keys.specs.Order.{IsRising};
@@ -9,7 +9,7 @@ ghost use Rattle.mapping.specs.Tree.{most_levels, with_tree};
 ghost use Rattle.mapping.specs.TreeInMemory.{AreAllHome, tree_of};
 ghost use Rattle.flush_log.specs.Disk.{IsSettled, Kept, LeavesOnly};
 ghost use Rattle.recovery.specs.StoreOfDisk.{first_store, store_of_disk};
-ghost use Rattle.engine.specs.Copies.{HoldsSomeStore, IsBegun, IsCopyFault, IsLeftCopying, IsLeftFilling, IsPutFault, last_key, most_puts, puts_of};
+ghost use Rattle.engine.specs.Copies.{HoldsSomeStore, IsBegun, IsCopyFault, IsLeftCopying, IsLeftFilling, IsPutFault, last_key, most_puts, put_of, puts_of};
 ghost use Rattle.engine.specs.Late.{create_refusal};
 ghost use Rattle.engine.specs.Refusal.{is_crew};
 ghost use Rattle.engine.specs.State.{IsSound};
@@ -20,7 +20,7 @@ use crate::store::Store;
 use crate::store::creation::{create_hidden, reveal_store};
 use crew::{Crew, NoGate};
 use flush_log::Disk;
-use keys::{Command, Fault, Key, Settings, Value};
+use keys::{Command, Fault, Settings};
 use mapping::Tree;
 use mapping::laws::the_contents_of_a_proper_tree_rise;
 use recovery::laws::what_was_flushed_is_what_is_read;
@@ -42,12 +42,23 @@ pub(crate) fn puts_of<'a>(
 {
     let mut last = None;
     for (key, value) in rows {
-        let key_put = Key::from_bytes(alloc, key)?;
-        let value_put = Value::from_bytes(alloc, value)?;
-        puts.push(Command::Put(key_put, value_put))?;
+        push_put(alloc, key, value, puts)?;
         last = Some(key);
     }
     Ok(last)
+}
+
+// Adds a put of this pair.
+pub(super) fn push_put(
+    alloc: Global,
+    key: &[u8],
+    value: &[u8],
+    puts: &mut Vec<Command<Global>>,
+) -> Result<(), AllocError>
+    ensures { OnOk result (puts.new.items ≡ puts.old.items ++ put_of (key.now, value.now) ∷ []) }
+{
+    puts.push(Command::put(alloc, key, value)?)?;
+    Ok(())
 }
 
 // The first rows after this key, or of all where there is none, as many as are put in one batch.

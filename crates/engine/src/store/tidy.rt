@@ -13,9 +13,10 @@ ghost use Rattle.engine.specs.Tidied.{IsTidied, IsTidyFault, counted_pages};
 
 use crate::refusal::admit_crew;
 use crate::store::Store;
+use crate::store::copy::push_put;
 use crew::{Crew, NoGate};
 use flush_log::Disk;
-use keys::{Command, Fault, Key, Pid, Settings, Value};
+use keys::{Command, Fault, Pid, Settings};
 use mapping::Tree;
 use mapping::laws::the_contents_of_a_proper_tree_rise;
 use std::alloc::{AllocError, Global};
@@ -161,16 +162,11 @@ fn push_neutral(
         value_at key.now m ≡ option_copied value.entry →
         map_after_all m commands.old.items ≡ m → map_after_all m commands.new.items ≡ m) }
 {
-    let put = Key::from_bytes(alloc, key)?;
     match value {
-        Some(bytes) => {
-            let same = Value::from_bytes(alloc, bytes)?;
-            commands.push(Command::Put(put, same))?;
-        }
+        Some(bytes) => push_put(alloc, key, bytes, commands)?,
         None => {
-            let deleted = Key::from_bytes(alloc, key)?;
-            commands.push(Command::Put(put, Value::empty(alloc)))?;
-            commands.push(Command::Del(deleted))?;
+            push_put(alloc, key, b"", commands)?;
+            commands.push(Command::del(alloc, key)?)?;
         }
     }
     Ok(())

@@ -1,8 +1,42 @@
-use Rattle.std.proofs.Common.{◌≡◌, ◌-◌, ◌∙◌, length, drop, take, ap, sym, subst, IsTrue, List, ℕ, arith}
+use Rattle.std.proofs.Common.{◌≡◌, ◌-◌, ◌+◌, ◌^◌, ◌∙◌, min, length, drop, take, ap, inl, refl, sym, subst, IsTrue, List, ℕ, arith}
+use Rattle.std.proofs.lemmas.Result.{err_from_is_err_and}
+use Rattle.flush_log.specs.Disk.{LeavesOnly}
 use Rattle.flush_log.specs.Overlay.{overlay}
-use Rattle.engine.specs.Hidden.{exchanged, IsCleared}
+use Rattle.flush_log.proofs.SameLemmas.{leaves_the_same, left_after, settled_still}
+use Rattle.recovery.proofs.ReadBytes.{kept_then}
+use Rattle.engine.specs.Hidden.{exchanged, IsCleared, IsLeftHiding}
 use Rattle.engine.proofs.HiddenLemmas.{hidden_is, on_ok}
 use Rattle.engine.proofs.hidden_disk.write_hidden.Goals as goal
+
+pub returns-in_err-first : goal.returns-in_err-first
+returns-in_err-first g c =
+    let old = g.D.Disk.view c.args.disk.now in
+    let p = err_from_is_err_and c.from_residual.result c.from_residual.ensures.1 in
+    rw p.1 (record {
+      kept = c.first_byte.ensures.kept;
+      failed = c.in_err-first.ensures.failed;
+      written = λ _. tt;
+      settled = λ _. tt;
+      crash = λ settled. leaves_the_same old (g.D.Disk.view c.first_byte.new.disk) (IsLeftHiding old.seen) (g.met.D.Disk.lawful c.args.disk.now settled.honest) (c.first_byte.ensures.same settled.honest) settled (inl refl);
+    })
+
+pub returns-in_err-clear_first : goal.returns-in_err-clear_first
+returns-in_err-clear_first g c =
+    let old = g.D.Disk.view c.args.disk.now in
+    let mid = g.D.Disk.view c.first_byte.new.disk in
+    let new = g.D.Disk.view c.clear_first.new.disk in
+    let kept = c.first_byte.ensures.kept in
+    let p = err_from_is_err_and c.from_residual-in_err-clear_first.result c.from_residual-in_err-clear_first.ensures.1 in
+    rw p.1 (record {
+      kept = kept_then old mid new kept c.clear_first.ensures.kept;
+      failed = c.in_err-clear_first.ensures.failed ∙ ap (λ (n : ℕ). min (n + 1) (2 ^ 64 - 1)) c.in_ok-first.ensures.failed;
+      written = λ _. tt;
+      settled = λ _. tt;
+      crash = λ settled. (
+          let same = c.first_byte.ensures.same settled.honest in
+          left_after old mid new (IsLeftHiding old.seen) same
+          (subst (λ (f : List ℕ). LeavesOnly mid new (IsLeftHiding f)) same.seen (c.clear_first.ensures.crash (settled_still old mid kept same settled))));
+    })
 
 pub returns-clause-written : goal.returns-clause-written
 returns-clause-written g c honest =

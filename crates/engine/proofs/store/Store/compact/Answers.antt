@@ -1,7 +1,53 @@
-use Rattle.std.proofs.Common.{rules, ◌<◌, ◌^◌}
+use Rattle.std.proofs.Common.{◌≡◌, true, false, rules, refl, subst, ◌<◌, ◌^◌}
+use Rattle.std.proofs.lemmas.Result.{err_from_is_err_and}
+use Rattle.engine.specs.Refusal.{is_crew}
 use Rattle.engine.specs.State.{store_in}
 use Rattle.engine.proofs.CompactedStores.{compacted_sound, is_compacted}
+use Rattle.engine.proofs.RefusedCalls.{not_both}
 use Rattle.engine.proofs.store.Store.compact.Goals as goal
+
+pub returns-then-self : goal.returns-then-self
+returns-then-self g c =
+    let old = c.args.self.now in
+    let bad : old.has_failed ≡ true = subst (λ x. x.has_failed ≡ true) c.self.view_is c.if-self.true in
+    record {
+      compacted = tt;
+      pages = tt;
+      rest = (refl, refl, refl);
+      unchanged = refl;
+      failed = λ _. refl;
+      bad_crew = λ fine. absurd (not_both old.has_failed bad fine);
+      refused = λ fine. absurd (not_both old.has_failed bad fine);
+    }
+
+pub returns-in_err-admit_crew : goal.returns-in_err-admit_crew
+returns-in_err-admit_crew g c =
+    let old = c.args.self.now in
+    let fine : old.has_failed ≡ false = subst (λ x. x.has_failed ≡ false) c.self.view_is c.if-self.false in
+    let why = c.in_err-admit_crew.ensures.err in
+    let p = err_from_is_err_and c.from_residual.result c.from_residual.ensures.1 in
+    rw (p.1, p.2, why.0) (record {
+      compacted = tt;
+      pages = tt;
+      rest = (refl, refl, refl);
+      unchanged = refl;
+      failed = λ bad. absurd (not_both old.has_failed bad fine);
+      bad_crew = λ _ _. refl;
+      refused = λ _ able. absurd (not_both (is_crew c.args.crew) able why.1);
+    })
+
+pub returns-in_err-new : goal.returns-in_err-new
+returns-in_err-new g c =
+    let p = err_from_is_err_and c.from_residual-in_err-new.result c.from_residual-in_err-new.ensures.1 in
+    rw (← c.self.view_is) (rw (p.1, p.2) (record {
+      compacted = tt;
+      pages = tt;
+      rest = (refl, refl, refl);
+      unchanged = refl;
+      failed = λ bad. absurd (not_both c.self.inside.has_failed bad c.if-self.false);
+      bad_crew = λ _ bad. absurd (not_both (is_crew c.args.crew) c.in_ok-admit_crew.ensures.ok bad);
+      refused = λ _ _. c.in_err-new.ensures.fault;
+    }))
 
 pub invariant_of-self : goal.invariant_of-self
 invariant_of-self g c =

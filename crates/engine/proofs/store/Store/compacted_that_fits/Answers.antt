@@ -1,9 +1,23 @@
 use Rattle.std.proofs.Common.{rules, ◌<◌, ◌^◌}
 use Rattle.mapping.specs.TreeInMemory.{tree_of}
 use Rattle.flush_log.specs.FlushText.{flush_text}
+use Rattle.engine.proofs.CleansLemmas.{if_ok}
 use Rattle.engine.proofs.CompactedStores.{compacted_sound}
 use Rattle.engine.proofs.PendingLemmas.{some-left}
 use Rattle.engine.proofs.store.Store.compacted_that_fits.Goals as goal
+
+-- ---- it is refused, or has nothing to write
+
+pub returns-in-Err : goal.returns-in-Err
+returns-in-Err g c = record {
+  fits = if_ok c.no_compacted.result _ _ c.no_compacted.ensures.none (λ o none. rw none tt);
+  err = c.no_compacted.ensures.err;
+}
+
+pub returns-then-is_all_written : goal.returns-then-is_all_written
+returns-then-is_all_written g c = record { fits = tt; err = tt }
+
+-- ---- its flush is planned
 
 pub plan-requires-clause-store : goal.plan-requires-clause-store
 plan-requires-clause-store g c κs within =
@@ -17,3 +31,14 @@ plan-requires-clause-store g c κs within =
 pub plan-requires-clause-some : goal.plan-requires-clause-some
 plan-requires-clause-some g c κs within =
     some-left c.is_all_written.result (flush_text c.self.inside.version (tree_of c.in-Ok.new)) (c.is_all_written.ensures c.self.inside.version) c.if-is_all_written.false
+
+pub returns-in-Ok-plan : goal.returns-in-Ok-plan
+returns-in-Ok-plan g c =
+    let words : c.in-Ok.new.root < 2 ^ 64 = search rules in
+    rw (← c.self.view_is) (record { fits = (c.in-Ok.ensures.sound, c.in-Ok.ensures.tree, words); err = tt })
+
+pub returns-in-Err-plan : goal.returns-in-Err-plan
+returns-in-Err-plan g c = record {
+  fits = if_ok c.no_compacted-in-Err-plan.result _ _ c.no_compacted-in-Err-plan.ensures.none (λ o none. rw none tt);
+  err = c.no_compacted-in-Err-plan.ensures.err;
+}

@@ -1,27 +1,83 @@
-use Rattle.std.proofs.Common.{inl, refl}
+use Rattle.std.proofs.Common.{◌≡◌, true, false, inl, refl, subst}
 use Rattle.std.proofs.lemmas.Result.{err_from_is_err_and}
+use Rattle.engine.specs.Refusal.{is_crew}
 use Rattle.engine.specs.State.{IsSound}
 use Rattle.engine.proofs.CleaningLemmas.{start_holds, cleaning_holds}
 use Rattle.engine.proofs.CleansLemmas.{if_ok, if_err}
 use Rattle.engine.proofs.EarlyLemmas.{stopped_at_once}
+use Rattle.engine.proofs.RefusedCalls.{not_both}
 use Rattle.engine.proofs.store.Store.flush_cleaning.Goals as goal
 
-pub returns-in_err-compact_if_due-clause-refused : goal.returns-in_err-compact_if_due-clause-refused
-returns-in_err-compact_if_due-clause-refused g c fine able =
+-- ---- the store has failed
+
+pub returns-then-self : goal.returns-then-self
+returns-then-self g c =
     let old = c.args.self.now in
+    let bad : old.has_failed ≡ true = subst (λ x. x.has_failed ≡ true) c.self.view_is c.if-self.true in
     let sound : IsSound g.D.Disk.view old = rw (← c.self.view_is) c.self.invariant.sound in
+    record {
+      number = tt;
+      flushed = tt;
+      failed = λ _. (refl, refl);
+      bad_crew = λ fine. absurd (not_both old.has_failed bad fine);
+      refused = λ fine. absurd (not_both old.has_failed bad fine);
+      holds = refl;
+      sound = (sound, sound);
+    }
+
+-- ---- the crew is out of range
+
+pub returns-in_err-admit_crew : goal.returns-in_err-admit_crew
+returns-in_err-admit_crew g c =
+    let old = c.args.self.now in
+    let fine : old.has_failed ≡ false = subst (λ x. x.has_failed ≡ false) c.self.view_is c.if-self.false in
+    let sound : IsSound g.D.Disk.view old = rw (← c.self.view_is) c.self.invariant.sound in
+    let why = c.in_err-admit_crew.ensures.err in
+    let p = err_from_is_err_and c.from_residual.result c.from_residual.ensures.1 in
+    rw (p.1, p.2, why.0) (record {
+      number = tt;
+      flushed = tt;
+      failed = λ bad. absurd (not_both old.has_failed bad fine);
+      bad_crew = λ _ _. (refl, refl);
+      refused = λ _ able. absurd (not_both (is_crew c.args.crew) able why.1);
+      holds = refl;
+      sound = (sound, sound);
+    })
+
+-- ---- no memory to compact the tree
+
+pub returns-in_err-compact_if_due : goal.returns-in_err-compact_if_due
+returns-in_err-compact_if_due g c =
+    let old = c.args.self.now in
+    let fine : old.has_failed ≡ false = subst (λ x. x.has_failed ≡ false) c.self.view_is c.if-self.false in
+    let sound : IsSound g.D.Disk.view old = rw (← c.self.view_is) c.self.invariant.sound in
+    let err = c.in_err-compact_if_due.ensures.err in
     let p = err_from_is_err_and c.from_residual-in_err-compact_if_due.result c.from_residual-in_err-compact_if_due.ensures.1 in
-    rw (p.1, p.2) (old, inl refl, stopped_at_once g.D.Disk.view g.D.Disk.failed g.met.D.Disk.lawful old c.compact_if_due.new.self _ sound c.in_err-compact_if_due.ensures.err)
+    rw (p.1, p.2) (record {
+      number = tt;
+      flushed = tt;
+      failed = λ bad. absurd (not_both old.has_failed bad fine);
+      bad_crew = λ _ bad. absurd (not_both (is_crew c.args.crew) c.in_ok-admit_crew.ensures.ok bad);
+      refused = λ _ _. (old, inl refl, stopped_at_once g.D.Disk.view g.D.Disk.failed g.met.D.Disk.lawful old c.compact_if_due.new.self _ sound err);
+      holds = start_holds _ _ (inl err.1);
+      sound = (sound, rw err.1 sound);
+    })
 
-pub returns-in_err-compact_if_due-clause-holds : goal.returns-in_err-compact_if_due-clause-holds
-returns-in_err-compact_if_due-clause-holds g c = start_holds _ _ (inl c.in_err-compact_if_due.ensures.err.1)
+-- ---- flushed, or refused later
 
-pub returns-clause-flushed : goal.returns-clause-flushed
-returns-clause-flushed g c = if_ok c.flush_in_rows.result _ _ c.flush_in_rows.ensures.flushed (λ n h. (c.compact_if_due.new.self, c.in_ok-compact_if_due.ensures.start, h))
-
-pub returns-clause-refused : goal.returns-clause-refused
-returns-clause-refused g c fine able = if_err c.flush_in_rows.result _ _ c.flush_in_rows.ensures.refused (λ fault h. (c.compact_if_due.new.self, c.in_ok-compact_if_due.ensures.start, h))
-
-pub returns-clause-holds : goal.returns-clause-holds
-returns-clause-holds g c =
-    cleaning_holds g.D.Disk.view g.D.Disk.failed _ _ _ c.flush_in_rows.result c.in_ok-compact_if_due.ensures.start c.flush_in_rows.ensures.flushed c.flush_in_rows.ensures.refused
+pub returns : goal.returns
+returns g c =
+    let old = c.args.self.now in
+    let fine : old.has_failed ≡ false = subst (λ x. x.has_failed ≡ false) c.self.view_is c.if-self.false in
+    let sound : IsSound g.D.Disk.view old = rw (← c.self.view_is) c.self.invariant.sound in
+    let start = c.in_ok-compact_if_due.ensures.start in
+    let rows = c.flush_in_rows.ensures in
+    record {
+      number = rows.number;
+      flushed = if_ok c.flush_in_rows.result _ _ rows.flushed (λ n h. (c.compact_if_due.new.self, start, h));
+      failed = λ bad. absurd (not_both old.has_failed bad fine);
+      bad_crew = λ _ bad. absurd (not_both (is_crew c.args.crew) c.in_ok-admit_crew.ensures.ok bad);
+      refused = λ _ _. if_err c.flush_in_rows.result _ _ rows.refused (λ fault h. (c.compact_if_due.new.self, start, h));
+      holds = cleaning_holds g.D.Disk.view g.D.Disk.failed _ _ _ c.flush_in_rows.result start rows.flushed rows.refused;
+      sound = (sound, rows.sound.1);
+    }

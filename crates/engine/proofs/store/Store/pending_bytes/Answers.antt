@@ -1,17 +1,55 @@
-use Rattle.std.proofs.Common.{ap, ◌∙◌, arith}
+use Rattle.std.proofs.Common.{◌≡◌, true, false, refl, ap, subst, ◌∙◌, arith}
 use Rattle.std.proofs.lemmas.Result.{err_from_is_err_and}
 use Rattle.flush_log.specs.FlushText.{flush_text}
 use Rattle.flush_log.specs.Slot.{Slot}
+use Rattle.engine.specs.Refusal.{is_crew}
 use Rattle.engine.specs.State.{store_in}
 use Rattle.engine.proofs.PendingLemmas.{nothing-added, some-left, flush-refused, tail-not-below, flush-adds}
+use Rattle.engine.proofs.RefusedCalls.{not_both}
 use Rattle.engine.proofs.store.Store.pending_bytes.Goals as goal
+
+-- ---- the store has failed
+
+pub returns-then-self : goal.returns-then-self
+returns-then-self g c =
+    let old = c.args.self.now in
+    let bad : old.has_failed ≡ true = subst (λ x. x.has_failed ≡ true) c.self.view_is c.if-self.true in
+    record {
+      bytes = tt;
+      nothing = λ fine. absurd (not_both old.has_failed bad fine);
+      failed = λ _. refl;
+      bad_crew = λ fine. absurd (not_both old.has_failed bad fine);
+      refused = λ fine. absurd (not_both old.has_failed bad fine);
+    }
+
+-- ---- the crew is out of range
+
+pub returns-in_err-admit_crew : goal.returns-in_err-admit_crew
+returns-in_err-admit_crew g c =
+    let old = c.args.self.now in
+    let fine : old.has_failed ≡ false = subst (λ x. x.has_failed ≡ false) c.self.view_is c.if-self.false in
+    let why = c.in_err-admit_crew.ensures.err in
+    let p = err_from_is_err_and c.from_residual.result c.from_residual.ensures.1 in
+    rw (p.1, p.2, why.0) (record {
+      bytes = tt;
+      nothing = λ _ able. absurd (not_both (is_crew c.args.crew) able why.1);
+      failed = λ bad. absurd (not_both old.has_failed bad fine);
+      bad_crew = λ _ _. refl;
+      refused = λ _ able. absurd (not_both (is_crew c.args.crew) able why.1);
+    })
 
 -- ---- nothing is to be written
 
-pub returns-then-is_all_written-clause-bytes : goal.returns-then-is_all_written-clause-bytes
-returns-then-is_all_written-clause-bytes g c = rw (← c.self.view_is) (
+pub returns-then-is_all_written : goal.returns-then-is_all_written
+returns-then-is_all_written g c = rw (← c.self.view_is) (
     let st = store_in c.self.inside.tree c.self.inside.log c.self.inside.version in
-    nothing-added c.self.inside.settings st ((c.is_all_written.ensures st.version).0 c.if-is_all_written.true))
+    record {
+      bytes = nothing-added c.self.inside.settings st ((c.is_all_written.ensures st.version).0 c.if-is_all_written.true);
+      nothing = λ _ _ _. refl;
+      failed = λ bad. absurd (not_both c.self.inside.has_failed bad c.if-self.false);
+      bad_crew = λ _ bad. absurd (not_both (is_crew c.args.crew) c.in_ok-admit_crew.ensures.ok bad);
+      refused = λ _ _. tt;
+    })
 
 -- ---- something is
 
@@ -23,12 +61,18 @@ plan-requires-clause-some g c κs within =
     let st = store_in c.self.inside.tree c.self.inside.log c.self.inside.version in
     some-left c.is_all_written.result (flush_text st.version st.tree) (c.is_all_written.ensures st.version) c.if-is_all_written.false
 
-pub returns-in_err-commit-clause-refused : goal.returns-in_err-commit-clause-refused
-returns-in_err-commit-clause-refused g c = rw (← c.self.view_is) (
+pub returns-in_err-commit : goal.returns-in_err-commit
+returns-in_err-commit g c = rw (← c.self.view_is) (
     let st = store_in c.self.inside.tree c.self.inside.log c.self.inside.version in
     let due = some-left c.is_all_written.result (flush_text st.version st.tree) (c.is_all_written.ensures st.version) c.if-is_all_written.false in
     let p = err_from_is_err_and c.from_residual-in_err-commit.result c.from_residual-in_err-commit.ensures.1 in
-    λ fine able. rw (p.1, p.2) (flush-refused c.self.inside.settings st due _ c.in_err-commit.ensures.err))
+    rw (p.1, p.2) (record {
+      bytes = tt;
+      nothing = λ _ _ none. absurd (due none);
+      failed = λ bad. absurd (not_both c.self.inside.has_failed bad c.if-self.false);
+      bad_crew = λ _ bad. absurd (not_both (is_crew c.args.crew) c.in_ok-admit_crew.ensures.ok bad);
+      refused = λ _ _. flush-refused c.self.inside.settings st due _ c.in_err-commit.ensures.err;
+    }))
 
 pub overflow_sub-result : goal.overflow_sub-result
 overflow_sub-result g c =
@@ -38,11 +82,17 @@ overflow_sub-result g c =
     let same = ap (λ (t : Slot). t.tail) (c.slot.view_is ∙ c.slot-slot.ensures) in
     omega (arith, up, same)
 
-pub returns-clause-bytes : goal.returns-clause-bytes
-returns-clause-bytes g c = rw (← c.self.view_is) (
+pub returns : goal.returns
+returns g c = rw (← c.self.view_is) (
     let st = store_in c.self.inside.tree c.self.inside.log c.self.inside.version in
     let due = some-left c.is_all_written.result (flush_text st.version st.tree) (c.is_all_written.ensures st.version) c.if-is_all_written.false in
     let p = c.in_ok-commit.ensures.plan st.version in
     let up = tail-not-below c.self.inside.settings st due _ p c.self.invariant.sound.is.good in
     let same = ap (λ (t : Slot). t.tail) (c.slot.view_is ∙ c.slot-slot.ensures) in
-    flush-adds c.self.inside.settings st due _ p _ (omega (arith, up, same)))
+    record {
+      bytes = flush-adds c.self.inside.settings st due _ p _ (omega (arith, up, same));
+      nothing = λ _ _ none. absurd (due none);
+      failed = λ bad. absurd (not_both c.self.inside.has_failed bad c.if-self.false);
+      bad_crew = λ _ bad. absurd (not_both (is_crew c.args.crew) c.in_ok-admit_crew.ensures.ok bad);
+      refused = λ _ _. tt;
+    })

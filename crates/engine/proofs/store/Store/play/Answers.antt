@@ -2,6 +2,7 @@ use Rattle.std.proofs.Common.{◌≡◌, List, [], inl, inr, refl, sym, ap, ◌�
 use Rattle.std.proofs.lemmas.List.{take_all}
 use Rattle.flush_log.specs.Disk.{LeavesOnly}
 use Rattle.recovery.specs.StoreOfDisk.{store_of_disk}
+use Rattle.recovery.proofs.ReadBytes.{kept_self, kept_then}
 use Rattle.engine.specs.Plays.{IsPlayed, IsPlayedOn, IsPlayFault, step_of}
 use Rattle.engine.specs.Refusal.{is_crew}
 use Rattle.engine.specs.State.{IsSound}
@@ -18,6 +19,32 @@ returns-in-Err-clause-headline g c fine honest on_disk stands =
 
 pub returns-in-Err-clause-refused : goal.returns-in-Err-clause-refused
 returns-in-Err-clause-refused g c fine able = ((g.D.Disk.view c.args.self.now.disk).seen, λ _. refl, inl (refl, refl))
+
+pub returns-in-Err-clause-rest : goal.returns-in-Err-clause-rest
+returns-in-Err-clause-rest g c = (refl, kept_self (g.D.Disk.view c.args.self.now.disk))
+
+pub returns-in-Err-clause-bytes : goal.returns-in-Err-clause-bytes
+returns-in-Err-clause-bytes g c _ _ = refl
+
+pub returns-in-Err-clause-still : goal.returns-in-Err-clause-still
+returns-in-Err-clause-still g c _ = refl
+
+pub returns-in-Err-clause-still_failed : goal.returns-in-Err-clause-still_failed
+returns-in-Err-clause-still_failed g c _ = (refl, inr refl)
+
+pub returns-in-Err-clause-bad_crew : goal.returns-in-Err-clause-bad_crew
+returns-in-Err-clause-bad_crew g c _ _ = (tt, (refl, inr refl))
+
+pub returns-in-Err-clause-counted : goal.returns-in-Err-clause-counted
+returns-in-Err-clause-counted g c _ = (refl, refl)
+
+pub returns-in-Err-clause-settled : goal.returns-in-Err-clause-settled
+returns-in-Err-clause-settled g c settled _ = settled
+
+pub returns-in-Err-clause-sound : goal.returns-in-Err-clause-sound
+returns-in-Err-clause-sound g c =
+    let sound : IsSound g.D.Disk.view c.args.self.now = rw (← c.self.view_is) c.self.invariant.sound in
+    (sound, sound)
 
 pub returns-in-Err-clause-crash : goal.returns-in-Err-clause-crash
 returns-in-Err-clause-crash g c =
@@ -75,6 +102,17 @@ returns-in-Err-step-clause-settled g c settled other =
     let at = c.loop-step in
     (stays view g.D.Disk.failed g.met.D.Disk.lawful c.args.self.now _ _ at.self at.invariant.turn c.step.new.self c.step.ensures.rest c.in-Err-step.ensures.unchanged (c.in-Err-step.ensures.fine other)
     (λ h. c.in-Err-step.ensures.same h other) c.step.ensures.sound.1).settled settled
+
+pub returns-in-Err-step-clause-rest : goal.returns-in-Err-step-clause-rest
+returns-in-Err-step-clause-rest g c =
+    let turn = c.loop-step.invariant.turn in
+    (c.step.ensures.rest.0 ∙ turn.settings, kept_then _ _ _ turn.kept c.step.ensures.rest.1)
+
+pub returns-in-Err-step-clause-device : goal.returns-in-Err-step-clause-device
+returns-in-Err-step-clause-device g c device = (c.in-Err-step.ensures.device device).0
+
+pub returns-in-Err-step-clause-sound : goal.returns-in-Err-step-clause-sound
+returns-in-Err-step-clause-sound g c = (rw (← c.self.view_is) c.self.invariant.sound, c.step.ensures.sound.1)
 
 pub returns-in-Err-step-clause-counted : goal.returns-in-Err-step-clause-counted
 returns-in-Err-step-clause-counted g c other =
@@ -205,6 +243,18 @@ returns-clause-ok g c =
     let at = c.loop-step in
     let all = take_all at.step-index c.args.steps.now (omega (arith, c.loop-step-test.false)) in
     subst (λ xs. IsPlayed (view old.disk).is_honest old.settings old.store (view old.disk).seen (map step_of xs) at.answers.items at.self.store) all at.invariant.turn.played
+
+pub returns-clause-rest : goal.returns-clause-rest
+returns-clause-rest g c = (c.loop-step.invariant.turn.settings, c.loop-step.invariant.turn.kept)
+
+pub returns-clause-counted : goal.returns-clause-counted
+returns-clause-counted g c = (c.loop-step.invariant.turn.has_failed, c.loop-step.invariant.turn.failed)
+
+pub returns-clause-settled : goal.returns-clause-settled
+returns-clause-settled g c settled = c.loop-step.invariant.turn.settled settled
+
+pub returns-clause-still : goal.returns-clause-still
+returns-clause-still g c bad = c.loop-step.invariant.still bad
 
 pub returns-clause-exact : goal.returns-clause-exact
 returns-clause-exact g c honest =

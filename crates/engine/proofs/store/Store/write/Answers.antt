@@ -1,11 +1,14 @@
-use Rattle.std.proofs.Common.{◌≡◌, false, inl, inr, refl, sym, ap, subst, ◌∙◌}
+use Rattle.std.proofs.Common.{◌≡◌, ◌≤◌, ℕ, false, inl, inr, refl, sym, ap, subst, ◌∙◌}
+use Rattle.std.proofs.lemmas.Bool.{true≢false}
 use Rattle.std.proofs.lemmas.Result.{err_from_is_err_and}
 use Rattle.mapping.specs.TreeInMemory.{TreeInMemory, tree_of}
 use Rattle.flush_log.specs.AfterFlush.{slot_of}
 use Rattle.flush_log.specs.FlushText.{version_with, text_of}
+use Rattle.flush_log.specs.Segments.{disk_size}
 use Rattle.flush_log.specs.Slot.{Slot}
 use Rattle.flush_log.proofs.SameLemmas.{leaves_itself}
 use Rattle.flush_log.proofs.ViewLemmas.{counted_failed}
+use Rattle.recovery.proofs.ReadBytes.{kept_self}
 use Rattle.recovery.specs.InStep.{IsStoreOf}
 use Rattle.engine.specs.Calls.{with_version}
 use Rattle.engine.specs.State.{IsSound, state_of, store_in}
@@ -21,30 +24,32 @@ plan-requires-clause-some g c κs within =
 
 -- ---- not planned
 
-pub returns-in_err-commit-clause-refused : goal.returns-in_err-commit-clause-refused
-returns-in_err-commit-clause-refused g c = rw (← c.self.view_is) (
+pub returns-in_err-commit : goal.returns-in_err-commit
+returns-in_err-commit g c = rw (← c.self.view_is) (
     let s = c.self.inside.settings in
     let st = store_in c.self.inside.tree c.self.inside.log c.self.inside.version in
-    let old = g.D.Disk.view c.self.inside.disk in
-    let is = due-of c.args.text s _ _ c.self.view_is c.requires.own c.requires.due c.self.invariant.sound.is c.an_upgrade_is_a_flush_of_outdated_pages.ensures.some in
+    let text = c.args.text in
+    let disk = c.self.inside.disk in
+    let old = g.D.Disk.view disk in
+    let is = due-of text s _ _ c.self.view_is c.requires.own c.requires.due c.self.invariant.sound.is c.an_upgrade_is_a_flush_of_outdated_pages.ensures.some in
+    let planned = store_in c.self.inside.tree c.self.inside.log (version_with text) in
+    let err = c.in_err-commit.ensures.err in
     let p = err_from_is_err_and c.from_residual.result c.from_residual.ensures.1 in
-    rw (p.1, p.2) (writing-refused c.args.text s st is _ old.seen _ _ c.in_err-commit.ensures.err))
-
-pub returns-in_err-commit-clause-device : goal.returns-in_err-commit-clause-device
-returns-in_err-commit-clause-device g c =
-    let st = store_in c.self.inside.tree c.self.inside.log (version_with c.args.text) in
-    let p = err_from_is_err_and c.from_residual.result c.from_residual.ensures.1 in
-    rw (p.1, p.2) (λ device. absurd (never-device c.self.inside.settings (slot_of st) (text_of c.args.text st.tree) _ c.in_err-commit.ensures.err device))
-
-pub returns-in_err-commit-clause-frames_under_way : goal.returns-in_err-commit-clause-frames_under_way
-returns-in_err-commit-clause-frames_under_way g c =
-    let st = store_in c.self.inside.tree c.self.inside.log (version_with c.args.text) in
-    let p = err_from_is_err_and c.from_residual.result c.from_residual.ensures.1 in
-    rw (p.1, p.2) (λ device. absurd (never-device c.self.inside.settings (slot_of st) (text_of c.args.text st.tree) _ c.in_err-commit.ensures.err device))
-
-pub returns-in_err-commit-clause-crash : goal.returns-in_err-commit-clause-crash
-returns-in_err-commit-clause-crash g c settled =
-    leaves_itself (g.D.Disk.view c.args.self.now.disk) _ (g.met.D.Disk.lawful c.args.self.now.disk settled.honest) settled (inl refl)
+    rw (p.1, p.2) (record {
+      store = tt;
+      version = tt;
+      rest = (refl, kept_self old);
+      refused = writing-refused text s st is _ old.seen _ _ err;
+      unchanged = λ _. refl;
+      device = λ device. absurd (never-device s (slot_of planned) (text_of text planned.tree) _ err device);
+      counted = tt;
+      bytes = λ _. tt;
+      settled = λ _. tt;
+      crash = λ settled. leaves_itself old _ (g.met.D.Disk.lawful disk settled.honest) settled (inl refl);
+      frames = tt;
+      frames_under_way = λ device. absurd (never-device s (slot_of planned) (text_of text planned.tree) _ err device);
+      sound = (c.self.invariant.sound, c.self.invariant.sound);
+    }))
 
 -- ---- planned
 
@@ -53,19 +58,20 @@ write-requires-clause-planned g c =
     let st = store_in c.self.inside.tree c.self.inside.log c.self.inside.version in
     (slot_of (with_version (version_with c.args.text) st), text_of c.args.text st.tree, c.in_ok-commit.ensures.plan st.version)
 
-pub returns-in-Err-clause-refused : goal.returns-in-Err-clause-refused
-returns-in-Err-clause-refused g c = rw (← c.self.view_is) (
-    let s = c.self.inside.settings in
-    let st = store_in c.self.inside.tree c.self.inside.log c.self.inside.version in
-    let old = g.D.Disk.view c.self.inside.disk in
-    let is = due-of c.args.text s _ _ c.self.view_is c.requires.own c.requires.due c.self.invariant.sound.is c.an_upgrade_is_a_flush_of_outdated_pages.ensures.some in
-    inr (inr (c.into.ensures, counted_failed _ _ c.in-Err.ensures.failed, writing-would c.args.text s st is _ (c.in_ok-commit.ensures.plan st.version) old.seen)))
+pub invariant_of-self : goal.invariant_of-self
+invariant_of-self g c =
+    let was = c.self.invariant in
+    record {
+      home = was.home;
+      sound = record {
+        is = was.sound.is;
+        room = subst (λ (n : ℕ). disk_size c.self.inside.settings ≤ n) (sym c.write.ensures.kept.size) was.sound.room;
+        step = λ fine. absurd (true≢false fine);
+      };
+    }
 
-pub returns-in-Err-clause-frames_under_way : goal.returns-in-Err-clause-frames_under_way
-returns-in-Err-clause-frames_under_way g c = rw (← c.self.view_is) (λ device. (c.in_ok-commit.ensures.plan c.self.inside.version).spelled.within)
-
-pub returns-in-Err-clause-crash : goal.returns-in-Err-clause-crash
-returns-in-Err-clause-crash g c = rw (← c.self.view_is) (λ settled.
+pub returns-in-Err : goal.returns-in-Err
+returns-in-Err g c = rw (← c.self.view_is) (
     let s = c.self.inside.settings in
     let st = store_in c.self.inside.tree c.self.inside.log c.self.inside.version in
     let old = g.D.Disk.view c.self.inside.disk in
@@ -73,10 +79,25 @@ returns-in-Err-clause-crash g c = rw (← c.self.view_is) (λ settled.
     let is = due-of text s _ _ c.self.view_is c.requires.own c.requires.due c.self.invariant.sound.is c.an_upgrade_is_a_flush_of_outdated_pages.ensures.some in
     let p = c.in_ok-commit.ensures.plan st.version in
     let fine = subst (λ x. x.has_failed ≡ false) (sym c.self.view_is) c.requires.fine in
-    let store : IsStoreOf s st old.seen = record { is = c.self.invariant.sound.is; step = c.self.invariant.sound.step fine settled.honest } in
-    writing-crashed text s st is _ p old (g.D.Disk.view c.write.new.disk) store
-    (hides c.a_crash_in_a_flush_leaves_the_store_before_or_after.ensures.hidden c.a_crash_in_an_upgrade_leaves_the_store_before_or_after.ensures.hidden text)
-    (c.write.ensures.crash (slot_of (with_version (version_with text) st)) (text_of text st.tree) p settled))
+    record {
+      store = tt;
+      version = tt;
+      rest = (refl, c.write.ensures.kept);
+      refused = inr (inr (c.into.ensures, counted_failed _ _ c.in-Err.ensures.failed, writing-would text s st is _ p old.seen));
+      unchanged = λ other. absurd (other c.into.ensures);
+      device = λ _. (refl, refl);
+      counted = tt;
+      bytes = λ _. tt;
+      settled = λ _. tt;
+      crash = λ settled. (
+          let store : IsStoreOf s st old.seen = record { is = c.self.invariant.sound.is; step = c.self.invariant.sound.step fine settled.honest } in
+          writing-crashed text s st is _ p old (g.D.Disk.view c.write.new.disk) store
+          (hides c.a_crash_in_a_flush_leaves_the_store_before_or_after.ensures.hidden c.a_crash_in_an_upgrade_leaves_the_store_before_or_after.ensures.hidden text)
+          (c.write.ensures.crash (slot_of (with_version (version_with text) st)) (text_of text st.tree) p settled));
+      frames = tt;
+      frames_under_way = λ _. p.spelled.within;
+      sound = (c.self.invariant.sound, (invariant_of-self g c).sound);
+    })
 
 -- ---- written
 
