@@ -1,5 +1,7 @@
 -- The command line of `bwsh` as `clap` sees it.
-use Rattle.std.proofs.Common.{◌≡◌, ◌∙◌, ap, ap₂, refl, false, true, codes, subst, List, Result, Ok, Err, IfOk}
+use Rattle.std.proofs.Common.{◌≡◌, ◌≤◌, ◌∙◌, ℕ, ap, ap₂, refl, sym, false, true, codes, subst, List, length, drop, map, Result, Ok, Err, IfOk}
+use Rattle.std.specs.List.{fold}
+use Rattle.std.proofs.lemmas.List.{drop_all}
 use Rattle.clap.specs.Words.{AddsArg, App, FailsBy, HasMatchesOf, Text, fault_of, found_of, matches_of, new_app, rows_of, Rule, app_of, is_simple, is_simple_and_free, rule_of, with_rule}
 use Rattle.clap.specs.Simple.{on_top}
 use Rattle.clap.specs.declared.error.Error.{Error}
@@ -12,6 +14,10 @@ use Rattle.bwsh.specs.CommandLine.{bwsh, plain_bwsh}
 pub rule_added : (old new : Command) (a : Arg) (app : App) (rule : Rule) → AddsArg old a new → a.global ≡ false → app_of old ≡ app → rule_of a ≡ rule
     → app_of new ≡ with_rule app rule
 rule_added old new a app rule added local is_app is_rule = added.shape local ∙ ap₂ with_rule is_app is_rule
+
+-- all arguments of a list are added where none is left
+pub all_added : {X : Type 0} (rule : X → Rule) (xs : List X) (i : ℕ) (app all : App) → fold with_rule app (map rule (drop i xs)) ≡ all → length xs ≤ i → app ≡ all
+all_added rule xs i app all is past = ap (λ (l : List _). fold with_rule app (map rule l)) (sym (drop_all i xs past)) ∙ is
 
 pub bwsh_is_simple : is_simple bwsh ≡ true
 bwsh_is_simple = refl

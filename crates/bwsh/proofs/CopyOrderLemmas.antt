@@ -1,10 +1,12 @@
 -- Lemmas on the order to copy a store.
-use Rattle.std.proofs.Common.{◌≡◌, ◌⊎◌, inl, inr, ℕ, Option, Some, Result, Ok, Err, refl, sym, subst}
-use Rattle.std.specs.Prelude.{Bool, IfErr}
+use Rattle.std.proofs.Common.{◌≡◌, ◌⊎◌, ap, inl, inr, ℕ, Option, None, Some, Result, Ok, Err, refl, sym, subst}
+use Rattle.std.specs.Prelude.{Bool, IfErr, MatchOption}
 use Rattle.keys.specs.Bytes.{Bytes, Pairs}
 use Rattle.keys.specs.declared.fault.Fault.{Fault}
 use Rattle.keys.specs.declared.fault.Fault.TheVariants.{BadSettings, NoMemory}
 use Rattle.keys.specs.declared.fault.Fault.TheVariants as faults
+use Rattle.keys.specs.Limits.{first_bad_field}
+use Rattle.keys.specs.declared.settings.Field.{Field}
 use Rattle.keys.specs.declared.settings.Settings.{Settings}
 use Rattle.mapping.specs.Levels.{contents}
 use Rattle.mapping.specs.Tree.{Store}
@@ -44,3 +46,14 @@ module _ (mode : Mode) (honest : Bool) (settings : Settings) (st : Store) (left 
 pub IsCopyEnd-either : {X : Type 0} (s t : Settings) → s ≡ t → (m : Pairs Bytes) (r : Result X SessionError) → IfErr r (IsCopyEnd s m) → IfErr r (λ early. IsUncopied (Some t) early ⊎ IsCopyEnd t m early)
 IsCopyEnd-either s t same m (Ok x) p = p
 IsCopyEnd-either s t same m (Err early) p = inr (subst (λ (u : Settings). IsCopyEnd u m early) same p)
+
+-- the settings of a copy are refused for their first bad field
+pub IsUncopied-field : {U : Type 0} (settings : Settings) (o : Option Field) (u : U) (r : Result U Fault) (fault : Fault) → first_bad_field settings ≡ o → MatchOption o (r ≡ Ok u) (λ field. r ≡ Err (BadSettings field)) → r ≡ Err fault
+    → IsUncopied (Some settings) (errors.Fault fault)
+IsUncopied-field settings None u r fault is given was = absurd (cc)
+IsUncopied-field settings (Some field) u r fault is given was = let same : fault ≡ BadSettings field = cc in inl (field, is, ap errors.Fault same)
+
+-- settings that aren't refused are good
+pub unrefused : {U : Type 0} (o : Option Field) (u : U) (r : Result U Fault) → MatchOption o (r ≡ Ok u) (λ field. r ≡ Err (BadSettings field)) → r ≡ Ok u → o ≡ None
+unrefused None u r given was = refl
+unrefused (Some field) u r given was = absurd (cc)

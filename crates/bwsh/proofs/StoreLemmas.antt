@@ -1,5 +1,5 @@
 -- The store that a session opens.
-use Rattle.std.proofs.Common.{◌≡◌, ◌≢◌, ◌⊎◌, inl, inr, ◌≤◌, ℕ, false, sym, List, [], Option, None, Some, Ok, Err, refl, ap, ◌∙◌, subst, arith}
+use Rattle.std.proofs.Common.{◌≡◌, ◌≢◌, ◌⊎◌, inl, inr, ◌≤◌, ℕ, false, sym, List, [], Option, None, Some, Result, Ok, Err, refl, ap, ◌∙◌, subst, arith}
 use Rattle.std.specs.Prelude.{IsTrue, length, replicate, MatchOption, nat_lt}
 use Rattle.std.proofs.lemmas.Bool.Decides.{nat_tests}
 use Rattle.keys.specs.Limits.{first_bad_field}
@@ -40,13 +40,19 @@ right start f early is (inr other) = inl (f, is, other.1)
 
 -- ---- a new store
 
+abbrev refusal : Fault → Result (Unit {0}) Fault
+refusal f = Err f
+
 module _ (settings : Settings) (file : List ℕ) where
   start_by_field : (o : Option Field) → first_bad_field settings ≡ o → new_start settings file ≡ start_unless o settings (first_stored settings file)
   start_by_field o e = ap (λ (x : Option Field). start_unless x settings (first_stored settings file)) e
 
   -- the settings are refused
-  pub IsUnopened-refused : (f : Field) → first_bad_field settings ≡ Some f → IsUnopened (new_start settings file) (errors.Fault (BadSettings f))
-  IsUnopened-refused f e = inl (BadSettings f, start_by_field (Some f) e, refl)
+  pub IsUnopened-checked : (f : Fault) → MatchOption (first_bad_field settings) (refusal f ≡ Ok tt) (λ field. refusal f ≡ Err (BadSettings field)) → IsUnopened (new_start settings file) (errors.Fault f)
+  IsUnopened-checked f checked = by (first_bad_field settings) refl checked where
+    by : (o : Option Field) → first_bad_field settings ≡ o → MatchOption o (refusal f ≡ Ok tt) (λ field. refusal f ≡ Err (BadSettings field)) → IsUnopened (new_start settings file) (errors.Fault f)
+    by None good checked = absurd (cc)
+    by (Some field) bad checked = let is : f ≡ BadSettings field = cc in inl (BadSettings field, start_by_field (Some field) bad, ap (λ (x : Fault). errors.Fault x) is)
 
   module _ (good : first_bad_field settings ≡ None) where
     is_new : new_start settings file ≡ Ok (settings, first_stored settings file)

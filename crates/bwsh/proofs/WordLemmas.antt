@@ -104,3 +104,19 @@ the_three_are (x ∷ y ∷ z ∷ []) u v w h =
     let e : triple u v w ≡ triple x y z = cc in
     ap (λ (p : List ℕ × List ℕ × List ℕ). p.0 ∷ p.1 ∷ p.2 ∷ []) (sym e)
 the_three_are (x ∷ y ∷ z ∷ t ∷ rest) u v w h = absurd (cc)
+
+-- what holds of all words but two, or but three
+pub not_two : {X : Type 0} (said : List (List ℕ) → X) (bad : X) → said [] ≡ bad → ((v : List ℕ) → said (v ∷ []) ≡ bad)
+    → ((v w x : List ℕ) (rest : List (List ℕ)) → said (v ∷ w ∷ x ∷ rest) ≡ bad) → (words : List (List ℕ)) → None ≡ the_two words → bad ≡ said words
+not_two said bad none one more [] h = sym none
+not_two said bad none one more (v ∷ []) h = sym (one v)
+not_two said bad none one more (v ∷ w ∷ []) h = absurd (cc)
+not_two said bad none one more (v ∷ w ∷ x ∷ rest) h = sym (more v w x rest)
+
+pub not_three : {X : Type 0} (said : List (List ℕ) → X) (bad : X) → said [] ≡ bad → ((v : List ℕ) → said (v ∷ []) ≡ bad) → ((v w : List ℕ) → said (v ∷ w ∷ []) ≡ bad)
+    → ((v w x y : List ℕ) (rest : List (List ℕ)) → said (v ∷ w ∷ x ∷ y ∷ rest) ≡ bad) → (words : List (List ℕ)) → None ≡ the_three words → bad ≡ said words
+not_three said bad none one two more [] h = sym none
+not_three said bad none one two more (v ∷ []) h = sym (one v)
+not_three said bad none one two more (v ∷ w ∷ []) h = sym (two v w)
+not_three said bad none one two more (v ∷ w ∷ x ∷ []) h = absurd (cc)
+not_three said bad none one two more (v ∷ w ∷ x ∷ y ∷ rest) h = sym (more v w x y rest)

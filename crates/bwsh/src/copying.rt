@@ -1,6 +1,6 @@
 //! Copies of the store: the copy of `--copy-to`, whose file is opened and checked before anything
 //! runs and which is written last, and the copies that the lines of a stream ask for.
-ghost use Rattle.std.specs.Prelude.{◌≡◌, ◌≤◌, false, None, Ok, IfOk, IfErr, IfSome, IsTrue, IsOkUnless, OnOk};
+ghost use Rattle.std.specs.Prelude.{◌≡◌, ◌≤◌, false, None, Ok, Err, IfOk, IfErr, IfSome, IsTrue, IsOkUnless, OnOk};
 ghost use Rattle.std.specs.Option.{option_map};
 ghost use Rattle.keys.specs.Limits.{first_bad_field};
 ghost use Rattle.mapping.specs.Levels.{contents};
@@ -48,10 +48,23 @@ fn is_free<F: Read + Write + Seek + OpenFile + LockFile + Drop>(file: &F) -> io:
     }
 }
 
-// Opens and locks the file of a copy. Fails, and leaves the file as it was, if the file has any
-// bytes except those of an unfinished store. The file is extended to the copy's length and
-// truncated, so that a file that cannot be extended is found before anything runs (for
-// `--copy-to`). Lack of room is found only when the copy is written.
+// Extends the file to the copy's length and truncates it, so that a file that cannot be extended is
+// found before anything runs (for `--copy-to`). Lack of room is found only when the copy is
+// written. Fails, and leaves the file as it was, if `is_free` returns false.
+fn try_length<F: Read + Write + Seek + OpenFile + LockFile + Drop>(
+    file: &F,
+    settings: Settings,
+) -> io::Result<()>
+    requires good { first_bad_field settings ≡ None }
+{
+    if !is_free(file)? {
+        return Err(ErrorKind::AlreadyExists.into());
+    }
+    file.set_len(disk_size(&settings))?;
+    file.set_len(0)
+}
+
+// Opens, locks and empties the file of a copy.
 fn empty_file<R: Files + Clock, P: Observer>(
     at: &Session<'_, R, P>,
     path: &str,
@@ -62,11 +75,7 @@ where
     requires good { first_bad_field settings ≡ None }
 {
     let file = open_locked(at, path, true, true)?;
-    if !is_free(&file)? {
-        return Err(ErrorKind::AlreadyExists.into());
-    }
-    file.set_len(disk_size(&settings))?;
-    file.set_len(0)?;
+    try_length(&file, settings)?;
     Ok(file)
 }
 
@@ -167,8 +176,36 @@ fn copy_store<R: Threads + Sync, P: Observer, D: Disk, E: Disk>(
     }
 }
 
-// Copies the store into the file. If copying fails, the file is truncated to zero length, if that
-// is still possible.
+// Copies the store to a disk, as `copy_store` does, and closes the copy.
+fn fill_disk<R: Threads + Sync, P: Observer, D: Disk, E: Disk + Drop>(
+    at: &Session<'_, R, P>,
+    store: &Store<D>,
+    disk: E,
+    settings: Settings,
+) -> Result<(), (SessionError, E)>
+    requires good { first_bad_field settings ≡ None }
+    requires room { disk_size settings ≤ (E.view disk).size }
+    ensures refused { IfErr result
+        (λ e. IsCopyEnd settings (contents store.now.store.tree) e.0) }
+{
+    match copy_store(at, store, disk, settings) {
+        Ok(_copy) => Ok(()),
+        Err(refused) => Err(refused),
+    }
+}
+
+// Records why a copy failed, and truncates its file to zero length, if that is still possible.
+fn abandon_copy<R, P: Observer, F>(at: &Session<'_, R, P>, disk: StoreDisk<'_, F, P>)
+where
+    F: Read + Write + Seek + OpenFile + LockFile + Drop,
+{
+    at.notes.record_failure(Source::Copy, disk.reason());
+    if let Base::File(disk) = disk.into_base() {
+        let _emptied = disk.zeroed(0);
+    }
+}
+
+// Copies the store into the file.
 pub(crate) fn copy_into<R: Threads + Sync, P: Observer, D: Disk, F>(
     at: &Session<'_, R, P>,
     store: &Store<D>,
@@ -183,19 +220,16 @@ where
     let Copying { file, settings } = copy;
     let disk = at.copy_failed(disk_with_room(file, &settings))?;
     let disk: StoreDisk<'_, F, P> = at.disk(Base::File(disk));
-    match copy_store(at, store, disk, settings) {
-        Ok(_copy) => Ok(()),
+    match fill_disk(at, store, disk, settings) {
+        Ok(()) => Ok(()),
         Err((error, disk)) => {
-            at.notes.record_failure(Source::Copy, disk.reason());
-            if let Base::File(disk) = disk.into_base() {
-                let _emptied = disk.zeroed(0);
-            }
+            abandon_copy(at, disk);
             Err(error)
         }
     }
 }
 
-pub(crate) fn write_copy<R: Threads + Sync, P: Observer, D: Disk, F>(
+fn write_copy<R: Threads + Sync, P: Observer, D: Disk, F>(
     at: &Session<'_, R, P>,
     store: &Store<D>,
     copy: Option<Copying<F>>,
@@ -212,4 +246,24 @@ where
     at.notes.begin_copy();
     at.report.call_begun(LongCall::Copying);
     copy_into(at, store, copy)
+}
+
+/// Writes the copy, unless an error ended the orders.
+pub(crate) fn copy_after<R: Threads + Sync, P: Observer, D: Disk, F>(
+    at: &Session<'_, R, P>,
+    store: &Store<D>,
+    copy: Option<Copying<F>>,
+    done: Result<(), SessionError>,
+) -> Result<(), SessionError>
+where
+    F: Read + Write + Seek + OpenFile + LockFile + Drop,
+    requires good { IfSome copy (λ c. first_bad_field c.settings ≡ None) }
+    ensures copies { OnOk done (CopiesTo (option_map (λ c. c.settings) copy)
+        (contents store.now.store.tree) result) }
+    ensures failed { IfErr done (λ early. result ≡ Err early) }
+{
+    match done {
+        Ok(()) => write_copy(at, store, copy),
+        Err(early) => Err(early),
+    }
 }

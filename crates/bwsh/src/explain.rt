@@ -81,6 +81,17 @@ fn is_order_fault(fault: &Fault) -> bool {
     )
 }
 
+// Explains that a call on the file or stream `name` failed. `advice` and `done` may be empty.
+fn explain_call(
+    alloc: Global,
+    name: &str,
+    reason: &io::Error,
+    advice: &str,
+    done: &str,
+) -> Result<String, AllocError> {
+    format!(in alloc; "{name}: {reason}.{}{}\n", Sentence(advice), Sentence(done))
+}
+
 // Explains that a batch was refused because its command at `place` has `what`: too long a key or
 // value.
 fn explain_command(
@@ -135,8 +146,7 @@ impl<'a> Notes<'a> {
     ) -> Result<String, AllocError> {
         match (error, self.failure()) {
             (SessionError::Device, Some((_, reason))) => {
-                let advice = Sentence(copy_advice(&reason));
-                format!(in self.alloc; "{path}: {reason}.{advice} {done}\n")
+                explain_call(self.alloc, path, &reason, copy_advice(&reason), done)
             }
             (SessionError::Fault(fault), _) => {
                 format!(in self.alloc; "{path}: {} {done}\n", copy_rule(fault))
@@ -152,10 +162,10 @@ impl<'a> Notes<'a> {
                 "Standard output could not be written. Some answers are missing.\n"
             ),
             Some((Source::File, reason)) => {
-                let advice = Sentence(file_advice(self.asked.copy_to.is_some(), &reason));
-                format!(in self.alloc; "{}: {reason}.{advice}\n", self.store_path())
+                let advice = file_advice(self.asked.copy_to.is_some(), &reason);
+                explain_call(self.alloc, self.store_path(), &reason, advice, "")
             }
-            Some((_, reason)) => format!(in self.alloc; "standard input: {reason}.\n"),
+            Some((_, reason)) => explain_call(self.alloc, "standard input", &reason, "", ""),
         }
     }
 
@@ -280,9 +290,9 @@ impl<'a> Notes<'a> {
 
 // A sentence after a space, or nothing.
 #[derive(Drop)]
-struct Sentence(&'static str);
+struct Sentence<'a>(&'a str);
 
-impl fmt::Display for Sentence {
+impl<'a> fmt::Display for Sentence<'a> {
     fn fmt<W: fmt::Write>(&self, f: &mut fmt::Formatter<W>) -> fmt::Result {
         if self.0.is_empty() {
             return Ok(());

@@ -352,6 +352,9 @@ fn if_alone(parsed: Line, words: &[u8]) -> Line
 {
     match first_word(words) {
         None => parsed,
-        Some(_) => Line::Bad(Why::WordCount),
+        Some(_) => {
+            drop(parsed);
+            Line::Bad(Why::WordCount)
+        }
     }
 }

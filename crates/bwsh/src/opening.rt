@@ -138,8 +138,33 @@ fn recover_store<R: Threads + Sync, P: Observer, D: Disk + LastError + Drop>(
     }
 }
 
+// Opens an existing file. If the session writes nothing, also returns a clone of the open file,
+// which shares its lock.
+fn open_old<R: Files + Clock, P: Observer>(
+    at: &Session<'_, R, P>,
+    path: &str,
+    writes: bool,
+) -> io::Result<(FileDisk<R::File>, Option<R::File>)>
+where
+    R::File: StoreFile,
+{
+    let file = open_locked(at, path, writes, false)?;
+    if writes {
+        return Ok((FileDisk::of_file(file)?, None));
+    }
+    let held = file.try_clone()?;
+    Ok((FileDisk::of_shared(file)?, Some(held)))
+}
+
+fn release<F: StoreFile + Drop>(held: Option<F>) -> io::Result<()> {
+    match held {
+        Some(file) => file.release(),
+        None => Ok(()),
+    }
+}
+
 // Opens the store in an existing file. If the session writes nothing, gives the lock up as soon as
-// the store is in memory, by a clone of the open file, which shares its lock.
+// the store is in memory.
 fn old_store<'a, R: AllocGlobal + Threads + Sync + Files + Clock, P: Observer>(
     at: &Session<'a, R, P>,
     path: &str,
@@ -151,15 +176,10 @@ where
         file) result }
     ensures fine { IfOk result (λ store. store.has_failed ≡ false) }
 {
-    let file = at.file_failed(open_locked(at, path, writes, false))?;
-    if writes {
-        let disk = at.file_failed(FileDisk::of_file(file))?;
-        return recover_store(at, at.disk(Base::File(disk)));
-    }
-    let held = at.file_failed(file.try_clone())?;
-    let disk = at.file_failed(FileDisk::of_shared(file))?;
+    let opened = at.file_failed(open_old(at, path, writes))?;
+    let (disk, held) = opened;
     let store = recover_store(at, at.disk(Base::File(disk)))?;
-    at.file_failed(held.release())?;
+    at.file_failed(release(held))?;
     Ok(store)
 }
 

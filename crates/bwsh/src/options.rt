@@ -1,8 +1,9 @@
 //! The command line: the settings of a new store, the crew, the files and the mode of the session.
-ghost use Rattle.std.specs.Prelude.{◌≡◌, IfOk, IfErr, Some, false, option_map, string_bytes, true};
-ghost use Rattle.clap.specs.Words.{FailsBy, app_of, fault_of, found_of, kind_of, matches_of, one_of, rows_of, rule_of, without_minus};
+ghost use Rattle.std.specs.Prelude.{◌≡◌, IfOk, IfErr, Some, false, map, option_map, string_bytes, true};
+ghost use Rattle.std.specs.List.{fold};
+ghost use Rattle.clap.specs.Words.{FailsBy, app_of, fault_of, found_of, kind_of, matches_of, one_of, rows_of, rule_of, with_rule, without_minus};
 ghost use Rattle.bwsh.specs.Options.{AsksFor, Given, IsRightKind, Text, crew_of, is_given, is_number, number_of, path_of, settings_of, takes_nothing, takes_path, texts, request_of, mode_of};
-ghost use Rattle.bwsh.specs.CommandLine.{AreGivable, bwsh, finished_rows, flag_rule, number_rule, text_rule, with_flags, with_settings, with_work};
+ghost use Rattle.bwsh.specs.CommandLine.{AreGivable, bwsh, finished_rows, flag_rule, number_rule, text_rule, with_work};
 
 mod asked;
 mod help_text;
@@ -13,6 +14,34 @@ use engine::Crew;
 pub use help_text::STREAM_LINES;
 use keys::Settings;
 use std::alloc::{AllocError, Global};
+
+// The name, the default and the help of each option that takes a number, ...
+const SETTINGS: &[(&str, &str, &str)] = &[
+    ("fan", "16", help_text::FAN),
+    ("chain", "4", help_text::CHAIN),
+    ("max-key", "64", help_text::MAX_KEY),
+    ("max-value", "256", help_text::MAX_VALUE),
+    ("seg-size", "65536", help_text::SEG_SIZE),
+    ("segments", "64", help_text::SEGMENTS),
+];
+
+const WORK: &[(&str, &str, &str)] = &[
+    ("workers", "1", help_text::WORKERS),
+    ("grain", "64", help_text::GRAIN),
+    ("tidy", "0", help_text::TIDY),
+    ("wait", "0", help_text::WAIT),
+];
+
+// ... and the name and the help of each that takes no value.
+const FLAGS: &[(&str, &str)] = &[
+    ("create", help_text::CREATE),
+    ("version", help_text::VERSION),
+    ("explain", help_text::EXPLAIN),
+    ("stat", help_text::STAT),
+    ("clean-when-full", help_text::CLEAN_WHEN_FULL),
+    ("stream", help_text::STREAM),
+    ("progress", help_text::PROGRESS),
+];
 
 fn number<'a>(alloc: Global, name: &'a str, default: &'a str, help: &'a str) -> Arg<'a>
     ensures rule { rule_of result ≡ number_rule name.entry.now default.entry.now }
@@ -46,41 +75,40 @@ fn flag<'a>(alloc: Global, name: &'a str, help: &'a str) -> Arg<'a>
         .help(help)
 }
 
-fn add_settings<'a>(alloc: Global, command: Command<'a>) -> Result<Command<'a>, AllocError>
-    ensures { IfOk result (λ c. app_of c ≡ with_settings (app_of command.entry)) }
+fn add_numbers<'a>(
+    alloc: Global,
+    mut command: Command<'a>,
+    numbers: &[(&'a str, &'a str, &'a str)],
+) -> Result<Command<'a>, AllocError>
+    ensures { IfOk result (λ c. app_of c ≡ fold with_rule (app_of command.entry)
+        (map (λ n. number_rule n.0.now n.1.now) numbers.entry.now)) }
 {
-    command
-        .arg(number(alloc, "fan", "16", help_text::FAN))?
-        .arg(number(alloc, "chain", "4", help_text::CHAIN))?
-        .arg(number(alloc, "max-key", "64", help_text::MAX_KEY))?
-        .arg(number(alloc, "max-value", "256", help_text::MAX_VALUE))?
-        .arg(number(alloc, "seg-size", "65536", help_text::SEG_SIZE))?
-        .arg(number(alloc, "segments", "64", help_text::SEGMENTS))
+    for &(name, default, help) in numbers {
+        command = command.arg(number(alloc, name, default, help))?;
+    }
+    Ok(command)
 }
 
 fn add_work<'a>(alloc: Global, command: Command<'a>) -> Result<Command<'a>, AllocError>
     ensures { IfOk result (λ c. app_of c ≡ with_work (app_of command.entry)) }
 {
-    command
-        .arg(number(alloc, "workers", "1", help_text::WORKERS))?
-        .arg(number(alloc, "grain", "64", help_text::GRAIN))?
-        .arg(number(alloc, "tidy", "0", help_text::TIDY))?
-        .arg(number(alloc, "wait", "0", help_text::WAIT))?
+    add_numbers(alloc, command, WORK)?
         .arg(path(alloc, "disk", help_text::DISK))?
         .arg(path(alloc, "copy-to", help_text::COPY_TO))
 }
 
-fn add_flags<'a>(alloc: Global, command: Command<'a>) -> Result<Command<'a>, AllocError>
-    ensures { IfOk result (λ c. app_of c ≡ with_flags (app_of command.entry)) }
+fn add_flags<'a>(
+    alloc: Global,
+    mut command: Command<'a>,
+    flags: &[(&'a str, &'a str)],
+) -> Result<Command<'a>, AllocError>
+    ensures { IfOk result (λ c. app_of c ≡ fold with_rule (app_of command.entry)
+        (map (λ f. flag_rule f.0.now) flags.entry.now)) }
 {
-    command
-        .arg(flag(alloc, "create", help_text::CREATE))?
-        .arg(flag(alloc, "version", help_text::VERSION))?
-        .arg(flag(alloc, "explain", help_text::EXPLAIN))?
-        .arg(flag(alloc, "stat", help_text::STAT))?
-        .arg(flag(alloc, "clean-when-full", help_text::CLEAN_WHEN_FULL))?
-        .arg(flag(alloc, "stream", help_text::STREAM))?
-        .arg(flag(alloc, "progress", help_text::PROGRESS))
+    for &(name, help) in flags {
+        command = command.arg(flag(alloc, name, help))?;
+    }
+    Ok(command)
 }
 
 fn command<'a>(alloc: Global) -> Result<Command<'a>, AllocError>
@@ -90,7 +118,8 @@ fn command<'a>(alloc: Global) -> Result<Command<'a>, AllocError>
         .about(help_text::ABOUT)
         .after_help(help_text::AFTER_OPTIONS)
         .no_binary_name(true);
-    add_flags(alloc, add_work(alloc, add_settings(alloc, plain)?)?)
+    let command = add_work(alloc, add_numbers(alloc, plain, SETTINGS)?)?;
+    add_flags(alloc, command, FLAGS)
 }
 
 fn parse<'a>(alloc: Global, words: &'a [String]) -> Result<ArgMatches<'a>, Error>
@@ -173,8 +202,7 @@ fn mode(matches: &ArgMatches<'_>) -> Mode
 
 /// Parses the words after the program's name. Ranges are checked later, by `Settings::check` (only
 /// for a new store or a copy) and `Crew::check`.
-// This function is not inlined, since its 25 KB of stack would then be held during the whole
-// session.
+// Not inlined, since its large stack frame would then be held during the whole session.
 #[inline(never)]
 pub fn options(alloc: Global, words: &[String]) -> Result<Options, Error>
     ensures ok { IfOk result (λ o. AsksFor (texts words.now) (request_of o)) }

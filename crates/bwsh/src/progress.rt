@@ -3,7 +3,7 @@
 use crate::options::Options;
 use crate::output::{check_open, write_bytes};
 use crate::session::SessionError;
-use std::cell::{Cell, RefCell};
+use std::cell::RefCell;
 use std::fmt::{InlineText, Write as _};
 use std::io::Write;
 use std::time::{Clock, Instant};
@@ -55,24 +55,28 @@ pub struct Silent;
 impl Observer for Silent {}
 
 #[derive(Drop)]
-struct State<'a, E> {
-    err: &'a mut E,
+struct State<'a, 'e, R, E> {
+    rt: &'a R,
+    asked: &'a Options,
+    err: &'e mut E,
     // Whether progress is shown: it was asked for, and no write has failed.
     is_shown: bool,
     // Whether a line is visible.
     has_line: bool,
     // When something was last shown, or when the session began.
     last: Option<Instant>,
+    // How many orders the text has, or `None` for a stream.
+    orders: Option<u64>,
     // How many orders, or batches of a stream, are completed.
     run: u64,
     // The number of the last line.
     line: u64,
     call: Option<LongCall>,
-    // How many segments the call has read or written.
+    // How many segments were read or written since the last call began.
     segments: u64,
 }
 
-impl<'a, E: Write> State<'a, E> {
+impl<'a, 'e, R: Clock, E: Write> State<'a, 'e, R, E> {
     // Replaces the visible line. After a failed write, nothing is shown any more.
     fn show(&mut self, text: &[u8], path: &[u8], rest: &[u8]) {
         if self.is_shown {
@@ -88,10 +92,13 @@ impl<'a, E: Write> State<'a, E> {
         }
     }
 
-    // Returns whether a second has passed since `last`, if there is one; if so, sets `last` to now.
-    // Returns true if there is none, and false if the clock cannot be read.
-    fn is_due<R: Clock>(&mut self, rt: &R) -> bool {
-        let Ok(now) = Instant::now(rt) else {
+    // Returns whether a second has passed since `last`, or true if that is unknown; if so, sets
+    // `last` to now. Returns false if nothing is shown or the clock cannot be read.
+    fn is_due(&mut self) -> bool {
+        if !self.is_shown {
+            return false;
+        }
+        let Ok(now) = Instant::now(self.rt) else {
             return false;
         };
         if let Some(last) = self.last {
@@ -103,15 +110,67 @@ impl<'a, E: Write> State<'a, E> {
         true
     }
 
-    fn show_counts(&mut self, orders: Option<u64>) {
+    fn show_counts(&mut self) {
         let mut text = InlineText::<TEXT>::new();
         let (run, line) = (self.run, self.line);
-        let made = match orders {
+        let made = match self.orders {
             Some(orders) => write!(text, "{run} of {orders} orders run"),
             None => write!(text, "{line} lines read, {run} batches run"),
         };
         if made.is_ok() {
             self.show(text.as_str().as_bytes(), b"", b"");
+        }
+    }
+
+    // Returns the first words about the call, the path of its file, and what is done to segments.
+    fn words(&self, call: LongCall) -> (&'static [u8], &'a str, &'static str) {
+        let (path, text, done): (_, &[u8], _) = match call {
+            LongCall::Opening => (&self.asked.disk, b"opening ", "read"),
+            LongCall::Copying => (&self.asked.copy_to, b"copying to ", "written"),
+        };
+        match path {
+            Some(path) => (text, path, done),
+            None => (text, "", done),
+        }
+    }
+
+    fn begin_call(&mut self, call: LongCall) {
+        self.call = Some(call);
+        self.segments = 0;
+        let (text, path, _) = self.words(call);
+        self.show(text, path.as_bytes(), b"");
+    }
+
+    fn show_segments(&mut self, call: LongCall) {
+        let (text, path, done) = self.words(call);
+        let (segments, mut rest) = (self.segments, InlineText::<TEXT>::new());
+        if write!(rest, ", {segments} segments {done}").is_ok() {
+            self.show(text, path.as_bytes(), rest.as_str().as_bytes());
+        }
+    }
+
+    fn count_segment(&mut self) {
+        self.segments = self.segments.saturating_add(1);
+        if let Some(call) = self.call {
+            if self.is_due() {
+                self.show_segments(call);
+            }
+        }
+    }
+
+    fn count_line(&mut self, line: u64) {
+        self.line = line;
+        if self.asked.mode.stream && line % LINES == 0 && self.is_due() {
+            self.show_counts();
+        }
+    }
+
+    fn count_order(&mut self, is_batch: bool) {
+        if is_batch || !self.asked.mode.stream {
+            self.run = self.run.saturating_add(1);
+        }
+        if self.is_due() {
+            self.show_counts();
         }
     }
 }
@@ -132,11 +191,7 @@ fn write_in_place<E: Write>(
 /// Reports to standard error.
 #[derive(Drop)]
 pub struct Reporter<'a, 'e, R, E> {
-    rt: &'a R,
-    asked: &'a Options,
-    state: RefCell<State<'e, E>>,
-    // How many orders the text has, or `None` for a stream.
-    orders: Cell<Option<u64>>,
+    state: RefCell<State<'a, 'e, R, E>>,
 }
 
 impl<'a, 'e, R: Clock, E: Write> Reporter<'a, 'e, R, E> {
@@ -147,33 +202,21 @@ impl<'a, 'e, R: Clock, E: Write> Reporter<'a, 'e, R, E> {
             return None;
         }
         let state = State {
+            rt,
+            asked,
             err,
             is_shown: asked.mode.progress,
             has_line: false,
             last: Instant::now(rt).ok(),
+            orders: None,
             run: 0,
             line: 0,
             call: None,
             segments: 0,
         };
         Some(Reporter {
-            rt,
-            asked,
             state: RefCell::new(state),
-            orders: Cell::new(None),
         })
-    }
-
-    // Returns the first words about the call, the path of its file, and what is done to segments.
-    fn words(&self, call: LongCall) -> (&'static [u8], &str, &'static str) {
-        let (path, text, done): (_, &[u8], _) = match call {
-            LongCall::Opening => (&self.asked.disk, b"opening ", "read"),
-            LongCall::Copying => (&self.asked.copy_to, b"copying to ", "written"),
-        };
-        match path {
-            Some(path) => (text, path, done),
-            None => (text, "", done),
-        }
     }
 
     /// Erases the line.
@@ -186,28 +229,14 @@ impl<'a, 'e, R: Clock, E: Write> Reporter<'a, 'e, R, E> {
 
 impl<'a, 'e, R: Clock, E: Write> Observer for Reporter<'a, 'e, R, E> {
     fn call_begun(&self, call: LongCall) {
-        let (text, path, _) = self.words(call);
         if let Ok(mut state) = self.state.try_borrow_mut() {
-            state.call = Some(call);
-            state.segments = 0;
-            state.show(text, path.as_bytes(), b"");
+            state.begin_call(call);
         }
     }
 
     fn segment_done(&self) {
-        let Ok(mut state) = self.state.try_borrow_mut() else {
-            return;
-        };
-        let Some(call) = state.call else {
-            return;
-        };
-        state.segments = state.segments.saturating_add(1);
-        if state.is_shown && state.is_due(self.rt) {
-            let (text, path, done) = self.words(call);
-            let (segments, mut rest) = (state.segments, InlineText::<TEXT>::new());
-            if write!(rest, ", {segments} segments {done}").is_ok() {
-                state.show(text, path.as_bytes(), rest.as_str().as_bytes());
-            }
+        if let Ok(mut state) = self.state.try_borrow_mut() {
+            state.count_segment();
         }
     }
 
@@ -218,29 +247,21 @@ impl<'a, 'e, R: Clock, E: Write> Observer for Reporter<'a, 'e, R, E> {
     }
 
     fn line_read(&self, line: u64) {
-        let Ok(mut state) = self.state.try_borrow_mut() else {
-            return;
-        };
-        state.line = line;
-        if self.asked.mode.stream && state.is_shown && line % LINES == 0 && state.is_due(self.rt) {
-            state.show_counts(None);
+        if let Ok(mut state) = self.state.try_borrow_mut() {
+            state.count_line(line);
         }
     }
 
     fn order_done(&self, is_batch: bool) {
-        let Ok(mut state) = self.state.try_borrow_mut() else {
-            return;
-        };
-        if is_batch || !self.asked.mode.stream {
-            state.run = state.run.saturating_add(1);
-        }
-        if state.is_shown && state.is_due(self.rt) {
-            state.show_counts(self.orders.get());
+        if let Ok(mut state) = self.state.try_borrow_mut() {
+            state.count_order(is_batch);
         }
     }
 
     fn orders_counted(&self, orders: u64) {
-        self.orders.set(Some(orders));
+        if let Ok(mut state) = self.state.try_borrow_mut() {
+            state.orders = Some(orders);
+        }
     }
 
     fn write(&self, line: &[u8]) {

@@ -208,13 +208,13 @@ fn run_clean<R: Threads + Sync, D: Disk, O: Write>(
 fn run_row<R: Threads + Sync, D: Disk, O: Write>(
     at: &Context<'_, R>,
     store: &mut Store<D>,
-    reading: &mut Option<Reading>,
+    mut reading: Option<Reading>,
     row: u32,
     most: u32,
     out: &mut O,
 ) -> Result<u32, SessionError>
     requires fine { store.old.has_failed ≡ false }
-    requires read { IfSome reading.old (IsReadFor D.view store.old) }
+    requires read { IfSome reading (IsReadFor D.view store.old) }
     ensures runs { (mode : Mode) → mode.clean_when_full ≡ true →
         (under : mapped.Store) → (by : TidiesTo mode store.old.settings under store.old.store) →
         CleansRun D.view O.contents mode most row by.tidying under store.old out.old result
@@ -228,7 +228,7 @@ fn run_row<R: Threads + Sync, D: Disk, O: Write>(
         if due == 0 || more == 0 {
             return Ok(more);
         }
-        if let Err(refused) = run_clean(at, store, reading, out) {
+        if let Err(refused) = run_clean(at, store, &mut reading, out) {
             return cleans_after_refusal(refused);
         }
         due -= 1;
@@ -361,7 +361,7 @@ fn clean_if_worth<R: Threads + Sync, D: Disk, O: Write>(
         return Ok(segments);
     }
     let row = row_of_cleans(segments);
-    run_row(at, store, &mut Some(reading), row, segments, out)
+    run_row(at, store, Some(reading), row, segments, out)
 }
 
 // Before the flush is tried, cleans an eighth of the segments if few are free, the cleans are worth
@@ -424,7 +424,7 @@ fn clean_if_due<R: Threads + Sync, D: Disk, O: Write>(
         return Ok(None);
     }
     let row = row_of_cleans(store.settings().segments);
-    let more = run_row(at, store, &mut Some(reading), row, most, out)?;
+    let more = run_row(at, store, Some(reading), row, most, out)?;
     Ok(Some(more))
 }
 
@@ -495,9 +495,10 @@ fn flush_or_clean<R: Threads + Sync, D: Disk, O: Write>(
         if left == 0 || !is_full(&done) {
             return done;
         }
+        drop(done);
         match clean_ahead(at, store, kept.take(), left, out)? {
             Some(more) => left = more,
-            None => return done,
+            None => return Err(SessionError::Fault(Fault::Full)),
         }
     }
 }

@@ -21,7 +21,7 @@ ghost use Rattle.bwsh.specs.Source.{IsToCome};
 
 use crate::asks::answer;
 use crate::context::Session;
-use crate::copying::{prepare_copy, write_copy};
+use crate::copying::{copy_after, prepare_copy};
 use crate::disk::{LastError, StoreFile};
 use crate::line::Why;
 use crate::notes::{Notes, Source};
@@ -179,8 +179,11 @@ where
         let Some(order) = source.next(at)? else {
             return Ok(());
         };
-        answer(at, store, &order, out)?;
-        at.report.order_done(matches!(order, Order::Batch(_)));
+        let is_batch = matches!(order, Order::Batch(_));
+        let done = answer(at, store, &order, out);
+        drop(order);
+        done?;
+        at.report.order_done(is_batch);
     }
     // Reached only after 2^64 - 1 orders.
     Err(SessionError::Device)
@@ -209,6 +212,7 @@ where
     let last = mode.stat.then_some(Order::Numbers);
     let mut source = lines::Source::new(at.calls.alloc, input, mode.stream, last);
     let done = run_orders(at, store, &mut source, out);
+    drop(source);
     if done.is_err() {
         at.notes.record_failure(Source::File, store.disk().reason());
     }
@@ -231,8 +235,8 @@ where
 {
     let copy = prepare_copy(at)?;
     let mut store = open_store(at, writes)?;
-    run_opened(at, &mut store, input, out)?;
-    write_copy(at, &store, copy)
+    let done = run_opened(at, &mut store, input, out);
+    copy_after(at, &store, copy, done)
 }
 
 // Runs a session whose text is read and checked before anything runs.
@@ -280,26 +284,14 @@ where
     }
 }
 
-/// Runs the session that `notes.asked` asks for, and writes the answers to `out`.
-///
-/// Without `--stream`, the session ends at the first fault, and `out` has the answers of the orders
-/// before it; if a device failed, some prefix of all answers. Errors are found in this order: a bad
-/// line, a closed output, a crew out of range, errors of the copy's settings and file, errors of
-/// the store's settings and file, faults of the orders, faults of the copy. If flushing `out`
-/// fails, this error replaces an earlier one.
-///
-/// With `--stream`, an order that is refused is answered by one line that begins with `fault`, and
-/// a bad line by one that begins with `line`. The store then holds the pairs that it held, and the
-/// stream goes on. Cleans that `--clean-when-full` adds are answered like the client's own. The
-/// session ends with an error only if it cannot start (a crew or settings out of range, a file, an
-/// allocation), if the store's disk, the input or the output fails, or if the copy at its end does.
-/// If the store's disk failed, the last line is `fault 9 Device`.
-///
-/// The store's file is locked exclusively if an order writes, if the file is created, or for a
-/// stream. Otherwise the lock is shared, the file is only read, and the lock is given up as soon as
-/// the store is in memory. A file that cannot be opened or locked, or, without `--create`, that
-/// holds no store, is left as it was. If the length of a created file cannot be set,
-/// `FileDisk::of_zeros` says what the file holds; after a later failure, its old contents are lost.
+// Runs the session that `notes.asked` asks for, and writes the answers to `out`.
+//
+// Without `--stream`, errors are found in this order: a bad line, a closed output, a crew out of
+// range, errors of the copy's settings and file, errors of the store's settings and file, faults of
+// the orders, faults of the copy. If flushing `out` fails, this error replaces an earlier one.
+//
+// With `--stream`, the session ends with an error only if it cannot start, if the store's disk, the
+// input or the output fails, or if the copy at its end does.
 fn run<R: AllocGlobal + Threads + Sync + Files + Clock, P: Observer, I: Read, O: Write>(
     rt: &R,
     notes: &Notes<'_>,

@@ -1,12 +1,13 @@
 //! Printing answers.
 ghost use Rattle.std.specs.Prelude.{◌≡◌, ◌∷◌, ◌++◌, [], codes, map, Some, Ok, IfSome, OnOk, OnErr, IsOkUnless, false, true};
+ghost use Rattle.std.specs.Fmt.{WritesOnOk};
 ghost use Rattle.std.specs.List.{flat_map};
 ghost use Rattle.std.specs.Io.KnownBytes.{Appends};
 ghost use Rattle.keys.specs.Bytes.{Bytes};
 ghost use Rattle.engine.specs.Plays.{answer_of};
 ghost use Rattle.bwsh.specs.Output.{IsBegun, Puts, Writes};
 ghost use Rattle.bwsh.specs.Session.{error_text, fault_line};
-ghost use Rattle.bwsh.specs.Shown.{number_line, shown_answer, shown_reply, shown_row};
+ghost use Rattle.bwsh.specs.Shown.{number_line, shown_answer, shown_numbers, shown_reply, shown_row, shown_settings};
 ghost use Rattle.bwsh.specs.Token.{shown_token};
 
 use crate::output::{Buffer, write_bytes};
@@ -75,39 +76,47 @@ impl fmt::Display for NumberLine {
                 } = *report;
                 writeln!(f, "ok {pages} {height} {pairs}")
             }
-            NumberLine::Numbers(numbers) => {
-                let StoreNumbers {
-                    sequence,
-                    head,
-                    tail,
-                    in_use,
-                    segments,
-                    pages,
-                    pairs,
-                } = *numbers;
-                write!(f, "stat sequence {sequence} head {head} tail {tail}")?;
-                writeln!(
-                    f,
-                    " segments {in_use} of {segments} pages {pages} pairs {pairs}"
-                )
-            }
-            NumberLine::Settings(settings) => {
-                let Settings {
-                    fan,
-                    chain,
-                    max_key,
-                    max_value,
-                    seg_size,
-                    segments,
-                } = *settings;
-                write!(f, "settings fan {fan} chain {chain} max-key {max_key}")?;
-                writeln!(
-                    f,
-                    " max-value {max_value} seg-size {seg_size} segments {segments}"
-                )
-            }
+            NumberLine::Numbers(numbers) => write_numbers(numbers, f),
+            NumberLine::Settings(settings) => write_settings(settings, f),
         }
     }
+}
+
+fn write_numbers<W: fmt::Write>(numbers: &StoreNumbers, f: &mut fmt::Formatter<W>) -> fmt::Result
+    ensures { WritesOnOk W.write_str_gives f.old result (shown_numbers numbers.now) f.new }
+{
+    let StoreNumbers {
+        sequence,
+        head,
+        tail,
+        in_use,
+        segments,
+        pages,
+        pairs,
+    } = *numbers;
+    write!(f, "stat sequence {sequence} head {head} tail {tail}")?;
+    writeln!(
+        f,
+        " segments {in_use} of {segments} pages {pages} pairs {pairs}"
+    )
+}
+
+fn write_settings<W: fmt::Write>(settings: &Settings, f: &mut fmt::Formatter<W>) -> fmt::Result
+    ensures { WritesOnOk W.write_str_gives f.old result (shown_settings settings.now) f.new }
+{
+    let Settings {
+        fan,
+        chain,
+        max_key,
+        max_value,
+        seg_size,
+        segments,
+    } = *settings;
+    write!(f, "settings fan {fan} chain {chain} max-key {max_key}")?;
+    writeln!(
+        f,
+        " max-value {max_value} seg-size {seg_size} segments {segments}"
+    )
 }
 
 impl Buffer {

@@ -78,7 +78,9 @@ pub fn check(alloc: Global, text: &[u8]) -> Result<Checked, SessionError>
     for bytes in text.lines() {
         number += 1;
         let line = reader.read(bytes, false);
-        checked.count(number, &line)?;
+        let counted = checked.count(number, &line);
+        drop(line);
+        counted?;
     }
     let is_pending = checked.is_pending;
     checked.end_batch(u64::from(is_pending));

@@ -69,3 +69,21 @@ returns-clause-most g c =
 pub returns-clause-read : goal.returns-clause-read
 returns-clause-read g c =
     OnOk-always c.run_row.result (subst (λ (k : Option PagesRead). IfSome k (IsReadAhead g.D.Disk.view c.run_row.new.store)) (sym c.requires.none) tt)
+
+pub returns-in_err-is_early-clause-calm : goal.returns-in_err-is_early-clause-calm
+returns-in_err-is_early-clause-calm g c = let p = err_from_is_err_and c.from_residual.result c.from_residual.ensures.1 in rw p.1 tt
+
+pub returns-in_err-is_early-clause-most : goal.returns-in_err-is_early-clause-most
+returns-in_err-is_early-clause-most g c = let p = err_from_is_err_and c.from_residual.result c.from_residual.ensures.1 in rw p.1 tt
+
+pub returns-in_err-is_early-clause-read : goal.returns-in_err-is_early-clause-read
+returns-in_err-is_early-clause-read g c = let p = err_from_is_err_and c.from_residual.result c.from_residual.ensures.1 in rw p.1 tt
+
+pub returns-in_err-is_early-clause-rest : goal.returns-in_err-is_early-clause-rest
+returns-in_err-is_early-clause-rest g c = ((refl, refl, λ other. refl), refl)
+
+pub returns-then-not-branch-clause-rest : goal.returns-then-not-branch-clause-rest
+returns-then-not-branch-clause-rest g c = ((refl, refl, λ other. refl), refl)
+
+pub returns-clause-rest : goal.returns-clause-rest
+returns-clause-rest g c = c.run_row.ensures.rest

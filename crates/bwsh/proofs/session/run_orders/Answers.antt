@@ -37,18 +37,18 @@ returns-in_default g c =
     Continues-done c.args.at.now.calls.mode disk.is_honest store.settings store.store at.store.store disk.seen (g.D.Disk.view at.store.disk).seen
     (IsToCome known c.args.source.now) (IsToCome known at.source) (g.O.Write.contents c.args.out.now) (g.O.Write.contents at.out) at.invariant.continues (rw c.in_default.is at c.in_ok-order.ensures.next)
 
-pub returns-in_err-answer : goal.returns-in_err-answer
-returns-in_err-answer g c =
+pub returns-in_err-done : goal.returns-in_err-done
+returns-in_err-done g c =
     let store = c.args.store.now in
     let disk = g.D.Disk.view store.disk in
     let known = g.I.Read.remaining in
     let at = c.loop in
     let now = g.D.Disk.view at.store.disk in
-    let run = c.answer.new in
-    let p = err_from_is_err_and c.from_residual-in_err-answer.result c.from_residual-in_err-answer.ensures.1 in
+    let run = c.answer-done.new in
+    let p = err_from_is_err_and c.from_residual-in_err-done.result c.from_residual-in_err-done.ensures.1 in
     rw (p.1, p.2) (Continues-stops c.args.at.now.calls.mode disk.is_honest store.settings store.store at.store.store disk.seen now.seen (IsToCome known c.args.source.now) (IsToCome known at.source)
     (g.O.Write.contents c.args.out.now) (g.O.Write.contents at.out) at.invariant.continues c.in-Some.order (IsToCome known c.next.new.self) (rw c.in-Some.is at c.in_ok-order.ensures.next)
-    now.is_honest at.invariant.honest at.store.settings at.invariant.settings (g.O.Write.contents run.out) _ run.store.store (g.D.Disk.view run.store.disk).seen c.in_err-answer.ensures.runs _ refl
+    now.is_honest at.invariant.honest at.store.settings at.invariant.settings (g.O.Write.contents run.out) _ run.store.store (g.D.Disk.view run.store.disk).seen c.answer-done.ensures.runs _ c.in_err-done.was
     (some_to_come known c.next.new.self) (contents run.store.store.tree))
 
 pub loop-preserved : goal.loop-preserved
@@ -58,15 +58,16 @@ loop-preserved g c =
     let known = g.I.Read.remaining in
     let at = c.loop in
     let now = g.D.Disk.view at.store.disk in
-    let run = c.answer.new in
-    let rest = c.in_ok-answer.ensures.rest in
+    let run = c.answer-done.new in
+    let rest = c.answer-done.ensures.rest in
+    let was = c.in_ok-done.was in
     record {
       settings = rest.0 ∙ at.invariant.settings;
       honest = rest.1 ∙ at.invariant.honest;
-      fine = rest.2 (λ e. cc) ∙ at.invariant.fine;
+      fine = rest.2 (λ e. absurd (cc)) ∙ at.invariant.fine;
       continues = Continues-next c.args.at.now.calls.mode disk.is_honest store.settings store.store at.store.store disk.seen now.seen (IsToCome known c.args.source.now) (IsToCome known at.source)
           (g.O.Write.contents c.args.out.now) (g.O.Write.contents at.out) at.invariant.continues c.in-Some.order (IsToCome known c.next.new.self) (rw c.in-Some.is at c.in_ok-order.ensures.next)
-          now.is_honest at.invariant.honest at.store.settings at.invariant.settings (g.O.Write.contents run.out) _ run.store.store (g.D.Disk.view run.store.disk).seen c.in_ok-answer.ensures.runs _ refl;
+          now.is_honest at.invariant.honest at.store.settings at.invariant.settings (g.O.Write.contents run.out) _ run.store.store (g.D.Disk.view run.store.disk).seen c.answer-done.ensures.runs _ was;
     }
 
 -- the orders are too many

@@ -1,12 +1,14 @@
-use Rattle.std.proofs.Common.{Option, Ok, Err, refl, subst}
-use Rattle.std.specs.Prelude.{IsTrue}
+use Rattle.std.proofs.Common.{◌≡◌, Option, Ok, Err, subst}
+use Rattle.std.specs.Prelude.{IfErr, IsTrue, OnOk}
 use Rattle.std.proofs.lemmas.Result.{err_from_is_err_and}
 use Rattle.crew.specs.Crew.{is_crew}
 use Rattle.crew.specs.declared.limits.Crew.{Crew}
+use Rattle.keys.specs.Bytes.{Bytes, Pairs}
 use Rattle.keys.specs.declared.settings.Settings.{Settings}
 use Rattle.mapping.specs.Levels.{contents}
-use Rattle.bwsh.specs.Options.{request_of}
+use Rattle.bwsh.specs.Options.{copy_of, request_of}
 use Rattle.bwsh.specs.Session.{CopiesTo}
+use Rattle.bwsh.proofs.CopiedLemmas.{End, IsLeft}
 use Rattle.bwsh.proofs.EndLemmas.{RunsRead-uncopied, RunsRead-unopened, RunsRead-run}
 use Rattle.bwsh.proofs.session.run_source.Goals as goal
 
@@ -23,19 +25,10 @@ returns-in_err-store g c =
     let p = err_from_is_err_and c.from_residual-in_err-store.result c.from_residual-in_err-store.ensures.1 in
     rw (p.1, p.2) (RunsRead-unopened (request_of c.args.at.now.asked.now) (g.I.Read.remaining c.args.input) crew c.in_ok-copy.ensures.admitted (g.O.Write.contents c.args.out.now) _ start is why)
 
-pub returns-in_err-run_opened : goal.returns-in_err-run_opened
-returns-in_err-run_opened g c =
-    let request = request_of c.args.at.now.asked.now in
-    let mode = c.args.at.now.calls.mode in
-    let crew = subst (λ (crew : Crew). IsTrue (is_crew crew)) c.requires.crew c.args.at.now.calls.crew_in_range in
-    let store = c.in_ok-store.store in
-    let (start, is, opens, honest) = c.in_ok-store.ensures.opens in
-    let (file, start_is, seen_is) = opens in
-    let run = c.run_opened.new in
-    let (parsed, read, runs) = c.in_err-run_opened.ensures in
-    let p = err_from_is_err_and c.from_residual-in_err-run_opened.result c.from_residual-in_err-run_opened.ensures.1 in
-    rw (p.1, p.2) (RunsRead-run request (g.I.Read.remaining c.args.input) crew c.in_ok-copy.ensures.admitted store.settings store.store file _ _ start is start_is seen_is honest mode c.requires.mode
-    parsed read (g.O.Write.contents c.args.out.now) (g.O.Write.contents run.out) (Err _) (Err _) run.store.store runs refl)
+-- the copy follows, unless an error ended the orders
+left_by : (copy asked : Option Settings) (held : Pairs Bytes) (done end : End) → copy ≡ asked → OnOk done (CopiesTo copy held end) → IfErr done (λ early. end ≡ Err early) → IsLeft asked held done end
+left_by copy asked held (Ok u) end is copies failed = subst (λ (c : Option Settings). CopiesTo c held end) is copies
+left_by copy asked held (Err early) end is copies failed = failed
 
 pub returns : goal.returns
 returns g c =
@@ -45,8 +38,8 @@ returns g c =
     let store = c.in_ok-store.store in
     let (start, is, opens, honest) = c.in_ok-store.ensures.opens in
     let (file, start_is, seen_is) = opens in
-    let run = c.run_opened.new in
-    let (parsed, read, runs) = c.in_ok-run_opened.ensures in
+    let run = c.run_opened-done in
+    let (parsed, read, runs) = run.ensures in
     RunsRead-run request (g.I.Read.remaining c.args.input) crew c.in_ok-copy.ensures.admitted store.settings store.store file _ _ start is start_is seen_is honest mode c.requires.mode
-    parsed read (g.O.Write.contents c.args.out.now) (g.O.Write.contents run.out) (Ok tt) c.write_copy.result run.store.store runs
-    (subst (λ (copy : Option Settings). CopiesTo copy (contents run.store.store.tree) c.write_copy.result) c.in_ok-copy.ensures.asked c.write_copy.ensures.copies)
+    parsed read (g.O.Write.contents c.args.out.now) (g.O.Write.contents run.new.out) run.result c.copy_after.result run.new.store.store runs
+    (left_by _ (copy_of request) (contents run.new.store.store.tree) run.result c.copy_after.result c.in_ok-copy.ensures.asked c.copy_after.ensures.copies c.copy_after.ensures.failed)

@@ -32,29 +32,37 @@ loop-bytes-preserved c =
     let said : Line = parse_line false c.in-Some.bytes.now in
     let left : List Line = map (parse_line false) rest in
     let lines : said ∷ left ≡ map (parse_line false) at.bytes-iterator = sym (ap (map (parse_line false)) split) in
-    let ok = c.in_ok-count.ensures in
-    let same = read_within said c.read-line.result c.read-line.ensures ok.within in
+    let counted = c.in_ok-counted.was in
+    let within = rw counted at c.count-counted.ensures.within in
+    let writes = rw counted at c.count-counted.ensures.writes in
+    let same = read_within said c.read-line.result c.read-line.ensures within in
     record {
       numbered = omega (arith, inv.numbered, ap length split);
       good =
-          sym (first_bad-next (at.number + 1) said c.read-line.result left c.read-line.ensures ok.within)
+          sym (first_bad-next (at.number + 1) said c.read-line.result left c.read-line.ensures within)
           ∙ ap (first_bad (at.number + 1)) lines ∙ inv.good;
       writes =
           writes-next at.checked.writes _ said left _ (ap (λ (ls : List Line). at.checked.writes || list_any line_writes ls) lines ∙ inv.writes)
-          (ok.writes ∙ ap (λ (l : Line). at.checked.writes || line_writes l) same);
+          (writes ∙ ap (λ (l : Line). at.checked.writes || line_writes l) same);
     }
 
-pub returns-in_err-count-clause-bad : goal.returns-in_err-count-clause-bad
-returns-in_err-count-clause-bad c =
+pub returns-in_err-counted-clause-bad : goal.returns-in_err-counted-clause-bad
+returns-in_err-counted-clause-bad c =
     let at = c.loop-bytes in
     let rest : List (List ℕ) = c.next.new.self in
     let split : at.bytes-iterator ≡ c.in-Some.bytes.now ∷ rest = c.in-Some.ensures.steps in
     let said : Line = parse_line false c.in-Some.bytes.now in
     let left : List Line = map (parse_line false) rest in
     let lines : said ∷ left ≡ map (parse_line false) at.bytes-iterator = sym (ap (map (parse_line false)) split) in
-    let error = c.in_err-count.field-0.0 in
+    let error = c.in_err-counted.field-0.0 in
     handed_on c.from_residual.result error (IsReadError (first_bad 1 (parse_text false c.args.text.now))) c.from_residual.ensures.1
-    (read_error (at.number + 1) said c.read-line.result left _ error c.read-line.ensures (ap (first_bad (at.number + 1)) lines ∙ at.invariant.good) c.in_err-count.ensures.bad)
+    (read_error (at.number + 1) said c.read-line.result left _ error c.read-line.ensures (ap (first_bad (at.number + 1)) lines ∙ at.invariant.good) (rw c.in_err-counted.was at c.count-counted.ensures.bad))
+
+pub returns-clause-good : goal.returns-clause-good
+returns-clause-good c =
+    let at = c.loop-bytes in
+    let none : at.bytes-iterator ≡ [] = c.in-None.ensures.steps.0 in
+    sym at.invariant.good ∙ ap (λ (lines : List (List ℕ)). first_bad (at.number + 1) (map (parse_line false) lines)) none
 
 pub returns-clause-writes : goal.returns-clause-writes
 returns-clause-writes c =

@@ -1,6 +1,17 @@
 use Rattle.std.proofs.Common.{refl}
-use Rattle.bwsh.proofs.WordLemmas.{the_three_are}
+use Rattle.std.specs.Prelude.{Err}
+use Rattle.bwsh.specs.declared.line.Why.TheVariants.{WordCount}
+use Rattle.bwsh.specs.Line.{range_and_limit}
+use Rattle.bwsh.proofs.WordLemmas.{not_three, the_three_are}
 use Rattle.bwsh.proofs.line.LineReader.range.Goals as goal
+
+pub returns-in_default : goal.returns-in_default
+returns-in_default c = not_three range_and_limit (Err WordCount) refl (λ v. refl) (λ v w. refl) (λ v w x y rest. refl) _ c.in_default.ensures
+
+pub returns-in_default-2 : goal.returns-in_default-2
+returns-in_default-2 c =
+    let none = c.in_default-2.is in
+    rw (the_three_are _ _ _ _ c.in-Some.ensures, ← c.in_ok-lo.ensures, none) refl
 
 pub returns-in_default-3 : goal.returns-in_default-3
 returns-in_default-3 c =
