@@ -5,7 +5,8 @@
 Each file `bodies/CRATE/NAME.edit` changes the body of one function, and describes the change in its first line. `file:` names the source; each
 `old:` is a text that occurs there once, and `new:` replaces it. `function:` is the function's name as the prover prints it. `refused:` is the goal
 or clause at which the prover must refuse the function, and `accepted:` marks a control, which it must accept. Only the changed functions are
-checked: the gate has proved the others, and holes stand for their answers. So a control must be of a function that calls none of these.
+checked: the gate has proved the others, so here they lose their bodies, and terms that the prover refuses stand for their proofs. So a control must
+be of a function that calls none of these.
 """
 
 import os
@@ -15,6 +16,7 @@ import subprocess
 import sys
 import tempfile
 import time
+from collections.abc import Iterator
 from concurrent.futures import ThreadPoolExecutor
 from dataclasses import dataclass
 from pathlib import Path
@@ -25,11 +27,16 @@ TOP = Path(__file__).resolve().parent.parent
 EDITS = Path(__file__).resolve().parent / "bodies"
 PARTS = ("src", "specs", "proofs")
 PROOF_FILES = ("Answers.antt", "Invariants.antt")
-HOLE = """use Rattle.{crate}.proofs.{path}.Statement.{{statement}}
+REFUSED_PROOF = """use Rattle.{crate}.proofs.{path}.Statement.{{statement}}
 
 pub {name}_spec : {{M : Type 1}} → statement M
-{name}_spec = ?
+{name}_spec = unproved
 """
+TYPE = re.compile(r"^(?:pub(?:\(\w+\))? )?(?:struct|enum) (\w+)", re.MULTILINE)
+# A type's own methods, if the type has no parameters but the block's.
+IMPL = re.compile(r"impl(?:<.*>)? (\w+)(?:<'?\w(?:, '?\w)*>)? \{")
+BLOCK = re.compile(r"(?:pub(?:\(\w+\))? )?(?:impl|trait)\b")
+FUNCTION = re.compile(r"((?:    )?)(?:pub(?:\(\w+\))? )?fn (\w+)")
 # An error at a proof step that cites a name which the edit removed.
 OF_FORM = re.compile(r"has no field|is not in scope|has no `|was not admitted|depends on")
 
@@ -117,16 +124,70 @@ def fits(edit: Edit, group: list[Edit]) -> bool:
     return edit.function not in {other.function for other in group}
 
 
-def leave_out_proofs(folder: Path, crate: str, kept: set[str]) -> None:
-    """Replaces each function's proof files by a hole, but for these functions."""
+@dataclass(frozen=True)
+class Function:
+    name: str  # as the prover prints it
+    body: slice  # its lines
+
+
+def functions_of(lines: list[str], module: str, modules: dict[str, str]) -> Iterator[Function]:
+    """Yields the formatted functions of a module, and the methods that it gives to types of these modules, without those of a trait and those that
+    call one another."""
+    holders: dict[str, str | None] = {"": module, "    ": None}
+    for at, line in enumerate(lines):
+        if BLOCK.match(line):
+            kind = IMPL.fullmatch(line)
+            holders["    "] = f"{modules[kind[1]]}{kind[1]}::" if kind and kind[1] in modules else None
+        found = FUNCTION.match(line)
+        if found and (holder := holders[found[1]]) is not None and not lines[at - 1].lstrip().startswith("#[cycle"):
+            body = body_of(lines, at, found[1])
+            if body:
+                yield Function(holder + found[2], body)
+
+
+def body_of(lines: list[str], at: int, indent: str) -> slice | None:
+    """Returns the lines between the braces of the function that begins here, unless the braces are on one line."""
+    ends = (f"{indent}{{", f"{indent})")
+    begin = next(i for i in range(at, len(lines)) if lines[i].endswith(("{", "{}")) and (i == at or lines[i].startswith(ends)))
+    return slice(begin + 1, lines.index(f"{indent}}}", begin)) if lines[begin].endswith("{") else None
+
+
+def module_of(file: Path) -> str:
+    """Returns the path of a module, below `src`, before the names in it."""
+    parts = file.with_suffix("").parts
+    return "" if file.name in ("lib.rt", "main.rt") else "::".join(parts) + "::"
+
+
+def leave_out_bodies(folder: Path, kept: set[str]) -> list[str]:
+    """Removes the bodies of functions, but for these and those that call themselves, and returns the names of those that have none now."""
+    source, proofs = folder / "src", folder / "proofs"
+    recursive = {"::".join(file.relative_to(proofs).parts).replace("+", "") for file in proofs.rglob("+*")}
+    texts = {file: file.read_text() for file in sorted(source.rglob("*.rt"))}
+    modules = {name: module_of(file.relative_to(source)) for file, text in texts.items() for name in TYPE.findall(text)}
+    left_out = []
+    for file, text in texts.items():
+        lines = text.splitlines()
+        functions = [it for it in functions_of(lines, module_of(file.relative_to(source)), modules) if it.name not in kept | recursive]
+        for function in reversed(functions):
+            lines[function.body] = ["unreachable!()"]
+        file.write_text("\n".join(lines) + "\n")
+        left_out += [function.name for function in functions]
+    return left_out
+
+
+def leave_out_proofs(folder: Path, crate: str, left_out: list[str], kept: set[str]) -> None:
+    """Replaces the proof of each function that is left out or has proof files, but for the kept ones, by a term that the prover refuses. A hole would
+    do, but the prover prints its goal, which takes seconds."""
     proofs = folder / "proofs"
-    for function in sorted({file.parent for name in PROOF_FILES for file in proofs.rglob(name)}):
+    with_files = {file.parent for name in PROOF_FILES for file in proofs.rglob(name)}
+    for function in with_files | {proofs.joinpath(*name.split("::")) for name in left_out}:
         path = ".".join(function.relative_to(proofs).parts)
         if path.replace(".", "::") in kept:
             continue
+        function.mkdir(parents=True, exist_ok=True)
         for name in PROOF_FILES:
             (function / name).unlink(missing_ok=True)
-        (function / "Proof.antt").write_text(HOLE.format(crate=crate, path=path, name=function.name))
+        (function / "Proof.antt").write_text(REFUSED_PROOF.format(crate=crate, path=path, name=function.name))
 
 
 def run_check(workspace: kit.Workspace, crate: str, folder: Path, functions: list[str]) -> tuple[int, str, float]:
@@ -177,8 +238,8 @@ def check_group(workspace: kit.Workspace, group: list[Edit]) -> list[Verdict]:
         for part in PARTS:
             if (workspace.top / "crates" / crate / part).is_dir():
                 shutil.copytree(workspace.top / "crates" / crate / part, folder / part)
-        leave_out_proofs(folder, crate, set(functions))
         wrong = {edit.label: edit.apply(folder) for edit in group}
+        leave_out_proofs(folder, crate, leave_out_bodies(folder, set(functions)), set(functions))
         status, printed, seconds = run_check(workspace, crate, folder, functions)
     return [Verdict(edit, wrong[edit.label] or error_of(edit, status, printed), group[0].label, seconds) for edit in group]
 
