@@ -1,0 +1,36 @@
+//! The store: a tree of pages on which batches of commands are executed, and its log on a disk, to which it is flushed, which is
+//! cleaned, and which can be upgraded.
+//! Other crates name items by this root, and laws by the public modules `laws` and `step_laws`.
+#![tactic(auto)]
+
+mod execute;
+mod execute_one;
+mod explain;
+mod file_store;
+mod hidden_disk;
+pub mod laws;
+mod leaf_tasks;
+mod leaves;
+mod ordered_store;
+mod reads;
+mod refusal;
+mod step;
+pub mod step_laws;
+mod store;
+mod unfinished;
+
+pub use crate::explain::{ExplainedFault, ExplainedOpenFault, file_remedy, meaning, remedy};
+pub use crate::file_store::{OpenFault, open_or_create};
+pub use crate::ordered_store::{
+    OrderedStore, SnapshotDisk, SnapshotStore, play, put_then_get, put_then_get_in_memory,
+    put_twice_then_get,
+};
+pub use crate::step::{Answer, Step};
+pub use crate::store::Store;
+pub use crate::unfinished::is_unfinished;
+pub use crew::{BadCrew, Crew, Gate, NoGate};
+pub use flush_log::{
+    CrashDisk, Disk, DiskFault, Failing, FaultDisk, FileDisk, Fill, LockFile, MemDisk,
+};
+pub use scan::{Rows, RowsBack};
+pub use verify::Report;

@@ -1,0 +1,13 @@
+pub mod Descent
+pub mod Due
+pub mod Finding
+pub mod Flushed
+pub mod FreshPids
+pub mod Levels
+pub mod LogState
+pub mod Outdate
+pub mod Proper
+pub mod Slots
+pub mod Table
+pub mod Tree
+pub mod TreeInMemory

@@ -1,0 +1,14 @@
+pub mod Direction
+pub mod Edge
+pub mod Ends
+pub mod Leaf
+pub mod Merge
+pub mod Path
+pub mod Prefix
+pub mod Rows
+pub mod RunPlace
+pub mod Search
+pub mod Taken
+pub mod Tally
+pub mod Walk
+pub mod Ways

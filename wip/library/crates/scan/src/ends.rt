@@ -1,0 +1,332 @@
+//! The keys at which a batch's scans may end, since before them there are certainly as many rows as each may have. So a scan
+//! goes only to the leaves before its end, and not to each that its range meets.
+ghost use Rattle.std.specs.Prelude.{◌≡◌, ◌≤◌, ◌&&◌, [], true, Some, map, min, IfOk, IfSome};
+ghost use Rattle.std.specs.Map.{keys_of};
+ghost use Rattle.std.specs.Option.{option_copied};
+ghost use Rattle.keys.specs.Bytes.{Bytes, Pairs};
+ghost use Rattle.keys.specs.Narrowed.{IsEnough, MayEndAt, MayEndAtAll};
+ghost use Rattle.keys.specs.Range.{is_before, is_below, in_range};
+ghost use Rattle.delta_chain.specs.Layers.{entries_of};
+ghost use Rattle.mapping.specs.Levels.{levels_of, names, contents};
+ghost use Rattle.mapping.specs.Proper.{AreLevels, HoldsItsLevels};
+ghost use Rattle.mapping.specs.Tree.{most_levels};
+ghost use Rattle.mapping.specs.TreeInMemory.{AreAllHome, tree_of};
+ghost use Rattle.scan.specs.Ends.{LacksAtMost, AreCertain, later, named_below};
+ghost use Rattle.scan.specs.Ends as ends;
+ghost use Rattle.scan.specs.Taken.{AreReady, IsTaken, IsTakenBelow};
+
+use crate::direction::Upward;
+use crate::edge::{Edge, place_from};
+use crate::leaves::Leaves;
+use crate::taken::{Taken, TakenBelow};
+use delta_chain::Chain;
+use keys::{Command, Value, compare, is_before};
+use mapping::Tree;
+use std::alloc::{AllocError, Global};
+
+// A batch with at most this many scans and wipes may visit any number of leaves.
+const FEW_RANGES: usize = 16;
+
+/// Returns, for each command of the batch, the key at which its scan may end, if there is one: the low key of a leaf, before
+/// which the scan certainly finds as many pairs as its limit, on the map as it is at the scan's place in the batch. So the
+/// scan has the same rows if this key is its upper bound, and need not visit that leaf or any after it. The list is empty if
+/// the batch has no scan.
+///
+/// Returns `None` if the batch has more than 16 scans and wipes, and these visit too many leaves, counting each leaf in the
+/// range of a wipe, and each leaf that a scan passes although none of its pairs certainly remain. The limit is four times the
+/// sum of the numbers of commands and pages.
+///
+/// For a scan, the time is that of one descent and a step for each leaf up to its end. A step does not read pairs: it takes
+/// binary searches in the keys that the batch deletes, and in the bounds of the ranges that it wipes. For a wipe, it is that
+/// of one descent and its leaves. Fails with `AllocError` if memory runs out.
+pub fn scan_ends<'a>(
+    alloc: Global,
+    tree: &'a Tree<Global>,
+    commands: &[Command<Global>],
+) -> Result<Option<Vec<Option<&'a [u8]>>>, AllocError>
+    requires home { AreAllHome tree.now }
+    requires height { tree.now.height ≤ most_levels }
+    requires held { HoldsItsLevels (tree_of tree.now) }
+    requires levels { AreLevels (levels_of (tree_of tree.now)) }
+    ensures { IfOk result (λ found. IfSome found
+        (λ ends. MayEndAtAll (keys_of (names (levels_of (tree_of tree.now)).level))
+        (contents (tree_of tree.now)) commands.now (map option_copied ends.items))) }
+{
+    let Some(room) = room_for_scans(alloc, tree, commands) else {
+        return Ok(None);
+    };
+    if !has_scan(commands) {
+        return Ok(Some(Vec::new(alloc)));
+    }
+    let mut taken = Taken::before_all(alloc, commands)?;
+    all_ends(alloc, tree, commands, &mut taken, room)
+}
+
+// Returns how many leaves scans may visit in vain, after the wipes have visited theirs, or `None` if the wipes visit too many. Only the time
+// and memory that a batch takes depend on it.
+fn room_for_scans(alloc: Global, tree: &Tree<Global>, commands: &[Command<Global>]) -> Option<usize>
+    requires home { AreAllHome tree.now }
+    requires height { tree.now.height ≤ most_levels }
+    requires held { HoldsItsLevels (tree_of tree.now) }
+    requires levels { AreLevels (levels_of (tree_of tree.now)) }
+{
+    if has_few_ranges(commands) {
+        return Some(usize::MAX);
+    }
+    let mut room = most_visits(commands.len(), tree.most_pages());
+    for command in commands {
+        room = room_after(alloc, tree, command, room)?;
+    }
+    Some(room)
+}
+
+// Returns how many leaves the wipes of a batch may visit, and its scans visit in vain.
+fn most_visits(commands: usize, pages: usize) -> usize {
+    commands.saturating_add(pages).saturating_mul(4)
+}
+
+// Returns what remains of `room` after `command`, if it is a wipe, has visited its leaves, or `None` if it visits more.
+fn room_after(
+    alloc: Global,
+    tree: &Tree<Global>,
+    command: &Command<Global>,
+    room: usize,
+) -> Option<usize>
+    requires home { AreAllHome tree.now }
+    requires height { tree.now.height ≤ most_levels }
+    requires held { HoldsItsLevels (tree_of tree.now) }
+    requires levels { AreLevels (levels_of (tree_of tree.now)) }
+{
+    match command {
+        Command::Wipe(lo, Some(hi)) => {
+            room_after_wipe(alloc, tree, lo.as_bytes(), Some(hi.as_bytes()), room)
+        }
+        Command::Wipe(lo, None) => room_after_wipe(alloc, tree, lo.as_bytes(), None, room),
+        _ => Some(room),
+    }
+}
+
+// Returns what remains of `room` after a wipe has visited its leaves, or `None` if it visits more.
+fn room_after_wipe(
+    alloc: Global,
+    tree: &Tree<Global>,
+    lo: &[u8],
+    hi: Option<&[u8]>,
+    room: usize,
+) -> Option<usize>
+    requires home { AreAllHome tree.now }
+    requires height { tree.now.height ≤ most_levels }
+    requires held { HoldsItsLevels (tree_of tree.now) }
+    requires levels { AreLevels (levels_of (tree_of tree.now)) }
+{
+    let (_first, mut leaves) = Leaves::<Upward>::new(alloc, tree, &Edge::After(lo));
+    let mut room = room;
+    while let Some(leaf) = leaves.next() {
+        if !is_before(hi, leaf.0) {
+            break;
+        }
+        if room == 0 {
+            return None;
+        }
+        room -= 1;
+    }
+    Some(room)
+}
+
+// Returns whether at most `FEW_RANGES` commands are scans or wipes.
+fn has_few_ranges(commands: &[Command<Global>]) -> bool {
+    let mut count: usize = 0;
+    for command in commands {
+        if command.is_ranged() {
+            count = count.saturating_add(1);
+        }
+    }
+    count <= FEW_RANGES
+}
+
+// Returns the key at which each command may end, if it is a scan, or `None` if the scans visit more than `room` leaves in vain. Nothing has
+// been taken away before the first.
+fn all_ends<'a>(
+    alloc: Global,
+    tree: &'a Tree<Global>,
+    commands: &[Command<Global>],
+    taken: &mut Taken<'_>,
+    room: usize,
+) -> Result<Option<Vec<Option<&'a [u8]>>>, AllocError>
+    requires home { AreAllHome tree.now }
+    requires height { tree.now.height ≤ most_levels }
+    requires held { HoldsItsLevels (tree_of tree.now) }
+    requires levels { AreLevels (levels_of (tree_of tree.now)) }
+    requires none { IsTaken ([], []) taken.old }
+    requires ready { AreReady commands.now taken.old }
+    ensures { IfOk result (λ found. IfSome found
+        (λ ends. MayEndAtAll (keys_of (names (levels_of (tree_of tree.now)).level))
+        (contents (tree_of tree.now)) commands.now (map option_copied ends.items))) }
+{
+    let mut room = room;
+    let mut ends = Vec::with_capacity(alloc, commands.len())?;
+    for command in commands {
+        ends.push(end_of(alloc, tree, command, taken, &mut room))?;
+        if room == 0 {
+            return Ok(None);
+        }
+        taken.note(command);
+    }
+    Ok(Some(ends))
+}
+
+// Whether there is a scan among the commands. Only what is spent depends on it.
+fn has_scan(commands: &[Command<Global>]) -> bool {
+    for command in commands {
+        if command.is_scan() {
+            return true;
+        }
+    }
+    false
+}
+
+// Returns the key at which the command may end, if it is a scan, and takes its visits in vain off `room`. The commands before it have taken
+// away no more than `taken`.
+fn end_of<'a>(
+    alloc: Global,
+    tree: &'a Tree<Global>,
+    command: &Command<Global>,
+    taken: &Taken<'_>,
+    room: &mut usize,
+) -> Option<&'a [u8]>
+    requires home { AreAllHome tree.now }
+    requires height { tree.now.height ≤ most_levels }
+    requires held { HoldsItsLevels (tree_of tree.now) }
+    requires levels { AreLevels (levels_of (tree_of tree.now)) }
+    ensures { (gone : ends.Taken) (m : Pairs Bytes) → IsTaken gone taken.now
+        → LacksAtMost gone (contents (tree_of tree.now)) m
+        → MayEndAt (keys_of (names (levels_of (tree_of tree.now)).level))
+        m command.now (option_copied result) }
+{
+    let Command::Scan(lo, hi, limit) = command else {
+        return None;
+    };
+    match hi {
+        Some(hi) => end_of_scan(
+            alloc,
+            tree,
+            lo.as_bytes(),
+            Some(hi.as_bytes()),
+            *limit,
+            taken,
+            room,
+        ),
+        None => end_of_scan(alloc, tree, lo.as_bytes(), None, *limit, taken, room),
+    }
+}
+
+// The key at which such a scan may end. The walk counts what is certain before the leaf that it has come to. The first leaf
+// holds the scan's lower bound, and so ends above it.
+fn end_of_scan<'a>(
+    alloc: Global,
+    tree: &'a Tree<Global>,
+    lo: &[u8],
+    hi: Option<&[u8]>,
+    limit: u32,
+    taken: &Taken<'_>,
+    room: &mut usize,
+) -> Option<&'a [u8]>
+    requires home { AreAllHome tree.now }
+    requires height { tree.now.height ≤ most_levels }
+    requires held { HoldsItsLevels (tree_of tree.now) }
+    requires levels { AreLevels (levels_of (tree_of tree.now)) }
+    ensures { (gone : ends.Taken) (m : Pairs Bytes) → IsTaken gone taken.now
+        → LacksAtMost gone (contents (tree_of tree.now)) m
+        → IfSome result (λ end. IsEnough (keys_of (names (levels_of (tree_of tree.now)).level))
+        m lo.now (option_copied hi.entry) limit end.now) }
+{
+    let (mut leaf, mut leaves) = Leaves::<Upward>::new(alloc, tree, &Edge::After(lo));
+    let mut before = taken.below(later(leaf.0, lo));
+    let mut certain: usize = 0;
+    while let Some(next) = leaves.next() {
+        let end = next.0;
+        if !is_inside(lo, hi, end) {
+            break;
+        }
+        let here = taken.below(end);
+        let more = certain_pairs(leaf.1.whole(), leaf.0, lo, &before, &here);
+        if !may_go_on(more, room) {
+            break;
+        }
+        certain = certain.saturating_add(more);
+        if certain >= limit as usize {
+            return Some(end);
+        }
+        leaf = next;
+        before = here;
+    }
+    None
+}
+
+// Whether a leaf that begins at this key begins within a scan's range, and not at its lower bound.
+fn is_inside(lo: &[u8], hi: Option<&[u8]>, low: &[u8]) -> bool
+    ensures { result ≡ (is_before (option_copied hi.entry) low.now && is_below lo.now low.now) }
+{
+    is_before(hi, low) && compare(lo, low).is_lt()
+}
+
+// Returns whether a scan may go on after a leaf of which `more` pairs are certain. If none is, takes this visit off `room`.
+fn may_go_on(more: usize, room: &mut usize) -> bool {
+    if more > 0 {
+        return true;
+    }
+    *room = room.saturating_sub(1);
+    *room > 0
+}
+
+// The greater one of a leaf's low key and a scan's.
+fn later<'k>(low: &'k [u8], lo: &'k [u8]) -> &'k [u8]
+    ensures { result.now ≡ later low.entry.now lo.entry.now }
+{
+    if compare(low, lo).is_lt() { lo } else { low }
+}
+
+// How many of the pairs of a leaf, which begins at the low key, a scan from a key on certainly has before the leaf's end,
+// whatever the commands before it do that take away no more than what is said of where its share of the leaf begins and ends. Of
+// a leaf in which a wiped range has keys nothing is certain.
+fn certain_pairs(
+    chain: &Chain<Value<Global>, Global>,
+    low: &[u8],
+    lo: &[u8],
+    before: &TakenBelow,
+    here: &TakenBelow,
+) -> usize
+    ensures { (gone : ends.Taken) (end : Bytes) (m n : Pairs Bytes)
+        → IsTakenBelow gone (later low.now lo.now) before.now → IsTakenBelow gone end here.now
+        → LacksAtMost gone m n
+        → is_below low.now end ≡ true → is_below lo.now end ≡ true
+        → entries_of chain.now ≡ in_range low.now (Some end) m
+        → AreCertain lo.now n low.now end result }
+{
+    let Some(most) = before.most_until(here) else {
+        return 0;
+    };
+    let fewest = chain.fewest_entries();
+    if compare(low, lo).is_lt() {
+        // The leaf in which the scan begins names keys below the scan's own.
+        fewest
+            .saturating_sub(named_below(chain, lo))
+            .saturating_sub(most)
+    } else {
+        fewest.saturating_sub(most)
+    }
+}
+
+// How many keys the leaf's lists name below this one, each list by itself: no more of its entries are below it. Each list is
+// searched by halves.
+fn named_below(chain: &Chain<Value<Global>, Global>, key: &[u8]) -> usize
+    ensures { result ≡ min (named_below key.now chain.now) usize.MAX }
+{
+    let mut named = 0usize;
+    let mut rest = chain.lent();
+    while let Some((run, below)) = rest.newest() {
+        named = named.saturating_add(place_from(run, key));
+        rest = below;
+    }
+    named.saturating_add(place_from(rest.base(), key))
+}

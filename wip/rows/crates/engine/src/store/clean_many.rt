@@ -1,0 +1,207 @@
+//! Many cleans in turn, by one reading of the log.
+ghost use Rattle.std.specs.Prelude.{◌≡◌, ◌≢◌, ◌⊎◌, ℕ, ◌+◌, ◌-◌, ◌<◌, ◌≤◌, None, Some, Ok, Err, IsTrue, IfOk, IfErr, MatchResult, min, true, false};
+ghost use Rattle.keys.specs.Bytes.{Bytes};
+ghost use Rattle.flush_log.specs.Segments.{last_segment};
+ghost use Rattle.engine.specs.Cleaning.{IsCleanRefusedOn, IsOfMachine};
+ghost use Rattle.engine.specs.Cleans.{AreCleaned, AreStopped, IsReadFor, IsOnlyRead, IsDoneClean, IsRefusedClean, IsCleanedOn, IsStoppedOn};
+ghost use Rattle.engine.specs.Refusal.{is_crew};
+ghost use Rattle.engine.specs.Room.{live_known};
+ghost use Rattle.engine.specs.State.{IsSound};
+
+use crate::refusal::admit_crew;
+use crate::store::Store;
+use crate::store::clean::is_of_disk;
+use cleaner::laws::a_clean_keeps_the_store;
+use cleaner::{Reading, clean_by, read_for_cleans};
+use crew::Crew;
+use flush_log::Disk;
+use frame_codec::Format;
+use keys::Fault;
+use std::thread::Threads;
+
+// What is answered if a clean is refused after `done` others: how many were done; but the fault if none was, or a call of the disk failed.
+fn after_some(fault: Fault, done: u64) -> Result<u64, Fault>
+    ensures { MatchResult result
+        (λ n. (n ≡ done) × (0 < done) × (fault ≢ Fault.Device))
+        (λ reported. (reported ≡ fault) × ((done ≡ 0) ⊎ (fault ≡ Fault.Device))) }
+{
+    if done == 0 || is_of_disk(&fault) {
+        return Err(fault);
+    }
+    Ok(done)
+}
+
+impl<D: Disk> Store<D> {
+    /// Reads the log once for its next `count` cleans, or for those of all segments in front of the last one if they are fewer.
+    /// `clean_by_reading` does these cleans by the result, a `cleaner::Reading`, one at a time. Nothing is written, and the store stays as it
+    /// is.
+    ///
+    /// The faults are those of `clean` until it writes: `Fault::NothingToClean` if the log is in one segment, the faults of a damaged log,
+    /// `Fault::NoMemory`, and `Fault::Device`, after which the store has failed. The store must not have failed before.
+    pub fn read_ahead(
+        &mut self,
+        rt: &(impl Threads + Sync),
+        crew: Crew,
+        count: u64,
+    ) -> Result<Reading, Fault>
+        requires fine { self.old.has_failed ≡ false }
+        requires some { 0 < count }
+        ensures read { IfOk result (λ reading. IsOnlyRead D.view D.failed self.old self.new
+            × IsReadFor D.view self.new reading × (self.new.store.head < reading.limit)) }
+        ensures limit { IfOk result (λ reading. reading.limit ≡ self.old.store.head
+            + min count (last_segment self.old.settings self.old.store.tail - self.old.store.head)) }
+        ensures refused { IfErr result (IsRefusedClean D.view D.failed self.old self.new) }
+        // How many bytes live. If the log is refused for what it holds, it is not sound.
+        ensures live { (file : Bytes) ×
+            (IsTrue (D.view self.old.disk).is_honest → file ≡ (D.view self.old.disk).seen) ×
+            MatchResult result
+            (λ reading. live_known self.old.settings self.old.store file ≡ Some reading.live)
+            (λ fault. (fault ≡ Fault.NothingToClean) ⊎ (fault ≡ Fault.NoMemory)
+            ⊎ (fault ≡ Fault.Device)
+            ⊎ (live_known self.old.settings self.old.store file ≡ None)) }
+    {
+        let format = Format {
+            settings: self.settings,
+            version: self.version,
+        };
+        match read_for_cleans(
+            rt,
+            crew,
+            self.alloc,
+            &mut self.disk,
+            &format,
+            &self.log,
+            count,
+        ) {
+            Ok(reading) => Ok(reading),
+            Err(fault) => {
+                self.has_failed = is_of_disk(&fault);
+                Err(fault)
+            }
+        }
+    }
+
+    /// Cleans the first segment by a reading that has it (`Reading::has`), as `clean` does, but without reading the log. The reading must be
+    /// one of this store's log, which only such cleans have changed since; it then serves for the next clean. Drop it after an `Err`.
+    pub fn clean_by_reading(&mut self, reading: &mut Reading) -> Result<u64, Fault>
+        requires fine { self.old.has_failed ≡ false }
+        requires read { IsReadFor D.view self.old reading.old }
+        requires next { self.old.store.head < reading.old.limit }
+        ensures done { IfOk result (λ head. IsDoneClean D.view D.failed self.old self.new head
+            × IsReadFor D.view self.new reading.new) }
+        ensures refused { IfErr result (IsRefusedClean D.view D.failed self.old self.new) }
+        ensures limit { reading.new.limit ≡ reading.old.limit }
+    {
+        // Only for the proof.
+        a_clean_keeps_the_store();
+        let format = Format {
+            settings: self.settings,
+            version: self.version,
+        };
+        match clean_by(self.alloc, &mut self.disk, &format, &self.log, reading) {
+            Ok(committed) => {
+                self.log = committed.ends;
+                self.version = committed.version;
+                Ok(self.log.head)
+            }
+            Err(fault) => {
+                self.has_failed = is_of_disk(&fault);
+                Err(fault)
+            }
+        }
+    }
+
+    // Cleans up to `most` segments, as long as the reading has them, and returns how many. Fails with how many were cleaned before the clean
+    // that was refused, and its fault.
+    pub(super) fn clean_all_read(
+        &mut self,
+        reading: &mut Reading,
+        most: u64,
+    ) -> Result<u64, (u64, Fault)>
+        requires fine { self.old.has_failed ≡ false }
+        requires read { IsReadFor D.view self.old reading.old }
+        requires next { self.old.store.head < reading.old.limit }
+        requires some { 0 < most }
+        ensures done { IfOk result (λ n. (0 < n) × (n ≤ most)
+            × (n ≡ min most (reading.old.limit - self.old.store.head))
+            × IsCleanedOn D.view D.failed self.old n self.new) }
+        ensures stopped { IfErr result (λ e. (e.0 < most)
+            × (e.0 < reading.old.limit - self.old.store.head)
+            × (e.0 ≡ 0 → self.new.store ≡ self.old.store)
+            × IsStoppedOn D.view D.failed self.old e.0 e.1 self.new
+            × (IsOfMachine e.1 ⊎ IsCleanRefusedOn D.view self.new)) }
+    {
+        let mut done = 0;
+        'each: loop {
+            match self.clean_by_reading(reading) {
+                Ok(_head) => done += 1,
+                Err(fault) => return Err((done, fault)),
+            }
+            if done == most || !reading.has(self.log.head) {
+                return Ok(done);
+            }
+        }
+    }
+
+    // Cleans up to `most` segments by one reading of the log, and returns how many. If a clean is refused after the first, that ends it,
+    // and is no error unless a call of the disk failed.
+    pub(super) fn clean_ahead(
+        &mut self,
+        rt: &(impl Threads + Sync),
+        crew: Crew,
+        most: u64,
+    ) -> Result<u64, Fault>
+        requires fine { self.old.has_failed ≡ false }
+        requires some { 0 < most }
+        ensures done { IfOk result (λ n. (0 < n) × (n ≤ most)
+            × IsCleanedOn D.view D.failed self.old n self.new) }
+        ensures stopped { IfErr result (λ fault. (n : ℕ) × (n < most)
+            × (((n ≡ 0) × (self.new.store ≡ self.old.store)) ⊎ (fault ≡ Fault.Device))
+            × IsStoppedOn D.view D.failed self.old n fault self.new) }
+    {
+        let mut reading = self.read_ahead(rt, crew, most)?;
+        match self.clean_all_read(&mut reading, most) {
+            Ok(cleaned) => Ok(cleaned),
+            Err(refused) => after_some(refused.1, refused.0),
+        }
+    }
+
+    /// Makes up to `most` segments at the log's beginning free, one clean after the other, and returns how many. The log is read once for
+    /// all of them, where each call of `clean` reads it. Each clean is a commit of its own, with the bytes that `clean` writes.
+    ///
+    /// It ends early if the log is in one segment, or if a later clean is refused, as by `Fault::Full` or `Fault::NoMemory` (so the number may
+    /// depend on memory); the store is then as after the cleans that were done. The faults are those of the first clean, as `clean` has them.
+    /// If a call of the disk fails in a later one, that is `Fault::Device`, too: the store has failed, and the disk stands for the same pages
+    /// still. If `most` is 0, nothing is done.
+    pub fn clean_many(
+        &mut self,
+        rt: &(impl Threads + Sync),
+        crew: Crew,
+        most: u64,
+    ) -> Result<u64, Fault>
+        // So many cleans in turn, as a play of them does, whatever the disk does.
+        ensures done { IfOk result (λ n. (n ≤ most) × (0 < most → 0 < n)
+            × AreCleaned D.view D.failed self.old n self.new) }
+
+        // Which fault, and what it leaves: the first clean is refused, or a call of the disk failed in a later one.
+        ensures failed { self.old.has_failed ≡ true →
+            (result ≡ Err Fault.Failed) × (self.new ≡ self.old) }
+        ensures bad_crew { self.old.has_failed ≡ false → is_crew crew ≡ false →
+            (result ≡ Err Fault.BadCrew) × (self.new ≡ self.old) }
+        ensures refused { self.old.has_failed ≡ false → IsTrue (is_crew crew) →
+            IfErr result (λ fault. (n : ℕ) × (n < most) × ((n ≡ 0) ⊎ (fault ≡ Fault.Device))
+            × AreStopped D.view D.failed self.old self.new n fault) }
+
+        // The store was sound, and is so again.
+        ensures sound { IsSound D.view self.old × IsSound D.view self.new }
+    {
+        if self.has_failed {
+            return Err(Fault::Failed);
+        }
+        admit_crew(crew)?;
+        if most == 0 {
+            return Ok(0);
+        }
+        self.clean_ahead(rt, crew, most)
+    }
+}

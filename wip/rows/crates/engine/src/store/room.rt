@@ -1,0 +1,125 @@
+//! How full the log is, by one reading of it: whether cleaning is worth its cost, and whether it can help at all.
+ghost use Rattle.std.specs.Prelude.{◌≡◌, ◌+◌, ◌-◌, ◌^◌, ◌≤◌, ◌<◌, IfOk, IfErr, IsTrue, false, None, length, min, sum_by};
+ghost use Rattle.flush_log.specs.Images.{frames_in};
+ghost use Rattle.keys.specs.Limits.{first_bad_field};
+ghost use Rattle.keys.specs.declared.fault.Fault.TheVariants.{NoMemory};
+ghost use Rattle.engine.specs.Room.{is_mostly_live, is_overfull, is_tight, is_two_thirds_full, is_worth, log_length, most_live, room_in};
+
+use crate::store::Store;
+use cleaner::Reading;
+use crew::Crew;
+use flush_log::{Disk, Image, Text, images};
+use keys::{Fault, Settings};
+use std::thread::Threads;
+
+// How many bytes a segment's header has.
+const SEGMENT_HEADER_SIZE: u64 = 16;
+
+// How many bytes of frames this many segments have room for.
+fn room_in(settings: &Settings, count: u64) -> u64
+    requires checked { first_bad_field settings.now ≡ None }
+    requires few { count ≤ 2 ^ 32 - 1 }
+    ensures { result ≡ room_in settings.now count }
+{
+    count * (u64::from(settings.seg_size) - SEGMENT_HEADER_SIZE)
+}
+
+// How many bytes of frames a log can have if cleans are to make room. The end of a segment, where the next frame did not fit, is taken to have
+// about half a leaf of small pairs.
+fn most_live(settings: &Settings) -> u64
+    requires checked { first_bad_field settings.now ≡ None }
+    ensures exact { result ≡ most_live settings.now }
+    ensures small { result < 2 ^ 64 - 1 }
+{
+    let size = u64::from(settings.seg_size);
+    let unused = (32 * u64::from(settings.fan)).min(size / 8);
+    u64::from(settings.segments - 1) * (size - SEGMENT_HEADER_SIZE - unused)
+}
+
+// Adds the bytes of an image's frames to a number of bytes.
+fn with_image(bytes: u64, image: &Image) -> u64
+    ensures { result ≡ min (bytes + sum_by (λ f. length f) image.now) (2 ^ 64 - 1) }
+{
+    let mut total = bytes;
+    for at in 0..image.len() {
+        total = total.saturating_add(image.frame(at).len() as u64);
+    }
+    total
+}
+
+// Adds the bytes of the frames of all these images to a number of bytes.
+fn with_images(bytes: u64, images: &[Image]) -> u64
+    ensures { result ≡ min (bytes + sum_by (λ f. length f) (frames_in images.now)) (2 ^ 64 - 1) }
+{
+    let mut total = bytes;
+    for image in images {
+        total = with_image(total, image);
+    }
+    total
+}
+
+impl<D: Disk> Store<D> {
+    /// Returns whether the log has 16 segments or more, of which fewer than three are free. A flush leaves at least one free. A clean may need
+    /// two, and seldom more, since it also copies what pages of the first segment have in other segments. So `flush_cleaning` may clean a
+    /// tight log, even if the flush would fit. A smaller log is never tight: there a row of cleans is a single one, after which few segments
+    /// are still free, so a call that is repeated after `Fault::NoMemory` would clean a second segment, and leave other bytes.
+    pub fn is_tight(&self) -> bool
+        ensures { result ≡ is_tight self.now.settings self.now.store }
+    {
+        self.settings.segments >= 16 && self.segments() - self.segments_in_use() < 3
+    }
+
+    /// Returns whether at least two thirds of the log's segments are in use.
+    pub(super) fn is_two_thirds_full(&self) -> bool
+        ensures { result ≡ is_two_thirds_full self.now.settings self.now.store }
+    {
+        2 * u64::from(self.settings.segments) <= self.segments_in_use().saturating_mul(3)
+    }
+
+    // Returns how many bytes of positions the log has, from the beginning of its first segment to its end.
+    pub(super) fn log_length(&self) -> u64
+        ensures { result ≡ log_length self.now.settings self.now.store }
+    {
+        let begin = self.log.head.saturating_mul(u64::from(self.settings.seg_size));
+        self.log.tail.saturating_sub(begin)
+    }
+
+    // Returns whether at least three quarters live of the bytes that the segments in use have room for. The reading must be one of this
+    // store's log.
+    pub(super) fn is_mostly_live(&self, reading: &Reading) -> bool
+        ensures { result ≡ is_mostly_live self.now.settings self.now.store reading.now.live }
+    {
+        let room = room_in(&self.settings, self.segments_in_use());
+        room.saturating_mul(3) <= reading.live().saturating_mul(4)
+    }
+
+    /// Returns whether a row of cleans is worth its cost: whether, of the bytes that the segments in use have room for, at least a segment
+    /// and a sixteenth are dead. The reading must be one of this store's log, from `read_ahead`.
+    pub fn is_worth_cleaning(&self, reading: &Reading) -> bool
+        ensures { result ≡ is_worth self.now.settings self.now.store reading.now.live }
+    {
+        let room = room_in(&self.settings, self.segments_in_use());
+        let least = u64::from(self.settings.seg_size).max(room / 16);
+        least <= room.saturating_sub(reading.live())
+    }
+
+    /// Returns whether the bytes that live, by this reading of the store's log, and the bytes that a flush would write are more than the log
+    /// can have when cleans are to make room. A flush leaves one segment free. The end of a segment, where the next frame did not fit, stays
+    /// unused: it is taken to have 32 bytes for each entry of a page (`fan`), but at most an eighth of the segment. Cleans copy frames as they
+    /// are, so they make no room then, or hardly any at a high cost. This call makes the frames, as that flush would.
+    ///
+    /// Fails only with `Fault::NoMemory`. Nothing changes.
+    pub fn is_overfull(
+        &self,
+        rt: &(impl Threads + Sync),
+        crew: Crew,
+        reading: &Reading,
+    ) -> Result<bool, Fault>
+        ensures exact { IfOk result (λ is.
+            is ≡ is_overfull self.now.settings self.now.store reading.now.live) }
+        ensures err { IfErr result (λ fault. fault ≡ NoMemory) }
+    {
+        let images = images(rt, crew, self.alloc, &self.tree, Text::Flush(self.version))?;
+        Ok(most_live(&self.settings) < with_images(reading.live(), &images))
+    }
+}
