@@ -239,7 +239,11 @@ where
     }
 }
 
-/// Opens the store of the session. An existing file is locked exclusively if the session `writes`.
+/// Opens the store of the session. The file is locked exclusively if the session `writes` or creates
+/// it. Otherwise the lock is shared, the file is only read, and the lock is given up as soon as the
+/// store is in memory. A file that cannot be opened or locked, or, without `--create`, that holds no
+/// store, is left as it was. If the length of a created file cannot be set, `FileDisk::of_zeros`
+/// says what the file holds; after a later failure, its old contents are lost.
 pub(crate) fn open_store<'a, R: AllocGlobal + Threads + Sync + Files + Clock, P: Observer>(
     at: &Session<'a, R, P>,
     writes: bool,

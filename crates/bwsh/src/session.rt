@@ -504,6 +504,10 @@ pub fn unread_words<E: Write>(error: io::Error, err: &mut E) -> u8
 /// - 4: a fault. `out` has the answers of the orders before the fault; if a device failed, some
 ///   prefix of all answers. A stream ends so only if it could not start, a device failed, or the
 ///   copy at its end failed.
+///
+/// In a stream, an order that is refused is answered by one line that begins with `fault`, and a
+/// bad line by one that begins with `line`. The store then holds the pairs that it held, and the
+/// stream goes on. Without a stream, the first fault ends the session.
 pub fn session<R: AllocGlobal + Threads + Sync + Files + Clock, I: Read, O: Write, E: Write>(
     rt: &R,
     words: &[String],
