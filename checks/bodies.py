@@ -1,12 +1,15 @@
 """Mutation tests of the contracts: the prover must refuse deliberately broken functions, and accept equivalent changes.
 
-    python3 -m checks.bodies [CRATE | CRATE/NAME ..]    # at the top of a repository whose libraries the gate has built
+    python3 -m checks.bodies [--unbroken] [CRATE | CRATE/NAME ..]    # at the top of a repository whose libraries the gate has built
 
 Each file `bodies/CRATE/NAME.edit` changes the body of one function, and describes the change in its first line. `file:` names the source; each
 `old:` is a text that occurs there once, and `new:` replaces it. `function:` is the function's name as the prover prints it. `refused:` is the goal
 or clause at which the prover must refuse the function, and `accepted:` marks a control, which it must accept. Only the changed functions are
 checked: the gate has proved the others, so here they lose their bodies, and terms that the prover refuses stand for their proofs. So a control must
 be of a function that calls none of these.
+
+With `--unbroken` the functions are checked in the same copies without their edits, and no goal may be refused: else a refusal would not be for what
+the edit breaks. Run this for a new edit; `./check --gate` does not.
 """
 
 import os
@@ -75,11 +78,12 @@ class Edit:
 class Verdict:
     edit: Edit
     wrong: str | None
+    right: str
     check: str = ""  # edits of different functions share a check
     seconds: float = 0  # of the processor, for that check
 
     def __str__(self) -> str:
-        ending = self.wrong or ("accepted, as it is right" if self.edit.is_control else "refused, as it is broken")
+        ending = self.wrong or self.right
         return f"{'FAILED ' * (self.wrong is not None)}{self.edit.label}: {ending} (a check of {self.seconds:.0f} s)"
 
 
@@ -202,11 +206,14 @@ def run_check(workspace: kit.Workspace, crate: str, folder: Path, functions: lis
     return prover.returncode, printed, usage.ru_utime + usage.ru_stime
 
 
-def error_of(edit: Edit, status: int, printed: str) -> str | None:
+def error_of(edit: Edit, is_broken: bool, status: int, printed: str) -> str | None:
     full_name = f"fn {edit.crate}::{edit.function}"
     line = next((line for line in printed.splitlines() if line.startswith(f"{full_name}:")), None)
     if line is None:
         return f"the prover has no line '{full_name}: ..'; its last line: {printed.rstrip().rsplit(chr(10), 1)[-1]}"
+    if not is_broken:
+        refused_at = refusals_of(edit, line, printed)
+        return f"refused without the edit, at {'; '.join(refused_at)}" if refused_at else None
     is_accepted = line == f"{full_name}: proved"
     refused_at = refusals_of(edit, line, printed)
     if edit.is_control:
@@ -231,21 +238,30 @@ def refusals_of(edit: Edit, line: str, printed: str) -> list[str]:
     return goals
 
 
-def check_group(workspace: kit.Workspace, group: list[Edit]) -> list[Verdict]:
+def right_ending(edit: Edit, is_broken: bool) -> str:
+    if not is_broken:
+        return "no goal is refused without the edit"
+    return "accepted, as it is right" if edit.is_control else "refused, as it is broken"
+
+
+def check_group(workspace: kit.Workspace, group: list[Edit], is_broken: bool) -> list[Verdict]:
     crate, functions = group[0].crate, [edit.function for edit in group]
     with tempfile.TemporaryDirectory(prefix="bodies-") as room:
         folder = Path(room)
         for part in PARTS:
             if (workspace.top / "crates" / crate / part).is_dir():
                 shutil.copytree(workspace.top / "crates" / crate / part, folder / part)
-        wrong = {edit.label: edit.apply(folder) for edit in group}
+        wrong = {edit.label: edit.apply(folder) if is_broken else None for edit in group}
         leave_out_proofs(folder, crate, leave_out_bodies(folder, set(functions)), set(functions))
         status, printed, seconds = run_check(workspace, crate, folder, functions)
-    return [Verdict(edit, wrong[edit.label] or error_of(edit, status, printed), group[0].label, seconds) for edit in group]
+    return [
+        Verdict(edit, wrong[edit.label] or error_of(edit, is_broken, status, printed), right_ending(edit, is_broken), group[0].label, seconds)
+        for edit in group
+    ]
 
 
-def check_crate(workspace: kit.Workspace, edits: list[Edit]) -> list[Verdict]:
-    return [verdict for group in groups_of(edits) for verdict in check_group(workspace, group)]
+def check_crate(workspace: kit.Workspace, edits: list[Edit], is_broken: bool = True) -> list[Verdict]:
+    return [verdict for group in groups_of(edits) for verdict in check_group(workspace, group, is_broken)]
 
 
 def chosen(edits: list[Edit], names: list[str]) -> list[Edit]:
@@ -260,14 +276,14 @@ def by_crate(edits: list[Edit]) -> dict[str, list[Edit]]:
     return crates
 
 
-def check_all(names: list[str], lanes: int) -> bool:
+def check_all(names: list[str], lanes: int, is_broken: bool = True) -> bool:
     """Checks the named edits, or all, and prints each verdict. Returns whether none failed."""
     workspace = kit.Workspace(TOP)
     # The crates with the largest libraries take longest, so they start first.
     crates = sorted(by_crate(chosen(all_edits(), names)).values(), key=lambda edits: -len(workspace.crates[edits[0].crate].below()))
     judged, failed, start = 0, 0, time.monotonic()
     with ThreadPoolExecutor(lanes) as pool:
-        for verdicts in pool.map(lambda edits: check_crate(workspace, edits), crates):
+        for verdicts in pool.map(lambda edits: check_crate(workspace, edits, is_broken), crates):
             judged, failed = judged + len(verdicts), failed + sum(verdict.wrong is not None for verdict in verdicts)
             print("\n".join(map(str, verdicts)), flush=True)
     print(f"bodies: {judged - failed} passed, {failed} failed, in {time.monotonic() - start:.0f} s", flush=True)
@@ -275,4 +291,5 @@ def check_all(names: list[str], lanes: int) -> bool:
 
 
 if __name__ == "__main__":
-    sys.exit(0 if check_all(sys.argv[1:], kit.processors()) else 1)
+    words = sys.argv[1:]
+    sys.exit(0 if check_all([word for word in words if word != "--unbroken"], kit.processors(), "--unbroken" not in words) else 1)
