@@ -48,6 +48,18 @@ clean_tree honest s st seen a now bytes done =
     let (p, was, is) = ok-then (after_clean s st done.file) (λ (p : Left). ok_step (said_cleaned p.0.head) p) (answer_of a, (now, bytes)) done.done in
     (cleaned-store s st now done.file bytes (was ∙ ap ok_left (same_left (said_cleaned p.0.head) (answer_of a) p (now, bytes) is))).0
 
+-- and the next segment is the first one after it
+pub clean_head : (honest : Bool) (s : Settings) (st : Store) (seen : List ℕ) (a : code_answer.Answer) (now : Store) (bytes : List ℕ) → IsStepDone honest s st seen Clean a now bytes → now.head ≡ suc st.head
+clean_head honest s st seen a now bytes done =
+    let (p, was, is) = ok-then (after_clean s st done.file) (λ (p : Left). ok_step (said_cleaned p.0.head) p) (answer_of a, (now, bytes)) done.done in
+    (cleaned-store s st now done.file bytes (was ∙ ap ok_left (same_left (said_cleaned p.0.head) (answer_of a) p (now, bytes) is))).1
+
+pub one_head : {D : Type 0} (view : D → View) (failures : D → ℕ) (cur next : State D) (head : ℕ) → IsDoneClean view failures cur next head → next.store.head ≡ cur.store.head + 1
+one_head view failures cur next head c =
+    let a : code_answer.Answer = answered.Cleaned head in
+    let one = clean_head (view cur.disk).is_honest cur.settings cur.store (view cur.disk).seen a next.store c.step.0 c.step.1 in
+    omega (arith, one)
+
 -- ---- so far
 
 module _ {D : Type 0} (view : D → View) (failures : D → ℕ) (lawful : (disk : D) → IsTrue (view disk).is_honest → Lawful (view disk)) where

@@ -1,6 +1,7 @@
 -- Early cleans: what is answered if they are refused, and a reading that is held for later ones.
-use Rattle.std.specs.Prelude.{◌≡◌, ◌≢◌, ◌⊎◌, ℕ, ◌<◌, IsTrue, true, false, List, [], Option, Some, None, Result, Ok, Err, IfOk, IfErr, MatchResult}
-use Rattle.std.proofs.Common.{refl, sym, subst, inl, inr, ⊎_elim, arith}
+use Rattle.std.specs.Prelude.{◌≡◌, ◌≢◌, ◌⊎◌, ℕ, ◌+◌, ◌/◌, ◌<◌, min, IsTrue, true, false, List, [], Option, Some, None, Result, Ok, Err, IfOk, IfErr, MatchResult}
+use Rattle.std.proofs.Common.{refl, sym, ap, ◌∙◌, subst, inl, inr, ⊎_elim, arith}
+use Rattle.std.proofs.Math.Nat.{le-max_right}
 use Rattle.keys.specs.declared.fault.Fault.{Fault}
 use Rattle.keys.specs.declared.fault.Fault.TheVariants.{Device, NoMemory}
 use Rattle.keys.specs.declared.settings.Settings.{Settings}
@@ -9,12 +10,18 @@ use Rattle.flush_log.specs.Disk.{View, Lawful}
 use Rattle.flush_log.specs.FlushText.{flush_text}
 use Rattle.cleaner.specs.PagesRead.{PagesRead}
 use Rattle.flush_log.proofs.SameLemmas.{leaves_the_same}
-use Rattle.engine.specs.Cleaning.{IsEarly, IsHeld, IsOfBytes, IsOfMachine, IsStoppedCleaning}
-use Rattle.engine.specs.Cleans.{IsReadFor, IsOnlyRead, IsRefusedClean, IsCleanedOn, IsStoppedOn}
+use Rattle.engine.specs.Cleaning.{IsEarly, IsHeld, IsOfBytes, IsOfMachine, IsStoppedCleaning, most_ahead, most_cleanable}
+use Rattle.engine.specs.Cleans.{cleans, IsReadFor, IsOnlyRead, IsRefusedClean, IsCleanedOn, IsStoppedOn}
 use Rattle.engine.specs.Room.{is_overfull, is_tight, is_worth, live_known}
 use Rattle.engine.specs.State.{State, IsSound}
-use Rattle.engine.proofs.CleaningLemmas.{flush_refused, none_done, still_of_bytes}
+use Rattle.engine.specs.Steps.Step.{Flush}
+use Rattle.engine.proofs.CleaningLemmas.{still_of_bytes}
 use Rattle.engine.proofs.CleansLemmas.{none_cleaned, none_on, stopped_on}
+use Rattle.engine.proofs.PlayTurn.{crash_on}
+
+-- there is a segment at least that a row has
+pub some_ahead : (most : ℕ) (s : Settings) → most ≡ most_ahead s → 0 < most
+some_ahead most s is = omega (arith, is, le-max_right (s.segments / 8) 1)
 
 -- ---- what is answered
 
@@ -37,8 +44,8 @@ early_err (Err reported) fault Q (same, machine) q = subst Q (sym same) (q machi
 abbrev IsAfterRow : ℕ → Fault → Result ℕ Fault → Type 0
 IsAfterRow done fault r = MatchResult r (λ n. (n ≡ done) × (0 < done) × (fault ≢ Device) × (fault ≢ NoMemory)) (λ reported. (reported ≡ fault) × ((done ≡ 0) ⊎ IsOfMachine fault))
 
-pub row_done : (r : Result ℕ Fault) (done : ℕ) (fault : Fault) (P : ℕ → Type 0) → IsAfterRow done fault r → (0 < done → fault ≢ Device → P done) → IfOk r P
-row_done (Ok n) done fault P (same, some, other, memory) p = subst P (sym same) (p some other)
+pub row_done : (r : Result ℕ Fault) (done : ℕ) (fault : Fault) (P : ℕ → Type 0) → IsAfterRow done fault r → (0 < done → fault ≢ Device → fault ≢ NoMemory → P done) → IfOk r P
+row_done (Ok n) done fault P (same, some, other, memory) p = subst P (sym same) (p some other memory)
 row_done (Err reported) done fault P h p = tt
 
 pub row_stopped : (r : Result ℕ Fault) (done : ℕ) (fault : Fault) (P : Fault → Type 0) → IsAfterRow done fault r → ((done ≡ 0) ⊎ IsOfMachine fault → P fault) → IfErr r P
@@ -66,19 +73,30 @@ module _ {D : Type 0} (view : D → View) (failures : D → ℕ) where
       ⊎_elim (λ none. subst (λ (k : ℕ). IsCleanedOn view failures cur k next) none.0 (done_on cur next n fault other.0 stopped)) (λ machine. absurd (⊎_elim other.0 other.1 machine)) why
 
   -- a reading that was just made is held
-  pub held_read : (cur next : State D) (r : PagesRead) → IsOnlyRead view failures cur next → IsReadFor view next r → next.store.head < r.limit
+  abbrev IsFor : State D → ℕ → Type 0
+  IsFor cur limit = limit ≡ cur.store.head + min (most_ahead cur.settings) (most_cleanable cur.settings cur.store)
+
+  pub held_read : (cur next : State D) (r : PagesRead) → IsOnlyRead view failures cur next → IsReadFor view next r → next.store.head < r.limit → IsFor cur r.limit
       → IsOfBytes view cur (λ s st file. live_known s st file ≡ Some r.live) → IsHeld view next r
-  held_read cur next r only read below live = record {
+  held_read cur next r only read below limit live = record {
     read = read;
     next = below;
+    limit = subst (λ (s : Settings). r.limit ≡ next.store.head + min (most_ahead s) (most_cleanable s next.store)) (sym only.rest.0)
+        (subst (λ (st : Store). r.limit ≡ st.head + min (most_ahead cur.settings) (most_cleanable cur.settings st)) (sym only.store) limit);
     live = still_of_bytes view cur next only.rest.0 only.rest.1 only.store only.same (λ s st file. live_known s st file ≡ Some r.live) live;
   }
 
-  pub held_by : (cur next : State D) (Why : List ℕ → Fault → Type 0) (r : Result PagesRead Fault) → IfOk r (λ r. IsOnlyRead view failures cur next × IsReadFor view next r × (next.store.head < r.limit))
+  -- a reading for so many segments is for as many as a row has
+  pub is_for : (cur : State D) (most limit : ℕ) → most ≡ most_ahead cur.settings → limit ≡ cur.store.head + min most (most_cleanable cur.settings cur.store) → IsFor cur limit
+  is_for cur most limit is so = so ∙ ap (λ (n : ℕ). cur.store.head + min n (most_cleanable cur.settings cur.store)) is
+
+  pub held_by : (cur next : State D) (most : ℕ) → most ≡ most_ahead cur.settings → (Why : List ℕ → Fault → Type 0) (r : Result PagesRead Fault)
+      → IfOk r (λ r. IsOnlyRead view failures cur next × IsReadFor view next r × (next.store.head < r.limit))
+      → IfOk r (λ r. r.limit ≡ cur.store.head + min most (most_cleanable cur.settings cur.store))
       → (file : List ℕ) × (IsTrue (view cur.disk).is_honest → file ≡ (view cur.disk).seen) × MatchResult r (λ r. live_known cur.settings cur.store file ≡ Some r.live) (Why file)
       → IfOk r (λ r. IsOnlyRead view failures cur next × IsHeld view next r)
-  held_by cur next Why (Ok r) (only, read, below) (file, shown, known) = (only, held_read cur next r only read below (file, shown, known))
-  held_by cur next Why (Err fault) h live = tt
+  held_by cur next most is Why (Ok r) (only, read, below) limit (file, shown, known) = (only, held_read cur next r only read below (is_for cur most r.limit is limit) (file, shown, known))
+  held_by cur next most is Why (Err fault) h limit live = tt
 
   -- a row of cleans that is worth its cost is early
   pub is_early : (cur next : State D) (live : ℕ) → IsOnlyRead view failures cur next → (is_tight cur.settings cur.store ≡ true) × (flush_text cur.store.version cur.store.tree ≢ [])
@@ -126,8 +144,29 @@ module _ {D : Type 0} (view : D → View) (failures : D → ℕ) (lawful : (disk
   -- a flush is refused for lack of memory before any clean
   no_memory : (old : State D) → IsSound view old → flush_text old.store.version old.store.tree ≢ [] → IsStoppedCleaning view failures old old NoMemory
   no_memory old sound due =
-      flush_refused view failures lawful old 0 old (none_done view failures lawful old (none_cleaned view failures lawful old sound)) old
-      (not_read view failures old sound) NoMemory (λ device. absurd (cc)) (view old.disk).seen (λ _. refl) (inr (inl (refl, due))) (λ full. absurd (cc))
+      let done = none_cleaned view failures lawful old sound in
+      let only = not_read view failures old sound in
+      record {
+        rows = [];
+        left = (view old.disk).seen;
+        shows = λ _ h. refl;
+        may_be_cut = false;
+        cut = λ e. absurd (cc);
+        are = (refl, λ h. refl);
+        calm = λ _. inl (inr refl);
+        full = λ e. absurd (cc);
+        said = done.said;
+        played = done.turn.played;
+        exact = done.turn.exact;
+        tree = refl;
+        rest = (done.turn.settings, done.turn.kept);
+        turn = λ _. done.turn;
+        device = λ e. absurd (cc);
+        step = Flush;
+        why = ((view old.disk).seen, λ honest. done.turn.bytes honest, inl (refl, inr (inl (refl, due))));
+        crash = λ fine was. crash_on view failures lawful old (cleans 0) done.said old done.turn old Flush
+            (λ _ settled. leaves_the_same (view old.disk) (view old.disk) _ (lawful old.disk settled.honest) (only.same settled.honest) settled (inl refl)) fine was;
+      }
 
   pub stopped_at_once : (old now : State D) (fault : Fault) → IsSound view old → (fault ≡ NoMemory) × (now ≡ old) × (flush_text old.store.version old.store.tree ≢ []) → IsStoppedCleaning view failures old now fault
   stopped_at_once old now fault sound (memory, same, due) =

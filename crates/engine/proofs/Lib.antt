@@ -7,9 +7,10 @@ mod BlankAnswers
 mod ClaimCleaned
 mod ClaimCreated
 mod ClaimOpened
+mod ClaimPlayLemmas
 mod ClaimWritten
 mod CleanDone
-mod CleaningLemmas
+pub mod CleaningLemmas
 mod CleansLemmas
 mod CommandsWithin
 mod CompactedLemmas
@@ -49,6 +50,7 @@ mod Readied
 mod RefusedCalls
 mod RoomLemmas
 mod Routed
+pub mod RowsLemmas
 mod RunRoutes
 mod SeenLeaves
 mod SnapshotLemmas

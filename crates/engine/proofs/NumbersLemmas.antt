@@ -1,6 +1,6 @@
 -- The numbers to run a store by: whether a flush is due, and how many pairs there are.
-use Rattle.std.specs.Prelude.{◌≡◌, ◌≢◌, ◌↔◌, ℕ, ◌^◌, ◌-◌, ◌<◌, ◌≤◌, Bool, IsTrue, true, false, not, List, [], ◌∷◌, length, take, Option, None}
-use Rattle.std.proofs.Common.{refl, ap, ◌∙◌, arith}
+use Rattle.std.specs.Prelude.{◌≡◌, ◌≢◌, ◌↔◌, ℕ, ◌^◌, ◌-◌, ◌<◌, Bool, IsTrue, true, false, not, List, [], ◌∷◌, length, min, take, Option, None}
+use Rattle.std.proofs.Common.{refl, ap, arith}
 use Rattle.std.proofs.lemmas.List.{length-take}
 use Rattle.keys.specs.Range.{in_range, rows}
 
@@ -24,13 +24,9 @@ all_within [] = refl
 all_within (([], v) ∷ m) = ap (λ (es : List (List ℕ × List ℕ)). ([], v) ∷ es) (all_within m)
 all_within ((x ∷ xs, v) ∷ m) = ap (λ (es : List (List ℕ × List ℕ)). (x ∷ xs, v) ∷ es) (all_within m)
 
-pub all_rows : (m : List (List ℕ × List ℕ)) → length m < 2 ^ 32 → length (rows [] None most_rows m) ≡ length m
-all_rows m few =
-    ap (λ (es : List (List ℕ × List ℕ)). length (take most_rows es)) (all_within m)
-    ∙ (let e = length-take most_rows m in omega (arith, e, few))
-
-pub least_rows : (m : List (List ℕ × List ℕ)) → length (rows [] None most_rows m) ≤ length m
-least_rows m =
+-- as many rows as there are pairs, and at most `most_rows`
+pub counted_rows : (m : List (List ℕ × List ℕ)) → length (rows [] None most_rows m) ≡ min (length m) most_rows
+counted_rows m =
     let same = ap (λ (es : List (List ℕ × List ℕ)). length (take most_rows es)) (all_within m) in
     let e = length-take most_rows m in
     omega (arith, same, e)

@@ -118,6 +118,19 @@ module _ {T : Type 0} (s : Settings) (st : Store) (cs : List (Command Global)) (
     pub batch_refused : (y : Step Global) → y ≡ Batch cs → Later (refusal s cs) → IsStepFault s st file old new y fault
     batch_refused y same later = subst (λ (z : Step Global). IsStepFault s st file old new z fault) (sym same) (refused_by (refusal s cs) refl later)
 
+pub refusal_never : (s : Settings) (cs : List (Command Global)) → refusal s cs ≢ Some Device
+refusal_never s cs = no_refusal_by s _ cs
+
+pub batch_without_device : {T : Type 0} (s : Settings) (st : Store) (cs : List (Command Global)) (r : Result T Fault) (b able : Bool) → (b ≡ true → r ≡ Err Failed) → (b ≡ false → able ≡ false → r ≡ Err BadCrew)
+    → (b ≡ false → able ≡ true → MatchOption (refusal s cs) (IfErr r (IsLaterFault s st.tree cs)) (λ f. r ≡ Err f)) → IfErr r (λ fault. fault ≢ Device)
+batch_without_device s st cs (Ok x) b able failed refused later = tt
+batch_without_device s st cs (Err fault) b able failed refused later = batch_never s st cs (Err fault) fault refl b able failed refused later
+
+-- the fault of a batch that is not admitted
+pub admitted_without_device : {U : Type 0} (o : Option Fault) (r : Result U Fault) (u : U) (fault : Fault) → o ≢ Some Device → MatchOption o (r ≡ Ok u) (λ f. r ≡ Err f) → r ≡ Err fault → fault ≢ Device
+admitted_without_device None r u fault other given was = λ device. absurd (cc)
+admitted_without_device (Some f) r u fault other given was = λ device. (let same : f ≡ fault = cc in other (ap (λ (x : Fault). (let o : Option Fault = Some x in o)) (same ∙ device)))
+
 -- ---- what is done
 
 pub words_of : (s : Settings) (st : Store) (x y : Step Global) → y ≡ x → HasWords (batching s) s st x → HasWords (batching s) s st y

@@ -1,5 +1,5 @@
--- A flush that cleans a log with little room: which steps it plays, and why it is refused.
-use Rattle.std.specs.Prelude.{◌≡◌, ◌≢◌, ◌⊎◌, ℕ, ◌+◌, ◌/◌, max, ◌<◌, ◌≤◌, IsTrue, true, false, List, [], ◌∷◌, ◌++◌, Some, Err}
+-- A flush that cleans a log with little room: which rows of cleans it does, what they leave, and why it is refused.
+use Rattle.std.specs.Prelude.{◌≡◌, ◌≢◌, ◌⊎◌, ℕ, ◌+◌, ◌-◌, ◌/◌, max, min, ◌<◌, ◌≤◌, Bool, IsTrue, true, false, List, [], ◌∷◌, ◌++◌, length, Some, Ok, Err}
 use Rattle.std.specs.declared.alloc.Global.{Global}
 use Rattle.keys.specs.Bytes.{Bytes}
 use Rattle.keys.specs.declared.fault.Fault.{Fault}
@@ -10,18 +10,21 @@ use Rattle.mapping.specs.Tree.{Store}
 use Rattle.flush_log.specs.AfterFlush.{after_flush}
 use Rattle.flush_log.specs.Disk.{View, IsSettled, Kept, LeavesOnly}
 use Rattle.flush_log.specs.FlushText.{flush_text}
+use Rattle.flush_log.specs.Segments.{last_segment}
 use Rattle.cleaner.specs.PagesRead.{PagesRead}
 use Rattle.engine.specs.Cleans.{cleans, IsReadFor, IsOnlyRead, IsRefusedClean}
 use Rattle.engine.specs.Compacted.{IsCompacted}
-use Rattle.engine.specs.Plays.{IsPlayed, IsPlayedOn, IsStepFault}
+use Rattle.engine.specs.Plays.{IsPlayed, IsPlayedOn, IsStepDone, IsStepFault}
 use Rattle.engine.specs.Room.{is_bloated, is_overfull, is_tight, is_two_thirds_full, is_worth, live_known}
 use Rattle.engine.specs.State.{State}
-use Rattle.engine.specs.Steps.{Step, Played, StandsAfterSome, batching, plays}
+use Rattle.engine.specs.Steps.{Answer, Step, StandsAfterSome, after_step, batching, plays}
 use Rattle.engine.specs.Steps.Step.{Flush, Clean}
 use Rattle.engine.specs.Turns.{IsTurn}
 use Rattle.engine.specs.declared.step.Answer as code_answer
 
--- how many cleans may follow a flush that finds the log full, before the next flush
+-- ---- why a row of cleans begins
+
+-- how many cleans a row has at most: an eighth of the segments, and at least one
 abbrev pub most_ahead : Settings → ℕ
 most_ahead s = max (s.segments / 8) 1
 
@@ -46,26 +49,94 @@ pub record IsEarly (s : Settings) (st : Store) (file : Bytes) : Type 0 where
 abbrev pub IsFull : Settings → Store → Bytes → Type 0
 IsFull s st file = (after_flush s st file ≡ Err Full) × IsRoomy s st file
 
--- after so many cleans the log would be full for a flush, and more cleans may help
-abbrev pub IsFullAfter : Settings → Store → Bytes → ℕ → Type 0
-IsFullAfter s st file n = (let p : Played Global = plays (batching s) s st file (cleans n) in IsFull s p.store p.bytes)
+-- ---- one row of cleans
 
--- why a row of cleans begins after so many: then the log is full for a flush, or it is the first row, and early
-abbrev pub BeginsRow : Settings → Store → Bytes → ℕ → Type 0
-BeginsRow s st file n = IsFullAfter s st file n ⊎ ((n ≡ 0) × IsEarly s st file)
+-- what was read of the log ahead of a row of cleans, and what each of its cleans read, one after the other
+pub record CleanRow : Type 0 where
+  pub ahead : Bytes
+  pub reads : List Bytes
 
--- each of these cleans, counted from 0, is one of the first `most_ahead` of a row
-abbrev pub AreNeeded : Settings → Store → Bytes → ℕ → Type 0
-AreNeeded s st file n = (i : ℕ) → i < n → (j : ℕ) × (j ≤ i) × (i < j + most_ahead s) × BeginsRow s st file j
+-- Cleans of a store that read these bytes, one after the other, lead from it and from what its disk was left with to this store and to these last
+-- bytes. If the disk is honest, each reads what was left before it.
+abbrev pub AreCleansBy : Bool → Settings → Store → Bytes → List Bytes → Store → Bytes → Type 0
+AreCleansBy honest s st left [] now last = (now ≡ st) × (IsTrue honest → last ≡ left)
+AreCleansBy honest s st left (file ∷ reads) now last =
+    (answer : Answer Global) × (mid : Store) × (bytes : Bytes) × (IsTrue honest → file ≡ left)
+    × (after_step (batching s) s st file Clean ≡ Ok (answer, (mid, bytes))) × AreCleansBy honest s mid bytes reads now last
 
--- a store was cleaned, at most once a segment, and then flushed, as a play of these steps does; what it holds stays
+-- a clean of this store is refused, of bytes that are those that its disk was left with, if that is honest
+abbrev pub IsCleanRefused : Bool → Settings → Store → Bytes → Type 0
+IsCleanRefused honest s st left = (file : Bytes) × (IsTrue honest → file ≡ left) × (fault : Fault) × (after_step {A = Global} (batching s) s st file Clean ≡ Err fault)
+
+-- no row is early: by what was read, or since a clean is refused
+abbrev pub IsCalm : Bool → Settings → Store → Bytes → Type 0
+IsCalm honest s st left = ((ahead : Bytes) × (IsTrue honest → ahead ≡ left) × (IsEarly s st ahead → ⊥)) ⊎ IsCleanRefused honest s st left
+
+-- how many cleans some rows have
+abbrev pub count_of : List CleanRow → ℕ
+count_of [] = 0
+count_of (row ∷ earlier) = count_of earlier + length row.reads
+
+-- what each of the cleans of some rows reads, one after the other
+abbrev pub reads_in : List CleanRow → List Bytes
+reads_in [] = []
+reads_in (row ∷ earlier) = reads_in earlier ++ row.reads
+
+-- how many segments a log has in front of its last one
+abbrev pub most_cleanable : Settings → Store → ℕ
+most_cleanable s st = last_segment s st.tail - st.head
+
+-- How many cleans a row has that begins at this store after these rows, if none of them is refused: as many as a row has at most, but no more than may
+-- follow, and no more than there are segments in front of the last one.
+abbrev pub row_length : Settings → List CleanRow → Store → ℕ
+row_length s earlier st = min (min (most_ahead s) (s.segments - count_of earlier)) (most_cleanable s st)
+
+-- a row begins since the log is full for a flush, and, if it is the first one, it is not early
+abbrev pub BeginsFull : Bool → Settings → List CleanRow → Store → Bytes → CleanRow → Type 0
+BeginsFull honest s earlier st left row = IsFull s st row.ahead × (earlier ≡ [] → IsCalm honest s st left)
+
+-- A row of cleans, after these earlier rows, leads from a store to this one. It begins since the log is full for a flush, or as the first row, early.
+-- It has its whole length, or the next clean is refused; or it was cut short, if it may be.
+pub record IsRow (honest may_be_cut : Bool) (s : Settings) (earlier : List CleanRow) (st : Store) (left : Bytes) (row : CleanRow) (now : Store) (last : Bytes) : Type 0 where
+  pub shown : IsTrue honest → row.ahead ≡ left
+  pub begins : BeginsFull honest s earlier st left row ⊎ ((earlier ≡ []) × IsEarly s st row.ahead)
+  pub done : AreCleansBy honest s st left row.reads now last
+  pub some : 0 < length row.reads
+  pub few : length row.reads ≤ row_length s earlier st
+  pub whole : may_be_cut ≡ false → (length row.reads ≡ row_length s earlier st) ⊎ IsCleanRefused honest s now last
+
+-- ---- rows of cleans, the last one first
+
+-- Such rows lead from a store to this one. The last one may be cut short, if that is said.
+abbrev pub AreRows : Bool → Bool → Settings → Store → Bytes → List CleanRow → Store → Bytes → Type 0
+AreRows honest may_be_cut s st left [] now last = (now ≡ st) × (IsTrue honest → last ≡ left)
+AreRows honest may_be_cut s st left (row ∷ earlier) now last =
+    (mid : Store) × (bytes : Bytes) × AreRows honest false s st left earlier mid bytes × IsRow honest may_be_cut s earlier mid bytes row now last
+
+-- Why a flush that finds the log full is the last one after such rows: there are as many cleans as segments, too much lives for the flush, or a clean
+-- is refused.
+abbrev pub NoneFollow : Bool → Settings → List CleanRow → Store → Bytes → Type 0
+NoneFollow honest s rows now last = (count_of rows ≡ s.segments) ⊎ ((ahead : Bytes) × (IsTrue honest → ahead ≡ last) × IsOverfull s now ahead) ⊎ IsCleanRefused honest s now last
+
+-- ---- a flush that is done
+
+-- A store was cleaned in rows, at most once a segment, and then flushed, as a play of these steps does; what it holds stays. The cleans lead to the
+-- cleaned store and to these bytes of its disk, and the flush from there.
 pub record IsFlushedCleaning {D : Type 0} (view : D → View) (failures : D → ℕ) (old now : State D) : Type 0 where
-  pub count : ℕ
-  pub most : count ≤ old.settings.segments
-  pub needed : IsTrue (view old.disk).is_honest → AreNeeded old.settings old.store (view old.disk).seen count
+  pub rows : List CleanRow
+  pub most : count_of rows ≤ old.settings.segments
+  pub cleaned : Store
+  pub left : Bytes
+  pub are : AreRows (view old.disk).is_honest false old.settings old.store (view old.disk).seen rows cleaned left
+  pub calm : rows ≡ [] → IsCalm (view old.disk).is_honest old.settings old.store (view old.disk).seen
+  pub answer : code_answer.Answer
+  pub flush : (bytes : Bytes) × IsStepDone (view old.disk).is_honest old.settings cleaned left Flush answer now.store bytes
+      × (IsTrue (view old.disk).is_honest → bytes ≡ (view now.disk).seen)
   pub said : List code_answer.Answer
-  pub turn : IsTurn view failures old (cleans count ++ Flush ∷ []) said now
+  pub turn : IsTurn view failures old (cleans (count_of rows) ++ Flush ∷ []) said now
   pub holds : contents now.store.tree ≡ contents old.store.tree
+
+-- ---- a flush that is refused
 
 -- what is answered for this fault of a clean: that the log is full, where it is in one segment
 abbrev pub IsWantOfRoom : Fault → Fault → Type 0
@@ -75,33 +146,41 @@ IsWantOfRoom why fault = ((why ≡ NothingToClean) × (fault ≡ Full)) ⊎ ((wh
 abbrev pub IsOfMachine : Fault → Type 0
 IsOfMachine fault = (fault ≡ Device) ⊎ (fault ≡ NoMemory)
 
--- Why it stops after a number of cleans, at a flush or at one more clean. A flush that finds the log full is the last one if no more
--- cleans may follow, or if they could not help. A clean is the first after such a flush, or a call of the disk or an allocation failed
--- in it.
+-- Why it stops after a number of cleans, at a flush or at one more clean. A clean is the first after a flush that finds the log full, or a call of the
+-- disk or an allocation failed in it.
 abbrev pub IsStop : Settings → Store → Bytes → ℕ → ℕ → ℕ → Step Global → Fault → Type 0
 IsStop s st file old new count x fault =
-    ((x ≡ Flush) × IsStepFault s st file old new Flush fault × (fault ≡ Full → (count ≡ s.segments) ⊎ IsOverfull s st file))
+    ((x ≡ Flush) × IsStepFault s st file old new Flush fault)
     ⊎ ((x ≡ Clean) × (count < s.segments) × ((after_flush s st file ≡ Err Full) ⊎ IsOfMachine fault) × (why : Fault) × IsWantOfRoom why fault × IsStepFault s st file old new Clean why)
 
--- It was refused after a number of cleans, which are done, as a play of these does. The store has the tree that it had.
+-- It was refused after rows of cleans, which are done, as a play of these does. The store has the tree that it had.
 pub record IsStoppedCleaning {D : Type 0} (view : D → View) (failures : D → ℕ) (old now : State D) (fault : Fault) : Type 0 where
-  pub count : ℕ
-  pub needed : IsTrue (view old.disk).is_honest → AreNeeded old.settings old.store (view old.disk).seen count
+  pub rows : List CleanRow
+  -- what the disk was left with, which it shows, unless a call of it failed
+  pub left : Bytes
+  pub shows : fault ≢ Device → IsTrue (view old.disk).is_honest → left ≡ (view now.disk).seen
+  -- the last row is cut short only if a call of the disk or an allocation failed
+  pub may_be_cut : Bool
+  pub cut : may_be_cut ≡ true → IsOfMachine fault
+  pub are : AreRows (view old.disk).is_honest may_be_cut old.settings old.store (view old.disk).seen rows now.store left
+  pub calm : rows ≡ [] → IsOfMachine fault ⊎ IsCalm (view old.disk).is_honest old.settings old.store (view old.disk).seen
+  -- it is full only if no more cleans may follow, or could help
+  pub full : fault ≡ Full → NoneFollow (view old.disk).is_honest old.settings rows now.store left
   pub said : List code_answer.Answer
-  pub played : IsPlayed (view old.disk).is_honest old.settings old.store (view old.disk).seen (cleans count) said now.store
-  pub exact : IsTrue (view old.disk).is_honest → IsPlayedOn old.settings old.store (view old.disk).seen (cleans count) said now.store
+  pub played : IsPlayed (view old.disk).is_honest old.settings old.store (view old.disk).seen (cleans (count_of rows)) said now.store
+  pub exact : IsTrue (view old.disk).is_honest → IsPlayedOn old.settings old.store (view old.disk).seen (cleans (count_of rows)) said now.store
   pub tree : now.store.tree ≡ old.store.tree
   pub rest : (now.settings ≡ old.settings) × Kept (view old.disk) (view now.disk)
   -- all that is promised of these, but where a call of the disk failed; then the store has failed
-  pub turn : fault ≢ Device → IsTurn view failures old (cleans count) said now
+  pub turn : fault ≢ Device → IsTurn view failures old (cleans (count_of rows)) said now
   pub device : fault ≡ Device → now.has_failed ≡ true
   -- the step that was refused, and why
   pub step : Step Global
-  pub why : (file : Bytes) × (IsTrue (view old.disk).is_honest → file ≡ (plays (batching old.settings) old.settings old.store (view old.disk).seen (cleans count)).bytes)
-      × IsStop old.settings now.store file (failures old.disk) (failures now.disk) count step fault
+  pub why : (file : Bytes) × (IsTrue (view old.disk).is_honest → file ≡ (plays (batching old.settings) old.settings old.store (view old.disk).seen (cleans (count_of rows))).bytes)
+      × IsStop old.settings now.store file (failures old.disk) (failures now.disk) (count_of rows) step fault
   -- a crash at any moment leaves the store after some of all these steps
   pub crash : old.has_failed ≡ false → IsSettled (view old.disk)
-      → LeavesOnly (view old.disk) (view now.disk) (StandsAfterSome (batching old.settings) old.settings old.store (view old.disk).seen (cleans count ++ step ∷ []))
+      → LeavesOnly (view old.disk) (view now.disk) (StandsAfterSome (batching old.settings) old.settings old.store (view old.disk).seen (cleans (count_of rows) ++ step ∷ []))
 
 -- the store that is cleaned and flushed: as it was; or compacted, which it is only if a flush is due, its log is two thirds full, and its
 -- tree is bloated
@@ -117,10 +196,25 @@ IsStart old start =
 abbrev pub IsOfBytes : {D : Type 0} → (D → View) → State D → (Settings → Store → Bytes → Type 0) → Type 0
 IsOfBytes view x holds = (file : Bytes) × (IsTrue (view x.disk).is_honest → file ≡ (view x.disk).seen) × holds x.settings x.store file
 
--- a reading of this store's log, by which its next clean can be done, with the bytes that live
+-- no row is early, by what the disk shows
+abbrev pub IsCalmOn : {D : Type 0} → (D → View) → State D → Type 0
+IsCalmOn view x = IsCalm (view x.disk).is_honest x.settings x.store (view x.disk).seen
+
+-- a clean of this store is refused, by what the disk shows
+abbrev pub IsCleanRefusedOn : {D : Type 0} → (D → View) → State D → Type 0
+IsCleanRefusedOn view x = IsCleanRefused (view x.disk).is_honest x.settings x.store (view x.disk).seen
+
+-- a row of so many cleans from one store to another is as long as it may be at most, or the next clean is refused
+abbrev pub IsWhole : {D : Type 0} → (D → View) → State D → ℕ → ℕ → State D → Type 0
+IsWhole view old most n now =
+    (n ≤ min most (most_cleanable old.settings old.store)) × ((n ≡ min most (most_cleanable old.settings old.store)) ⊎ IsCleanRefusedOn view now)
+
+-- a reading of this store's log, with the bytes that live, by which as many of its next cleans can be done as a row has, or as there are segments
+-- in front of the last one
 pub record IsHeld {D : Type 0} (view : D → View) (x : State D) (r : PagesRead) : Type 0 where
   pub read : IsReadFor view x r
   pub next : x.store.head < r.limit
+  pub limit : r.limit ≡ x.store.head + min (most_ahead x.settings) (most_cleanable x.settings x.store)
   pub live : IsOfBytes view x (λ s st file. live_known s st file ≡ Some r.live)
 
 -- why there is no reading by which a clean may help: too much lives for the flush, memory was refused, or the reading was refused

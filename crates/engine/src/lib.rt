@@ -22,7 +22,7 @@ mod unfinished;
 pub use crate::explain::{ExplainedFault, ExplainedOpenFault, file_remedy, meaning, remedy};
 pub use crate::file_store::{OpenFault, open_or_create};
 pub use crate::ordered_store::{
-    OrderedStore, SnapshotDisk, SnapshotStore, put_then_get, put_then_get_in_memory,
+    OrderedStore, SnapshotDisk, SnapshotStore, play, put_then_get, put_then_get_in_memory,
     put_twice_then_get,
 };
 pub use crate::step::{Answer, Step};

@@ -18,9 +18,11 @@ ghost use Rattle.engine.specs.Claim.{Held, FailsByDevice, IsLeftByCreate, Recove
 
 mod by_pages;
 mod callers;
+mod plays;
 mod snapshots;
 
 pub use crate::ordered_store::callers::{put_then_get, put_then_get_in_memory, put_twice_then_get};
+pub use crate::ordered_store::plays::play;
 pub use crate::ordered_store::snapshots::{SnapshotDisk, SnapshotStore};
 use crew::Crew;
 use flush_log::Disk;
@@ -147,7 +149,8 @@ pub trait OrderedStore<D: Disk> {
         ensures rest { (settings self.new ≡ settings self.old) × (disk_of self.new ≡ disk_of self.old)
             × (has_failed self.new ≡ has_failed self.old) }
         ensures failed { has_failed self.old ≡ true → result ≡ Err Failed }
-        ensures refused { OnErr result (self.new ≡ self.old) };
+        ensures refused { OnErr result (self.new ≡ self.old) }
+        ensures never { IfErr result (λ fault. fault ≢ Device) };
 
     /// Makes the contents durable, and returns the number of commits so far.
     ///

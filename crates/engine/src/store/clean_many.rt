@@ -1,6 +1,8 @@
 //! Many cleans in turn, by one reading of the log.
-ghost use Rattle.std.specs.Prelude.{◌≡◌, ◌≢◌, ◌⊎◌, ℕ, ◌<◌, ◌≤◌, None, Some, Ok, Err, IsTrue, IfOk, IfErr, MatchResult, true, false};
+ghost use Rattle.std.specs.Prelude.{◌≡◌, ◌≢◌, ◌⊎◌, ℕ, ◌+◌, ◌-◌, ◌<◌, ◌≤◌, None, Some, Ok, Err, IsTrue, IfOk, IfErr, MatchResult, min, true, false};
 ghost use Rattle.keys.specs.Bytes.{Bytes};
+ghost use Rattle.flush_log.specs.Segments.{last_segment};
+ghost use Rattle.engine.specs.Cleaning.{IsCleanRefusedOn, IsOfMachine};
 ghost use Rattle.engine.specs.Cleans.{AreCleaned, AreStopped, IsReadFor, IsOnlyRead, IsDoneClean, IsRefusedClean, IsCleanedOn, IsStoppedOn};
 ghost use Rattle.engine.specs.Refusal.{is_crew};
 ghost use Rattle.engine.specs.Room.{live_known};
@@ -46,6 +48,8 @@ impl<D: Disk> Store<D> {
         requires some { 0 < count }
         ensures read { IfOk result (λ reading. IsOnlyRead D.view D.failed self.old self.new
             × IsReadFor D.view self.new reading × (self.new.store.head < reading.limit)) }
+        ensures limit { IfOk result (λ reading. reading.limit ≡ self.old.store.head
+            + min count (last_segment self.old.settings self.old.store.tail - self.old.store.head)) }
         ensures refused { IfErr result (IsRefusedClean D.view D.failed self.old self.new) }
         // How many bytes live. If the log is refused for what it holds, it is not sound.
         ensures live { (file : Bytes) ×
@@ -86,6 +90,7 @@ impl<D: Disk> Store<D> {
         ensures done { IfOk result (λ head. IsDoneClean D.view D.failed self.old self.new head
             × IsReadFor D.view self.new reading.new) }
         ensures refused { IfErr result (IsRefusedClean D.view D.failed self.old self.new) }
+        ensures limit { reading.new.limit ≡ reading.old.limit }
     {
         // Only for the proof.
         a_clean_keeps_the_store();
@@ -118,10 +123,13 @@ impl<D: Disk> Store<D> {
         requires next { self.old.store.head < reading.old.limit }
         requires some { 0 < most }
         ensures done { IfOk result (λ n. (0 < n) × (n ≤ most)
+            × (n ≡ min most (reading.old.limit - self.old.store.head))
             × IsCleanedOn D.view D.failed self.old n self.new) }
         ensures stopped { IfErr result (λ e. (e.0 < most)
+            × (e.0 < reading.old.limit - self.old.store.head)
             × (e.0 ≡ 0 → self.new.store ≡ self.old.store)
-            × IsStoppedOn D.view D.failed self.old e.0 e.1 self.new) }
+            × IsStoppedOn D.view D.failed self.old e.0 e.1 self.new
+            × (IsOfMachine e.1 ⊎ IsCleanRefusedOn D.view self.new)) }
     {
         let mut done = 0;
         'each: loop {

@@ -1,9 +1,9 @@
 //! The flush that makes itself room: it cleans if the log is tight or full, and compacts a bloated store.
-ghost use Rattle.std.specs.Prelude.{◌≡◌, ◌≢◌, ◌⊎◌, ℕ, ◌<◌, ◌≤◌, [], None, Ok, Err, IsTrue, IfOk, OnOk, IfErr, IfSome, MatchResult, true, false};
+ghost use Rattle.std.specs.Prelude.{◌≡◌, ◌≢◌, ◌⊎◌, ◌↔◌, ◌+◌, ℕ, ◌<◌, ◌≤◌, [], None, Ok, Err, IsTrue, IfOk, OnOk, IfErr, IfSome, MatchResult, ◌&&◌, min, nat_le, true, false};
 ghost use Rattle.flush_log.specs.FlushText.{flush_text};
 ghost use Rattle.keys.specs.declared.fault.Fault.TheVariants.{NoMemory};
 ghost use Rattle.mapping.specs.Levels.{contents};
-ghost use Rattle.engine.specs.Cleaning.{IsEarly, IsFlushedCleaning, IsHeld, IsNoReading, IsOfBytes, IsOfMachine, IsRoomy, IsStart, IsStoppedCleaning, IsWantOfRoom, most_ahead};
+ghost use Rattle.engine.specs.Cleaning.{IsCalmOn, IsCleanRefusedOn, IsEarly, IsFlushedCleaning, IsHeld, IsNoReading, IsOfBytes, IsOfMachine, IsStart, IsStoppedCleaning, IsWantOfRoom, IsWhole, most_ahead, most_cleanable};
 ghost use Rattle.engine.specs.Cleans.{IsCleanedOn, IsOnlyRead, IsRefusedClean, IsStoppedOn};
 ghost use Rattle.engine.specs.Refusal.{is_crew};
 ghost use Rattle.engine.specs.Room.{is_overfull, is_tight, is_worth};
@@ -74,8 +74,8 @@ fn early_refusal(fault: Fault) -> Result<(u64, Option<Reading>), Fault>
 impl<D: Disk> Store<D> {
     // Returns whether the log is tight while a flush is due.
     fn may_clean_early(&self) -> bool
-        ensures { IsTrue result → (is_tight self.now.settings self.now.store ≡ true)
-            × (flush_text self.now.store.version self.now.store.tree ≢ []) }
+        ensures { IsTrue result ↔ ((is_tight self.now.settings self.now.store ≡ true)
+            × (flush_text self.now.store.version self.now.store.tree ≢ [])) }
     {
         self.is_tight() && self.is_flush_due()
     }
@@ -109,9 +109,9 @@ impl<D: Disk> Store<D> {
         crew: Crew,
         reading: &Reading,
     ) -> Result<bool, Fault>
-        ensures exact { IfOk result (λ helps. IsTrue helps →
-            (is_worth self.now.settings self.now.store reading.now.live ≡ true)
-            × (is_overfull self.now.settings self.now.store reading.now.live ≡ false)) }
+        ensures exact { IfOk result (λ helps. IsTrue helps ↔
+            ((is_worth self.now.settings self.now.store reading.now.live ≡ true)
+            × (is_overfull self.now.settings self.now.store reading.now.live ≡ false))) }
         ensures err { IfErr result (λ fault. fault ≡ NoMemory) }
     {
         if !self.is_worth_cleaning(reading) {
@@ -127,11 +127,15 @@ impl<D: Disk> Store<D> {
         requires fine { self.old.has_failed ≡ false }
         requires held { IsHeld D.view self.old reading }
         requires some { 0 < most }
+        requires few { most ≤ most_ahead self.old.settings }
         ensures done { IfOk result (λ n. (0 < n) × (n ≤ most)
-            × IsCleanedOn D.view D.failed self.old n self.new) }
+            × IsCleanedOn D.view D.failed self.old n self.new
+            × IsWhole D.view self.old most n self.new) }
         ensures stopped { IfErr result (λ fault. (n : ℕ) × (n < most)
+            × (n ≤ most_cleanable self.old.settings self.old.store)
             × (((n ≡ 0) × (self.new.store ≡ self.old.store)) ⊎ IsOfMachine fault)
-            × IsStoppedOn D.view D.failed self.old n fault self.new) }
+            × IsStoppedOn D.view D.failed self.old n fault self.new
+            × (IsOfMachine fault ⊎ IsCleanRefusedOn D.view self.new)) }
     {
         let mut reading = reading;
         match self.clean_all_read(&mut reading, most) {
@@ -149,10 +153,14 @@ impl<D: Disk> Store<D> {
         requires fine { self.old.has_failed ≡ false }
         requires held { IsHeld D.view self.old reading }
         requires some { 0 < most }
+        requires few { most ≤ most_ahead self.old.settings }
         ensures done { IfOk result (λ e. (e.0 ≤ most)
             × IsCleanedOn D.view D.failed self.old e.0 self.new
+            × (0 < e.0 → IsWhole D.view self.old most e.0 self.new)
+            × (e.0 ≡ 0 → IsCleanRefusedOn D.view self.new)
             × IfSome e.1 (IsHeld D.view self.new)) }
         ensures stopped { IfErr result (λ fault. IsOfMachine fault × (n : ℕ) × (n < most)
+            × (n ≤ most_cleanable self.old.settings self.old.store)
             × IsStoppedOn D.view D.failed self.old n fault self.new) }
     {
         match self.clean_row(reading, most) {
@@ -172,12 +180,16 @@ impl<D: Disk> Store<D> {
         requires fine { self.old.has_failed ≡ false }
         requires held { IsHeld D.view self.old reading }
         requires some { 0 < most }
+        requires few { most ≤ most_ahead self.old.settings }
         ensures done { IfOk result (λ e. (e.0 ≤ most)
             × IsCleanedOn D.view D.failed self.old e.0 self.new
             × (0 < e.0 → (is_worth self.old.settings self.old.store reading.live ≡ true)
-            × (is_overfull self.old.settings self.old.store reading.live ≡ false))
+            × (is_overfull self.old.settings self.old.store reading.live ≡ false)
+            × IsWhole D.view self.old most e.0 self.new)
+            × (e.0 ≡ 0 → IsCalmOn D.view self.old)
             × IfSome e.1 (IsHeld D.view self.new)) }
         ensures stopped { IfErr result (λ fault. IsOfMachine fault × (n : ℕ) × (n < most)
+            × (n ≤ most_cleanable self.old.settings self.old.store)
             × (0 < n → (is_worth self.old.settings self.old.store reading.live ≡ true)
             × (is_overfull self.old.settings self.old.store reading.live ≡ false))
             × IsStoppedOn D.view D.failed self.old n fault self.new) }
@@ -200,12 +212,15 @@ impl<D: Disk> Store<D> {
         requires fine { self.old.has_failed ≡ false }
         requires due { (is_tight self.old.settings self.old.store ≡ true)
             × (flush_text self.old.store.version self.old.store.tree ≢ []) }
-        requires some { 0 < most }
+        requires most { most ≡ most_ahead self.old.settings }
         ensures done { IfOk result (λ e. (e.0 ≤ most)
             × IsCleanedOn D.view D.failed self.old e.0 self.new
-            × (0 < e.0 → IsOfBytes D.view self.old IsEarly)
+            × (0 < e.0 → IsOfBytes D.view self.old IsEarly
+            × IsWhole D.view self.old most e.0 self.new)
+            × (e.0 ≡ 0 → IsCalmOn D.view self.old)
             × IfSome e.1 (IsHeld D.view self.new)) }
         ensures stopped { IfErr result (λ fault. IsOfMachine fault × (n : ℕ) × (n < most)
+            × (n ≤ most_cleanable self.old.settings self.old.store)
             × (0 < n → IsOfBytes D.view self.old IsEarly)
             × IsStoppedOn D.view D.failed self.old n fault self.new) }
     {
@@ -224,12 +239,15 @@ impl<D: Disk> Store<D> {
         most: u64,
     ) -> Result<(u64, Option<Reading>), Fault>
         requires fine { self.old.has_failed ≡ false }
-        requires some { 0 < most }
+        requires most { most ≡ most_ahead self.old.settings }
         ensures done { IfOk result (λ e. (e.0 ≤ most)
             × IsCleanedOn D.view D.failed self.old e.0 self.new
-            × (0 < e.0 → IsOfBytes D.view self.old IsEarly)
+            × (0 < e.0 → IsOfBytes D.view self.old IsEarly
+            × IsWhole D.view self.old most e.0 self.new)
+            × (e.0 ≡ 0 → IsCalmOn D.view self.old)
             × IfSome e.1 (IsHeld D.view self.new)) }
         ensures stopped { IfErr result (λ fault. IsOfMachine fault × (n : ℕ) × (n < most)
+            × (n ≤ most_cleanable self.old.settings self.old.store)
             × (0 < n → IsOfBytes D.view self.old IsEarly)
             × IsStoppedOn D.view D.failed self.old n fault self.new) }
     {
@@ -249,7 +267,7 @@ impl<D: Disk> Store<D> {
     ) -> Result<Reading, Fault>
         requires fine { self.old.has_failed ≡ false }
         requires held { IfSome held (IsHeld D.view self.old) }
-        requires some { 0 < most }
+        requires most { most ≡ most_ahead self.old.settings }
         ensures read { IfOk result (λ reading. IsOnlyRead D.view D.failed self.old self.new
             × IsHeld D.view self.new reading) }
         ensures refused { IfErr result (IsRefusedClean D.view D.failed self.old self.new) }
@@ -272,9 +290,10 @@ impl<D: Disk> Store<D> {
     ) -> Result<Reading, Fault>
         requires fine { self.old.has_failed ≡ false }
         requires held { IfSome held (IsHeld D.view self.old) }
-        requires some { 0 < most }
+        requires most { most ≡ most_ahead self.old.settings }
         ensures read { IfOk result (λ reading. IsOnlyRead D.view D.failed self.old self.new
-            × IsHeld D.view self.new reading × IsOfBytes D.view self.new IsRoomy) }
+            × IsHeld D.view self.new reading
+            × (is_overfull self.new.settings self.new.store reading.live ≡ false)) }
         ensures refused { IfErr result (IsNoReading D.view D.failed self.old self.new) }
     {
         let reading = self.held_or_read(rt, crew, held, most)?;
@@ -282,6 +301,26 @@ impl<D: Disk> Store<D> {
             return Err(Fault::Full);
         }
         Ok(reading)
+    }
+
+    // Does a row of cleans by this reading, of at most `left`, and returns how many more may follow.
+    fn clean_on(&mut self, reading: Reading, left: u64) -> Result<u64, Fault>
+        requires fine { self.old.has_failed ≡ false }
+        requires held { IsHeld D.view self.old reading }
+        requires some { 0 < left }
+        ensures done { IfOk result (λ more. (n : ℕ) × (0 < n) × (more + n ≡ left)
+            × IsCleanedOn D.view D.failed self.old n self.new
+            × IsWhole D.view self.old (min (most_ahead self.old.settings) left) n self.new) }
+        ensures stopped { IfErr result (λ fault. (n : ℕ)
+            × (n < min (most_ahead self.old.settings) left)
+            × (n ≤ most_cleanable self.old.settings self.old.store)
+            × (((n ≡ 0) × (self.new.store ≡ self.old.store)) ⊎ IsOfMachine fault)
+            × IsStoppedOn D.view D.failed self.old n fault self.new
+            × (IsOfMachine fault ⊎ IsCleanRefusedOn D.view self.new)) }
+    {
+        let most = self.most_ahead().min(left);
+        let cleaned = self.clean_row(reading, most)?;
+        Ok(left - cleaned)
     }
 
     // Cleans early, and then flushes. While the flush finds the log full and cleans may help, it does rows of cleans.
@@ -308,8 +347,8 @@ impl<D: Disk> Store<D> {
                 Err(fault) => return Err(want_of_room(fault)),
             };
             held = None;
-            match self.clean_row(reading, ahead.min(left)) {
-                Ok(cleaned) => left -= cleaned,
+            match self.clean_on(reading, left) {
+                Ok(more) => left = more,
                 Err(fault) => return Err(want_of_room(fault)),
             }
         }
@@ -333,13 +372,15 @@ impl<D: Disk> Store<D> {
     ///
     /// If too much lives by the first reading (`is_overfull`), the log is read once before `Fault::Full`. At worst, the call reads 12 times
     /// as many bytes as the log has, or 15 times as many if the log has fewer than 16 segments.
+    ///
+    /// The segments that were cleaned follow one another: `head` before and after the call tells how many they are.
     pub fn flush_cleaning(&mut self, rt: &(impl Threads + Sync), crew: Crew) -> Result<u64, Fault>
-        // Of the store, or of that compacted: some cleans and a flush, as a play of them does, whatever the disk does.
+        // Of the store, or of that compacted: rows of cleans and a flush, as a play of them does, whatever the disk does.
         ensures number { IfOk result (λ n. n ≡ self.new.store.sequence) }
         ensures flushed { IfOk result (λ _. (start : State D) × IsStart self.old start
             × IsFlushedCleaning D.view D.failed start self.new) }
 
-        // Which fault, and what it leaves: some cleans of the same, as a play of them does.
+        // Which fault, and what it leaves: rows of cleans of the same, as a play of them does.
         ensures failed { self.old.has_failed ≡ true →
             (result ≡ Err Fault.Failed) × (self.new ≡ self.old) }
         ensures bad_crew { self.old.has_failed ≡ false → is_crew crew ≡ false →

@@ -1,5 +1,5 @@
 //! Numbers to run a store by: how full its log is, whether a flush is due and what it would add, and how many pairs there are.
-ghost use Rattle.std.specs.Prelude.{◌≡◌, ◌≢◌, ◌⊎◌, ◌↔◌, ◌+◌, ◌^◌, ◌<◌, ◌≤◌, [], length, None, Ok, Err, IsTrue, IfOk, IfErr, true, false};
+ghost use Rattle.std.specs.Prelude.{◌≡◌, ◌≢◌, ◌⊎◌, ◌↔◌, ◌+◌, ◌^◌, ◌-◌, ◌<◌, ◌≤◌, [], length, min, None, Ok, Err, IsTrue, IfOk, IfErr, true, false};
 ghost use Rattle.keys.specs.Limits.{first_bad_field};
 ghost use Rattle.keys.specs.declared.fault.Fault.TheVariants.{NoMemory};
 ghost use Rattle.mapping.specs.Levels.{contents};
@@ -144,9 +144,7 @@ impl<D: Disk> Store<D> {
     /// How many pairs there are; 4,294,967,295 where there are more. It takes no memory, and walks over all pairs, as `range` without
     /// bounds does.
     pub fn pairs(&self) -> u64
-        ensures exact { length (contents self.now.store.tree) < 2 ^ 32 →
-            result ≡ length (contents self.now.store.tree) }
-        ensures least { result ≤ length (contents self.now.store.tree) }
+        ensures { result ≡ min (length (contents self.now.store.tree)) (2 ^ 32 - 1) }
     {
         count(Rows::new(self.alloc, &self.tree, b"", None, u32::MAX))
     }

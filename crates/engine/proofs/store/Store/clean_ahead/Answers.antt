@@ -14,7 +14,7 @@ returns-in_err-reading-clause-stopped g c =
 pub returns-in-Ok-clause-done : goal.returns-in-Ok-clause-done
 returns-in-Ok-clause-done g c =
     let (only, read, next) = c.in_ok-reading.ensures.read in
-    let (some, few, on) = c.in-Ok.ensures.done in
+    let (some, few, exact, on) = c.in-Ok.ensures.done in
     (some, few, read_then g.D.Disk.view g.D.Disk.failed g.met.D.Disk.lawful c.args.self.now c.read_ahead.new.self c.clean_all_read.new.self _ only on)
 
 pub returns-clause-done : goal.returns-clause-done
@@ -25,7 +25,7 @@ returns-clause-done g c =
     let next = c.clean_all_read.new.self in
     let (n, fault) = c.in-Err.refused in
     let (only, read, below) = c.in_ok-reading.ensures.read in
-    let (few, same, stopped) = c.in-Err.ensures.stopped in
+    let (few, within, same, stopped, refused) = c.in-Err.ensures.stopped in
     some_done c.after_some.result n fault _ c.after_some.ensures
     (λ some other. (some, omega (arith, few), read_then view failed g.met.D.Disk.lawful c.args.self.now mid next n only (done_on view failed mid next n fault other stopped)))
 
@@ -33,7 +33,7 @@ pub returns-clause-stopped : goal.returns-clause-stopped
 returns-clause-stopped g c =
     let (n, fault) = c.in-Err.refused in
     let (only, read, below) = c.in_ok-reading.ensures.read in
-    let (few, same, stopped) = c.in-Err.ensures.stopped in
+    let (few, within, same, stopped, refused) = c.in-Err.ensures.stopped in
     some_stopped c.after_some.result n fault _ c.after_some.ensures
     (λ why. (
       n,

@@ -74,3 +74,11 @@ returns-in-Err-clause-refused g c = rw (← c.self.view_is) (
     one_refused g.D.Disk.view g.D.Disk.failed s st c.self.inside.disk c.self.inside.has_failed c.self.invariant.sound (subst (λ x. x.has_failed ≡ false) (sym c.self.view_is) c.requires.fine) c.clean_by.new.disk c.clean_by.ensures.kept
     (λ settled step. c.clean_by.ensures.crash settled st refl refl step) c.is_of_disk-self-inside.result c.in-Err.fault _ c.is_of_disk-self-inside.ensures
     (file, read, reported st refl refl) (λ honest. c.in-Err.ensures.unwritten honest st refl refl) c.in-Err.ensures.uncounted)
+
+-- ---- the limit stays
+
+pub returns-in-Ok-clause-limit : goal.returns-in-Ok-clause-limit
+returns-in-Ok-clause-limit g c = c.clean_by.ensures.limit
+
+pub returns-in-Err-clause-limit : goal.returns-in-Err-clause-limit
+returns-in-Err-clause-limit g c = c.clean_by.ensures.limit

@@ -1,9 +1,10 @@
-use Rattle.std.proofs.Common.{◌≡◌, ◌∙◌, ◌+◌, ⊎_elim, sym, subst, arith, refl}
+use Rattle.std.proofs.Common.{◌≡◌, ◌∙◌, ⊎_elim, ap, sym, subst, arith, refl}
 use Rattle.std.proofs.lemmas.Result.{err_from_is_err_and}
 use Rattle.keys.specs.declared.fault.Fault.{Fault}
-use Rattle.engine.specs.Cleaning.{IsStoppedCleaning}
+use Rattle.keys.specs.declared.settings.Settings.{Settings}
+use Rattle.engine.specs.Cleaning.{IsStoppedCleaning, most_ahead}
 use Rattle.engine.specs.State.{IsSound}
-use Rattle.engine.proofs.CleaningLemmas.{gone_on, not_gone_on, flushed_on, still_done, still_held, is_full, full_next, stopped_flush, read_done, stopped_reading, more_done, stopped_clean, early_done, early_stopped}
+use Rattle.engine.proofs.CleaningLemmas.{gone_on, not_gone_on, flushed_on, still_done, still_held, is_full, full_next, stopped_flush, read_done, stopped_reading, more_done, early_done, early_few, early_stopped, early_whole, stopped_by_row}
 use Rattle.engine.proofs.CleansLemmas.{none_cleaned}
 use Rattle.engine.proofs.store.Store.flush_in_rows.Goals as goal
 
@@ -16,11 +17,11 @@ returns-in_err-early-clause-refused g c =
     let lawful = g.met.D.Disk.lawful in
     let old = c.args.self.now in
     let sound : IsSound view old = rw (← c.self.view_is) c.self.invariant.sound in
-    let (machine, n, less, early, stopped) = c.in_err-early.ensures.stopped in
-    let few = c.most_ahead-ahead.ensures.few in
+    let (machine, n, less, few, early, stopped) = c.in_err-early.ensures.stopped in
+    let all = c.most_ahead-ahead.ensures.few in
     let exact = c.most_ahead-ahead.ensures.exact in
     let p = err_from_is_err_and c.from_residual.result c.from_residual.ensures.1 in
-    rw (p.1, p.2) (early_stopped view failed lawful old c.clean_early.new.self n (omega (arith, less, exact)) early _ (omega (arith, less, few)) machine (stopped old 0 (none_cleaned view failed lawful old sound)))
+    rw (p.1, p.2) (early_stopped view failed lawful old c.clean_early.new.self n sound few (omega (arith, less, exact)) (omega (arith, all, exact)) _ (omega (arith, less, all)) machine early stopped)
 
 pub room-init : goal.room-init
 room-init g c =
@@ -29,59 +30,60 @@ room-init g c =
     let lawful = g.met.D.Disk.lawful in
     let old = c.args.self.now in
     let sound : IsSound view old = rw (← c.self.view_is) c.self.invariant.sound in
-    let (few, on, early, held) = c.in_ok-early.ensures.done in
-    let most = c.most_ahead-ahead.ensures.few in
+    let (few, on, early, calm, held) = c.in_ok-early.ensures.done in
+    let all = c.most_ahead-ahead.ensures.few in
     let exact = c.most_ahead-ahead.ensures.exact in
     let same : c.self.inside.settings.segments ≡ c.args.self.now.settings.segments = rw (← c.self.view_is) refl in
-    (_, omega (arith, few, most, same), early_done view failed lawful old c.clean_early.new.self _ (omega (arith, few, exact)) early (on old 0 (none_cleaned view failed lawful old sound)), held)
+    let begun = early_whole view old c.clean_early.new.self _ _ exact early in
+    let (rows, done, sum) = early_done view failed lawful old c.clean_early.new.self _ sound (early_few view old c.clean_early.new.self _ begun) (omega (arith, few, exact)) (omega (arith, all, exact))
+    begun calm on _ (omega (arith, few, all, same)) in
+    (rows, done, sum, held)
 
 -- ---- the flush
 
 pub returns-in-Ok-clause-flushed : goal.returns-in-Ok-clause-flushed
 returns-in-Ok-clause-flushed g c =
     let old = c.args.self.now in
-    let (count, all, done, held) = c.room.invariant in
+    let (rows, done, sum, held) = c.room.invariant in
     let ok = c.in-Ok.ensures in
-    flushed_on g.D.Disk.view g.D.Disk.failed g.met.D.Disk.lawful old count c.room.self done c.step.new.self c.in-Ok._flushed
-    ok.ok ok.rest ok.counted c.requires.fine ok.bytes ok.settled ok.crash ok.sound.1 (omega (arith, all))
+    flushed_on g.D.Disk.view g.D.Disk.failed g.met.D.Disk.lawful old rows c.room.self done c.step.new.self c.in-Ok._flushed
+    ok.ok ok.rest ok.counted c.requires.fine ok.bytes ok.settled ok.crash ok.sound.1 (omega (arith, sum))
 
 pub returns-in_err-go_on-in-Err-clause-refused : goal.returns-in_err-go_on-in-Err-clause-refused
 returns-in_err-go_on-in-Err-clause-refused g c =
     let old = c.args.self.now in
     let view = g.D.Disk.view in
     let failed = g.D.Disk.failed in
-    let (count, all, done, held) = c.room.invariant in
+    let (rows, done, sum, held) = c.room.invariant in
     let err = c.in-Err.ensures in
     let p = err_from_is_err_and c.from_residual-in_err-go_on-in-Err.result c.from_residual-in_err-go_on-in-Err.ensures.1 in
     let last = not_gone_on c.in-Err.fault c.in_err-go_on-in-Err.field-0.0 c.room.left c.in_err-go_on-in-Err.ensures in
     rw (p.1, p.2) (subst (λ (f : Fault). IsStoppedCleaning view failed old c.step.new.self f) (sym last.0)
-    (stopped_flush view failed g.met.D.Disk.lawful old count c.room.self done c.step.new.self err.unchanged err.rest err.sound.1
-    c.in-Err.fault err.fine err.same (λ is. (err.device is).0) err.crash (err.refused (done.done.turn.has_failed ∙ c.requires.fine) c.requires.crew)
-    (λ full. (let none = last.1 full in omega (arith, all, none)))))
+    (stopped_flush view failed g.met.D.Disk.lawful old rows c.room.self done c.step.new.self err.unchanged err.rest err.sound.1
+    c.in-Err.fault c.room.left sum err.fine err.same (λ is. (err.device is).0) err.crash (err.refused (done.done.turn.has_failed ∙ c.requires.fine) c.requires.crew) last.1))
 
 -- ---- a reading
 
 pub reading_for_room-requires-clause-fine : goal.reading_for_room-requires-clause-fine
 reading_for_room-requires-clause-fine g c = λ κs within. (
-    let old = c.args.self.now in
-    let view = g.D.Disk.view in
-    let failed = g.D.Disk.failed in
-    let lawful = g.met.D.Disk.lawful in
-    let (count, all, done, held) = c.room.invariant in
+    let (rows, done, sum, held) = c.room.invariant in
     let err = c.in-Err.ensures in
     let (full, more, other) = gone_on c.in-Err.fault c.room.left c.in_ok-go_on-in-Err.ensures in
     (err.fine other).0 ∙ done.done.turn.has_failed ∙ c.requires.fine)
 
 pub reading_for_room-requires-clause-held : goal.reading_for_room-requires-clause-held
 reading_for_room-requires-clause-held g c = λ κs within. (
-    let old = c.args.self.now in
-    let view = g.D.Disk.view in
-    let failed = g.D.Disk.failed in
-    let lawful = g.met.D.Disk.lawful in
-    let (count, all, done, held) = c.room.invariant in
+    let (rows, done, sum, held) = c.room.invariant in
     let err = c.in-Err.ensures in
     let (full, more, other) = gone_on c.in-Err.fault c.room.left c.in_ok-go_on-in-Err.ensures in
-    still_held view c.room.self c.step.new.self err.rest.0 err.rest.1 err.unchanged (λ h. err.same h other) c.room.held held)
+    still_held g.D.Disk.view c.room.self c.step.new.self err.rest.0 err.rest.1 err.unchanged (λ h. err.same h other) c.room.held held)
+
+-- the settings stay, so a row has as many cleans at most as it had
+pub reading_for_room-requires-clause-most : goal.reading_for_room-requires-clause-most
+reading_for_room-requires-clause-most g c = λ κs within. (
+    let (rows, done, sum, held) = c.room.invariant in
+    let err = c.in-Err.ensures in
+    c.most_ahead-ahead.ensures.exact ∙ sym (ap (λ (s : Settings). most_ahead s) (err.rest.0 ∙ done.done.turn.settings)))
 
 pub returns-in-Err-reading_for_room-clause-refused : goal.returns-in-Err-reading_for_room-clause-refused
 returns-in-Err-reading_for_room-clause-refused g c =
@@ -89,12 +91,12 @@ returns-in-Err-reading_for_room-clause-refused g c =
     let view = g.D.Disk.view in
     let failed = g.D.Disk.failed in
     let lawful = g.met.D.Disk.lawful in
-    let (count, all, done, held) = c.room.invariant in
+    let (rows, done, sum, held) = c.room.invariant in
     let err = c.in-Err.ensures in
     let (full, more, other) = gone_on c.in-Err.fault c.room.left c.in_ok-go_on-in-Err.ensures in
-    let mid = still_done view failed lawful old count c.room.self done c.step.new.self err.unchanged err.rest err.sound.1 (err.fine other) (λ h. err.same h other) in
-    let is = is_full view failed lawful old count c.room.self done c.step.new.self err.unchanged err.rest err.sound.1 c.in-Err.fault full (err.refused (done.done.turn.has_failed ∙ c.requires.fine) c.requires.crew) in
-    stopped_reading view failed lawful old count c.step.new.self mid c.reading_for_room.new.self is c.in-Err-reading_for_room.fault c.want_of_room.result (omega (arith, all, more)) c.want_of_room.ensures c.in-Err-reading_for_room.ensures.refused
+    let mid = still_done view failed lawful old rows c.room.self done c.step.new.self err.unchanged err.rest err.sound.1 (err.fine other) (λ h. err.same h other) in
+    let is = is_full view failed lawful old rows c.room.self done c.step.new.self err.unchanged err.rest err.sound.1 c.in-Err.fault full (err.refused (done.done.turn.has_failed ∙ c.requires.fine) c.requires.crew) in
+    stopped_reading view failed lawful old rows c.step.new.self mid c.reading_for_room.new.self is c.in-Err-reading_for_room.fault c.want_of_room.result (omega (arith, sum, more)) c.want_of_room.ensures c.in-Err-reading_for_room.ensures.refused
 
 pub returns-in-Err-reading_for_room-clause-sound : goal.returns-in-Err-reading_for_room-clause-sound
 returns-in-Err-reading_for_room-clause-sound g c =
@@ -103,54 +105,49 @@ returns-in-Err-reading_for_room-clause-sound g c =
 
 -- ---- a row of cleans
 
-pub clean_row-requires-clause-fine : goal.clean_row-requires-clause-fine
-clean_row-requires-clause-fine g c =
-    let old = c.args.self.now in
-    let view = g.D.Disk.view in
-    let failed = g.D.Disk.failed in
-    let lawful = g.met.D.Disk.lawful in
-    let (count, all, done, held) = c.room.invariant in
+pub clean_on-requires-clause-fine : goal.clean_on-requires-clause-fine
+clean_on-requires-clause-fine g c =
+    let (rows, done, sum, held) = c.room.invariant in
     let err = c.in-Err.ensures in
     let (full, more, other) = gone_on c.in-Err.fault c.room.left c.in_ok-go_on-in-Err.ensures in
     let (only, held_now, roomy) = c.in-Ok-reading_for_room.ensures.read in
     only.counted.0 ∙ (err.fine other).0 ∙ done.done.turn.has_failed ∙ c.requires.fine
 
-pub returns-in-Err-clean_row-clause-refused : goal.returns-in-Err-clean_row-clause-refused
-returns-in-Err-clean_row-clause-refused g c =
-    let old = c.args.self.now in
-    let view = g.D.Disk.view in
-    let failed = g.D.Disk.failed in
-    let lawful = g.met.D.Disk.lawful in
-    let (count, all, done, held) = c.room.invariant in
-    let err = c.in-Err.ensures in
-    let (full, more, other) = gone_on c.in-Err.fault c.room.left c.in_ok-go_on-in-Err.ensures in
-    let mid = still_done view failed lawful old count c.room.self done c.step.new.self err.unchanged err.rest err.sound.1 (err.fine other) (λ h. err.same h other) in
-    let is = is_full view failed lawful old count c.room.self done c.step.new.self err.unchanged err.rest err.sound.1 c.in-Err.fault full (err.refused (done.done.turn.has_failed ∙ c.requires.fine) c.requires.crew) in
-    let (only, held_now, roomy) = c.in-Ok-reading_for_room.ensures.read in
-    let next = read_done view failed lawful old count c.step.new.self mid c.reading_for_room.new.self only in
-    let still = full_next view failed lawful old count c.step.new.self mid c.reading_for_room.new.self is only.store in
-    let (n, less, first_or, stopped) = c.in-Err-clean_row.ensures.stopped in
-    let exact = c.most_ahead-ahead.ensures.exact in
-    let most = c.min.ensures in
-    stopped_clean view failed lawful old count c.reading_for_room.new.self next c.clean_row.new.self still roomy
-    n c.in-Err-clean_row.fault _ (omega (arith, less, most, exact)) (omega (arith, less, most, all)) c.want_of_room-in-Err-clean_row.ensures first_or (stopped old count next.done)
+pub clean_on-requires-clause-some : goal.clean_on-requires-clause-some
+clean_on-requires-clause-some g c = (gone_on c.in-Err.fault c.room.left c.in_ok-go_on-in-Err.ensures).1
 
-pub returns-in-Err-clean_row-clause-sound : goal.returns-in-Err-clean_row-clause-sound
-returns-in-Err-clean_row-clause-sound g c =
+pub returns-in-Err-clean_on-clause-refused : goal.returns-in-Err-clean_on-clause-refused
+returns-in-Err-clean_on-clause-refused g c =
     let old = c.args.self.now in
     let view = g.D.Disk.view in
     let failed = g.D.Disk.failed in
     let lawful = g.met.D.Disk.lawful in
-    let (count, all, done, held) = c.room.invariant in
+    let (rows, done, sum, held) = c.room.invariant in
     let err = c.in-Err.ensures in
-    let (full, more, other) = gone_on c.in-Err.fault c.room.left c.in_ok-go_on-in-Err.ensures in
-    let mid = still_done view failed lawful old count c.room.self done c.step.new.self err.unchanged err.rest err.sound.1 (err.fine other) (λ h. err.same h other) in
-    let is = is_full view failed lawful old count c.room.self done c.step.new.self err.unchanged err.rest err.sound.1 c.in-Err.fault full (err.refused (done.done.turn.has_failed ∙ c.requires.fine) c.requires.crew) in
+    let (full, some, other) = gone_on c.in-Err.fault c.room.left c.in_ok-go_on-in-Err.ensures in
+    let mid = still_done view failed lawful old rows c.room.self done c.step.new.self err.unchanged err.rest err.sound.1 (err.fine other) (λ h. err.same h other) in
+    let is = is_full view failed lawful old rows c.room.self done c.step.new.self err.unchanged err.rest err.sound.1 c.in-Err.fault full (err.refused (done.done.turn.has_failed ∙ c.requires.fine) c.requires.crew) in
     let (only, held_now, roomy) = c.in-Ok-reading_for_room.ensures.read in
-    let next = read_done view failed lawful old count c.step.new.self mid c.reading_for_room.new.self only in
-    let still = full_next view failed lawful old count c.step.new.self mid c.reading_for_room.new.self is only.store in
-    let (n, less, first_or, stopped) = c.in-Err-clean_row.ensures.stopped in
-    (rw (← c.self.view_is) c.self.invariant.sound, (stopped old count next.done).sound)
+    let at = c.reading_for_room.new.self in
+    let next = read_done view failed lawful old rows c.step.new.self mid at only in
+    let still = full_next view failed lawful old rows c.step.new.self mid at is only.store in
+    let (n, less, few, first_or, stopped, refused) = c.in-Err-clean_on.ensures.stopped in
+    stopped_by_row view failed lawful old rows at next c.clean_on.new.self still _ held_now roomy c.room.left some sum n few (omega (arith, less)) _ _ (omega (arith, less, sum)) c.want_of_room-in-Err-clean_on.ensures first_or refused stopped
+
+pub returns-in-Err-clean_on-clause-sound : goal.returns-in-Err-clean_on-clause-sound
+returns-in-Err-clean_on-clause-sound g c =
+    let old = c.args.self.now in
+    let view = g.D.Disk.view in
+    let failed = g.D.Disk.failed in
+    let lawful = g.met.D.Disk.lawful in
+    let (rows, done, sum, held) = c.room.invariant in
+    let err = c.in-Err.ensures in
+    let (full, some, other) = gone_on c.in-Err.fault c.room.left c.in_ok-go_on-in-Err.ensures in
+    let mid = still_done view failed lawful old rows c.room.self done c.step.new.self err.unchanged err.rest err.sound.1 (err.fine other) (λ h. err.same h other) in
+    let (only, held_now, roomy) = c.in-Ok-reading_for_room.ensures.read in
+    let next = read_done view failed lawful old rows c.step.new.self mid c.reading_for_room.new.self only in
+    let (n, less, few, first_or, stopped, refused) = c.in-Err-clean_on.ensures.stopped in
+    (rw (← c.self.view_is) c.self.invariant.sound, (stopped old _ next.done).sound)
 
 pub room-preserved : goal.room-preserved
 room-preserved g c =
@@ -158,29 +155,25 @@ room-preserved g c =
     let view = g.D.Disk.view in
     let failed = g.D.Disk.failed in
     let lawful = g.met.D.Disk.lawful in
-    let (count, all, done, held) = c.room.invariant in
+    let (rows, done, sum, held) = c.room.invariant in
     let err = c.in-Err.ensures in
-    let (full, more, other) = gone_on c.in-Err.fault c.room.left c.in_ok-go_on-in-Err.ensures in
-    let mid = still_done view failed lawful old count c.room.self done c.step.new.self err.unchanged err.rest err.sound.1 (err.fine other) (λ h. err.same h other) in
-    let is = is_full view failed lawful old count c.room.self done c.step.new.self err.unchanged err.rest err.sound.1 c.in-Err.fault full (err.refused (done.done.turn.has_failed ∙ c.requires.fine) c.requires.crew) in
+    let (full, some, other) = gone_on c.in-Err.fault c.room.left c.in_ok-go_on-in-Err.ensures in
+    let mid = still_done view failed lawful old rows c.room.self done c.step.new.self err.unchanged err.rest err.sound.1 (err.fine other) (λ h. err.same h other) in
+    let is = is_full view failed lawful old rows c.room.self done c.step.new.self err.unchanged err.rest err.sound.1 c.in-Err.fault full (err.refused (done.done.turn.has_failed ∙ c.requires.fine) c.requires.crew) in
     let (only, held_now, roomy) = c.in-Ok-reading_for_room.ensures.read in
-    let next = read_done view failed lawful old count c.step.new.self mid c.reading_for_room.new.self only in
-    let still = full_next view failed lawful old count c.step.new.self mid c.reading_for_room.new.self is only.store in
-    let (some, few, on) = c.in-Ok-clean_row.ensures.done in
-    let exact = c.most_ahead-ahead.ensures.exact in
-    let most = c.min.ensures in (
-      count + c.in-Ok-clean_row.cleaned,
-      omega (arith, all, few, most),
-      more_done view failed lawful old count c.reading_for_room.new.self next c.clean_row.new.self still roomy
-          c.in-Ok-clean_row.cleaned (omega (arith, few, most, exact)) (on old count next.done),
-      tt,
-    )
+    let at = c.reading_for_room.new.self in
+    let next = read_done view failed lawful old rows c.step.new.self mid at only in
+    let still = full_next view failed lawful old rows c.step.new.self mid at is only.store in
+    let (n, many, goes, on, whole) = c.in-Ok-clean_on.ensures.done in
+    let most = whole.0 in
+    let (after, are, may) = more_done view failed lawful old rows at next c.clean_on.new.self still _ held_now roomy c.room.left some sum n many (omega (arith, most)) (omega (arith, most)) _ on whole goes in
+    (after, are, may, tt)
 
 -- ---- the rest
 
 pub overflow_sub-left : goal.overflow_sub-left
 overflow_sub-left g c =
-    let (few, on, early, held) = c.in_ok-early.ensures.done in
+    let (few, on, early, calm, held) = c.in_ok-early.ensures.done in
     let most = c.most_ahead-ahead.ensures.few in
     let same : c.self.inside.settings.segments ≡ c.args.self.now.settings.segments = rw (← c.self.view_is) refl in
     omega (arith, few, most, same)
@@ -189,7 +182,7 @@ pub returns-in_err-early-clause-sound : goal.returns-in_err-early-clause-sound
 returns-in_err-early-clause-sound g c =
     let old = c.args.self.now in
     let sound : IsSound g.D.Disk.view old = rw (← c.self.view_is) c.self.invariant.sound in
-    let (machine, n, less, early, stopped) = c.in_err-early.ensures.stopped in
+    let (machine, n, less, few, early, stopped) = c.in_err-early.ensures.stopped in
     (sound, (stopped old 0 (none_cleaned g.D.Disk.view g.D.Disk.failed g.met.D.Disk.lawful old sound)).sound)
 
 pub returns-in-Ok-clause-sound : goal.returns-in-Ok-clause-sound
@@ -197,10 +190,3 @@ returns-in-Ok-clause-sound g c = (rw (← c.self.view_is) c.self.invariant.sound
 
 pub returns-in_err-go_on-in-Err-clause-sound : goal.returns-in_err-go_on-in-Err-clause-sound
 returns-in_err-go_on-in-Err-clause-sound g c = (rw (← c.self.view_is) c.self.invariant.sound, c.in-Err.ensures.sound.1)
-
-pub clean_row-requires-clause-some : goal.clean_row-requires-clause-some
-clean_row-requires-clause-some g c =
-    let (full, more, other) = gone_on c.in-Err.fault c.room.left c.in_ok-go_on-in-Err.ensures in
-    let exact = c.most_ahead-ahead.ensures.exact in
-    let most = c.min.ensures in
-    omega (arith, more, exact, most)

@@ -68,3 +68,8 @@ returns-in-Err-clause-live g c = rw (← c.self.view_is) (
       read.honest,
       ⊎_elim (λ nothing. inl nothing) (λ other. inr (⊎_elim (λ late. ⊎_elim (λ memory. inl memory) (λ device. inr (inl device.0)) late) (λ none. inr (inr none)) other)) why,
     ))
+
+-- ---- how many segments it has
+
+pub returns-in-Ok-clause-limit : goal.returns-in-Ok-clause-limit
+returns-in-Ok-clause-limit g c = rw (← c.self.view_is) c.in-Ok.ensures.limit.0

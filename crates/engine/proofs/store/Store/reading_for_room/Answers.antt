@@ -21,5 +21,4 @@ returns-then-branch-clause-refused g c =
 pub returns-clause-read : goal.returns-clause-read
 returns-clause-read g c =
     let (only, held) = c.in_ok-reading.ensures.read in
-    let (file, shown, known) = held.live in
-    (only, held, (file, shown, (_, known, sym c.in_ok-is_overfull.ensures.exact ∙ c.if-branch.false)))
+    (only, held, sym c.in_ok-is_overfull.ensures.exact ∙ c.if-branch.false)

@@ -1,0 +1,363 @@
+-- Turns of a play in the words of the trait: two turns one after the other, and a step that fails after a turn.
+use Rattle.std.specs.Prelude.{◌≡◌, ◌≢◌, ◌⊎◌, suc, ◌<◌, Bool, IsTrue, true, false, List, [], ◌∷◌, ◌++◌, length, map, drop, Option, Some, None, Result, Err}
+use Rattle.std.proofs.Common.{refl, sym, ap, ◌∙◌, subst, inl, inr, ⊎_elim, arith}
+use Rattle.std.proofs.lemmas.List.{append-nil, length-append, map-append, take-append-le}
+use Rattle.std.specs.declared.alloc.Global.{Global}
+use Rattle.keys.specs.Bytes.{Bytes, Pairs}
+use Rattle.keys.specs.Step.{replies_to, map_after_all}
+use Rattle.keys.specs.declared.command.Command.{Command}
+use Rattle.keys.specs.declared.command.Reply.{Reply}
+use Rattle.keys.specs.declared.fault.Fault.{Fault}
+use Rattle.keys.specs.declared.fault.Fault.TheVariants.{Device, Failed, NoMemory}
+use Rattle.keys.specs.declared.settings.Settings.{Settings}
+use Rattle.flush_log.specs.Disk.{View, Lawful, IsSettled, Kept, LeavesOnly, Same}
+use Rattle.flush_log.proofs.SameLemmas.{leaves_itself, left_still, settled_still}
+use Rattle.flush_log.proofs.ViewLemmas.{now_leaves, only_then, weaker}
+use Rattle.recovery.proofs.ReadBytes.{kept_self, kept_then}
+use Rattle.engine.specs.Claim.{Held}
+use Rattle.engine.specs.ClaimPlay.{Members, StateCalls, AreAnswered, IsTurnOf, IsStoppedOf, IsDurableAfterSome, contents_after, durable_after, members_of, state_after, then_next}
+use Rattle.engine.specs.Plays.{answer_of}
+use Rattle.engine.specs.Steps.{Step, Answer}
+use Rattle.engine.specs.Steps.Step.{Batch, Flush, Clean, Upgrade}
+use Rattle.engine.specs.Steps.Answer.{Replies}
+use Rattle.engine.specs.declared.step.Answer as code_answer
+use Rattle.engine.specs.declared.step.Step as code_step
+use Rattle.engine.proofs.PlayTurn.{device_or_not}
+use Rattle.engine.proofs.RefusedCalls.{not_both}
+
+-- ---- more steps
+
+answered-append : (m : Pairs Bytes) (xs ys : List (Step Global)) (answers more : List (Answer Global)) → AreAnswered m xs answers → AreAnswered (contents_after m xs) ys more → AreAnswered m (xs ++ ys) (answers ++ more)
+answered-append m [] ys answers more none on = subst (λ (l : List (Answer Global)). AreAnswered m ys (l ++ more)) (sym none) on
+answered-append m (Batch cs ∷ xs) ys answers more (rest, is, first) on =
+    (rest ++ more, ap (λ (l : List (Answer Global)). l ++ more) is, answered-append (map_after_all m cs) xs ys rest more first on)
+answered-append m (Flush ∷ xs) ys answers more (n, rest, is, first) on =
+    (n, rest ++ more, ap (λ (l : List (Answer Global)). l ++ more) is, answered-append m xs ys rest more first on)
+answered-append m (Clean ∷ xs) ys answers more (n, rest, is, first) on =
+    (n, rest ++ more, ap (λ (l : List (Answer Global)). l ++ more) is, answered-append m xs ys rest more first on)
+answered-append m (Upgrade ∷ xs) ys answers more (n, rest, is, first) on =
+    (n, rest ++ more, ap (λ (l : List (Answer Global)). l ++ more) is, answered-append m xs ys rest more first on)
+
+contents-append : (m : Pairs Bytes) (xs ys : List (Step Global)) → contents_after m (xs ++ ys) ≡ contents_after (contents_after m xs) ys
+contents-append m [] ys = refl
+contents-append m (Batch cs ∷ xs) ys = contents-append (map_after_all m cs) xs ys
+contents-append m (Flush ∷ xs) ys = contents-append m xs ys
+contents-append m (Clean ∷ xs) ys = contents-append m xs ys
+contents-append m (Upgrade ∷ xs) ys = contents-append m xs ys
+
+module _ (s : Settings) where
+  durable-append : (h : Option Held) (m : Pairs Bytes) (xs ys : List (Step Global)) → durable_after s h m (xs ++ ys) ≡ durable_after s (durable_after s h m xs) (contents_after m xs) ys
+  durable-append h m [] ys = refl
+  durable-append h m (Batch cs ∷ xs) ys = durable-append h (map_after_all m cs) xs ys
+  durable-append h m (Flush ∷ xs) ys = durable-append (Some (s, m)) m xs ys
+  durable-append h m (Clean ∷ xs) ys = durable-append h m xs ys
+  durable-append h m (Upgrade ∷ xs) ys = durable-append (Some (s, m)) m xs ys
+
+  some-first : (h : Option Held) (m : Pairs Bytes) (xs ys : List (Step Global)) (c : Option Held) → IsDurableAfterSome s h m xs c → IsDurableAfterSome s h m (xs ++ ys) c
+  some-first h m xs ys c (n, few, e) =
+      let long = length-append xs ys in
+      (n, omega (arith, few, long), e ∙ ap (λ (zs : List (Step Global)). durable_after s h m zs) (sym (take-append-le n xs ys few)))
+
+  some-later : (h : Option Held) (m : Pairs Bytes) (xs ys : List (Step Global)) (c : Option Held) → IsDurableAfterSome s (durable_after s h m xs) (contents_after m xs) ys c → IsDurableAfterSome s h m (xs ++ ys) c
+  some-later h m [] ys c is = is
+  some-later h m (Batch cs ∷ xs) ys c is = (let (n, few, e) = some-later h (map_after_all m cs) xs ys c is in (suc n, omega (arith, few), e))
+  some-later h m (Flush ∷ xs) ys c is = (let (n, few, e) = some-later (Some (s, m)) m xs ys c is in (suc n, omega (arith, few), e))
+  some-later h m (Clean ∷ xs) ys c is = (let (n, few, e) = some-later h m xs ys c is in (suc n, omega (arith, few), e))
+  some-later h m (Upgrade ∷ xs) ys c is = (let (n, few, e) = some-later (Some (s, m)) m xs ys c is in (suc n, omega (arith, few), e))
+
+module _ {State : Type 0} (f : StateCalls State) (s : Settings) where
+  -- the state after a call, and after the steps that follow
+  state-by : (o : Option (State × Bytes)) (xs ys : List (Step Global)) (mid : State) (bytes : Bytes)
+      → ((st : State) (file : Bytes) → state_after f s st file xs ≡ Some (mid, bytes) → state_after f s st file (xs ++ ys) ≡ state_after f s mid bytes ys)
+      → then_next o (λ now file. state_after f s now file xs) ≡ Some (mid, bytes) → then_next o (λ now file. state_after f s now file (xs ++ ys)) ≡ state_after f s mid bytes ys
+  state-by None xs ys mid bytes ih e = absurd (cc)
+  state-by (Some p) xs ys mid bytes ih e = ih p.0 p.1 e
+
+  state-append : (xs ys : List (Step Global)) (mid : State) (bytes : Bytes) (st : State) (file : Bytes) → state_after f s st file xs ≡ Some (mid, bytes) → state_after f s st file (xs ++ ys) ≡ state_after f s mid bytes ys
+  state-append [] ys mid bytes st file e =
+      let same : (let x : State × Bytes = (st, file) in x ≡ (mid, bytes)) = cc in
+      ap (λ (p : State × Bytes). state_after f s p.0 p.1 ys) same
+  state-append (Batch cs ∷ xs) ys mid bytes st file e = state-append xs ys mid bytes (f.batch s st cs) file e
+  state-append (Flush ∷ xs) ys mid bytes st file e = state-by (f.flush s st file) xs ys mid bytes (state-append xs ys mid bytes) e
+  state-append (Clean ∷ xs) ys mid bytes st file e = state-by (f.clean s st file) xs ys mid bytes (state-append xs ys mid bytes) e
+  state-append (Upgrade ∷ xs) ys mid bytes st file e = state-by (f.upgrade s st file) xs ys mid bytes (state-append xs ys mid bytes) e
+
+-- ---- turns
+
+module _ {State : Type 0} (recovered : Bytes → Option Held) (calls : StateCalls State) where
+  -- no step yet
+  pub no_turn_of : (old : Members State) → (IsTrue old.disk.is_honest → Lawful old.disk) → IsTurnOf recovered calls old [] [] old
+  no_turn_of old lawful = record {
+    answered = refl;
+    contents = refl;
+    rest = (refl, refl, kept_self old.disk);
+    none = λ _. refl;
+    durable = λ _. refl;
+    state = λ _. refl;
+    settled = λ settled. settled;
+    crash = λ settled. leaves_itself old.disk _ (lawful settled.honest) settled (0, omega arith, refl);
+  }
+
+  -- more steps after a turn
+  module _ (old mid new : Members State) (xs ys : List (Step Global)) (answers more : List (Answer Global)) (first : IsTurnOf recovered calls old xs answers mid) where
+    honest_still : IsTrue old.disk.is_honest → IsTrue mid.disk.is_honest
+    honest_still honest = subst IsTrue (sym first.rest.2.honest) honest
+
+    -- what is durable after more steps
+    pub durable_there : IsTrue old.disk.is_honest → (zs : List (Step Global))
+        → durable_after mid.settings (recovered mid.disk.seen) mid.contents zs ≡ durable_after old.settings (recovered old.disk.seen) old.contents (xs ++ zs)
+    durable_there honest zs =
+        ap (λ (s : Settings). durable_after s (recovered mid.disk.seen) mid.contents zs) first.rest.0
+        ∙ ap (λ (h : Option Held). durable_after old.settings h mid.contents zs) (first.durable honest)
+        ∙ ap (λ (m : Pairs Bytes). durable_after old.settings (durable_after old.settings (recovered old.disk.seen) old.contents xs) m zs) first.contents
+        ∙ sym (durable-append old.settings (recovered old.disk.seen) old.contents xs zs)
+
+    some_there : IsTrue old.disk.is_honest → (zs : List (Step Global)) (c : Option Held)
+        → IsDurableAfterSome mid.settings (recovered mid.disk.seen) mid.contents zs c → IsDurableAfterSome old.settings (recovered old.disk.seen) old.contents (xs ++ zs) c
+    some_there honest zs c is =
+        some-later old.settings (recovered old.disk.seen) old.contents xs zs c
+        (subst (λ (m : Pairs Bytes). IsDurableAfterSome old.settings (durable_after old.settings (recovered old.disk.seen) old.contents xs) m zs c) first.contents
+        (subst (λ (h : Option Held). IsDurableAfterSome old.settings h mid.contents zs c) (first.durable honest)
+        (subst (λ (s : Settings). IsDurableAfterSome s (recovered mid.disk.seen) mid.contents zs c) first.rest.0 is)))
+
+    -- a crash in what comes after the turn
+    pub crash_of : (zs : List (Step Global)) → IsSettled old.disk
+        → LeavesOnly mid.disk new.disk (λ c. IsDurableAfterSome mid.settings (recovered mid.disk.seen) mid.contents zs (recovered c))
+        → LeavesOnly old.disk new.disk (λ c. IsDurableAfterSome old.settings (recovered old.disk.seen) old.contents (xs ++ zs) (recovered c))
+    crash_of zs settled later =
+        only_then old.disk mid.disk new.disk _
+        (weaker old.disk mid.disk _ _ (λ c is. some-first old.settings (recovered old.disk.seen) old.contents xs zs (recovered c) is) (first.crash settled))
+        (weaker mid.disk new.disk _ _ (λ c is. some_there settled.honest zs (recovered c) is) later)
+
+    contents_of : new.contents ≡ contents_after mid.contents ys → new.contents ≡ contents_after old.contents (xs ++ ys)
+    contents_of next =
+        next
+        ∙ ap (λ (m : Pairs Bytes). contents_after m ys) first.contents
+        ∙ sym (contents-append old.contents xs ys)
+
+    none_after : IsTurnOf recovered calls mid ys more new → old.has_failed ≡ true → xs ++ ys ≡ []
+    none_after next bad = ap (λ (zs : List (Step Global)). zs ++ ys) (first.none bad) ∙ next.none (first.rest.1 ∙ bad)
+
+    pub turns_on : IsTurnOf recovered calls mid ys more new → IsTurnOf recovered calls old (xs ++ ys) (answers ++ more) new
+    turns_on next = record {
+      answered = answered-append old.contents xs ys answers more first.answered (subst (λ (m : Pairs Bytes). AreAnswered m ys more) first.contents next.answered);
+      contents = contents_of next.contents;
+      rest = (next.rest.0 ∙ first.rest.0, next.rest.1 ∙ first.rest.1, kept_then _ _ _ first.rest.2 next.rest.2);
+      none = none_after next;
+      durable = λ honest. next.durable (honest_still honest) ∙ durable_there honest ys;
+      state = λ honest.
+          state-append calls old.settings xs ys mid.state mid.disk.seen old.state old.disk.seen (first.state honest)
+          ∙ ap (λ (s : Settings). state_after calls s mid.state mid.disk.seen ys) (sym first.rest.0)
+          ∙ next.state (honest_still honest);
+      settled = λ settled. next.settled (first.settled settled);
+      crash = λ settled. crash_of ys settled (next.crash (first.settled settled));
+    }
+
+-- ---- one step that succeeded
+
+-- after a clean, the two outcomes are one
+pub either_is : (recovered : Bytes → Option Held) (old new : View) (held : Option Held) → LeavesOnly old new (λ k. recovered k ≡ held) → LeavesOnly old new (λ k. (recovered k ≡ held) ⊎ (recovered k ≡ held))
+either_is recovered old new held crash = weaker old new (λ k. recovered k ≡ held) (λ k. (recovered k ≡ held) ⊎ (recovered k ≡ held)) (λ k is. inl is) crash
+
+pub next_is : {State : Type 0} (o : Option (State × Bytes)) (p : State × Bytes) → o ≡ Some p → then_next o (λ now bytes. Some (now, bytes)) ≡ Some p
+next_is {State = State} o p e = ap (λ (q : Option (State × Bytes)). then_next q (λ now bytes. Some (now, bytes))) e
+
+module _ {D State : Type 0} (view : D → View) (lawful : (disk : D) → IsTrue (view disk).is_honest → Lawful (view disk)) (recovered : Bytes → Option Held) (calls : StateCalls State)
+    (m now : Pairs Bytes) (s t : Settings) (b c : Bool) (st next : State) (d e : D) where
+  abbrev pub before : Members State
+  before = record { contents = m; settings = s; has_failed = b; state = st; disk = view d }
+
+  abbrev pub left : Members State
+  left = record { contents = now; settings = t; has_failed = c; state = next; disk = view e }
+
+  pub batch_turn : (cs : List (Command Global)) (rs : List (Reply Global)) → b ≡ false → rs ≡ replies_to m cs → now ≡ map_after_all m cs → (t ≡ s) × (e ≡ d) × (c ≡ b) → next ≡ calls.batch s st cs
+      → IsTurnOf recovered calls before (Batch cs ∷ []) (Replies rs ∷ []) left
+  batch_turn cs rs fine replies contents (settings, disk, failed) state = record {
+    answered = ([], ap (λ (x : List (Reply Global)). (let l : List (Answer Global) = Replies x ∷ [] in l)) replies, refl);
+    contents = contents;
+    rest = (settings, failed, subst (λ (x : D). Kept (view d) (view x)) (sym disk) (kept_self (view d)));
+    none = λ bad. absurd (not_both b bad fine);
+    durable = λ _. ap (λ (x : D). recovered (view x).seen) disk;
+    state = λ _.
+        ap (λ (x : State). (let q : Option (State × Bytes) = Some (x, (view d).seen) in q)) (sym state)
+        ∙ ap (λ (x : D). (let q : Option (State × Bytes) = Some (next, (view x).seen) in q)) (sym disk);
+    settled = λ settled. subst (λ (x : D). IsSettled (view x)) (sym disk) settled;
+    crash = λ settled.
+        (let P : Bytes → Type 0 = λ k. IsDurableAfterSome s (recovered (view d).seen) m (Batch cs ∷ []) (recovered k) in
+        subst (λ (x : D). LeavesOnly (view d) (view x) P) (sym disk) (leaves_itself (view d) P (lawful d settled.honest) settled (0, omega arith, refl)));
+  }
+
+  -- a flush, a clean or an upgrade, after which this is durable
+  module _ (x : Step Global) (a : Answer Global) (held : Option Held) (answered : AreAnswered m (x ∷ []) (a ∷ [])) (same_pairs : contents_after m (x ∷ []) ≡ m)
+      (holds : durable_after s (recovered (view d).seen) m (x ∷ []) ≡ held) where
+    pub call_turn : b ≡ false → now ≡ m → (t ≡ s) × Kept (view d) (view e) → c ≡ b
+        → (IsTrue (view d).is_honest → recovered (view e).seen ≡ held)
+        → (IsTrue (view d).is_honest → state_after calls s st (view d).seen (x ∷ []) ≡ Some (next, (view e).seen))
+        → (IsSettled (view d) → IsSettled (view e))
+        → (IsSettled (view d) → LeavesOnly (view d) (view e) (λ k. (recovered k ≡ recovered (view d).seen) ⊎ (recovered k ≡ held)))
+        → IsTurnOf recovered calls before (x ∷ []) (a ∷ []) left
+    call_turn fine contents (settings, kept) failed durable state settled crash = record {
+      answered = answered;
+      contents = contents ∙ sym same_pairs;
+      rest = (settings, failed, kept);
+      none = λ bad. absurd (not_both b bad fine);
+      durable = λ honest. durable honest ∙ sym holds;
+      state = state;
+      settled = settled;
+      crash = λ still. weaker (view d) (view e) _ _ (λ k is. ⊎_elim (λ before. (0, omega arith, before)) (λ after. (1, omega arith, after ∙ sym holds)) is) (crash still);
+    }
+
+-- ---- a step that failed
+
+-- a failed store does not return `Device`
+pub no_memory_no_device : NoMemory ≢ Device
+no_memory_no_device e = cc
+
+only_not_device : (fault : Fault) → (fault ≡ Failed) ⊎ (fault ≡ NoMemory) → fault ≢ Device
+only_not_device fault (inl failed) e = cc
+only_not_device fault (inr memory) e = cc
+
+fine_at_device : (b : Bool) (fault : Fault) → (b ≡ true → (fault ≡ Failed) ⊎ (fault ≡ NoMemory)) → fault ≡ Device → b ≡ false
+fine_at_device false fault failed device = refl
+fine_at_device true fault failed device = absurd (only_not_device fault (failed refl) device)
+
+module _ {State : Type 0} (recovered : Bytes → Option Held) (calls : StateCalls State) where
+  module _ (old new : Members State) (x : Step Global) (fault : Fault) (failed : old.has_failed ≡ true → (fault ≡ Failed) ⊎ (fault ≡ NoMemory)) where
+    -- it has changed nothing
+    pub turn_stopped : fault ≢ Device → IsTurnOf recovered calls old [] [] new → IsStoppedOf recovered calls old [] [] x fault new
+    turn_stopped other turn = record {
+      answered = refl;
+      contents = turn.contents;
+      rest = (turn.rest.0, turn.rest.2);
+      failed = λ bad. (refl, failed bad);
+      turn = λ _. turn;
+      device = λ device. absurd (other device);
+      crash = λ settled. weaker old.disk new.disk _ _ (λ k is. some-first old.settings (recovered old.disk.seen) old.contents [] (x ∷ []) (recovered k) is) (turn.crash settled);
+      following = λ settled k left. inl (ap recovered ((turn.settled settled).only k left) ∙ turn.durable settled.honest);
+    }
+
+    -- a call of the disk failed in it
+    pub device_stopped : (held : Option Held) → durable_after old.settings (recovered old.disk.seen) old.contents (x ∷ []) ≡ held → fault ≡ Device → new.contents ≡ old.contents
+        → (new.settings ≡ old.settings) × Kept old.disk new.disk → new.has_failed ≡ true → (IsTrue new.disk.is_honest → Lawful new.disk)
+        → (old.has_failed ≡ false → IsSettled old.disk → LeavesOnly old.disk new.disk (λ k. (recovered k ≡ recovered old.disk.seen) ⊎ (recovered k ≡ held)))
+        → IsStoppedOf recovered calls old [] [] x fault new
+    device_stopped held holds device contents rest flag lawful crash = record {
+      answered = refl;
+      contents = contents;
+      rest = rest;
+      failed = λ bad. (refl, failed bad);
+      turn = λ other. absurd (other device);
+      device = λ _. flag;
+      crash = λ settled. weaker old.disk new.disk _ _ (λ k is. ⊎_elim (λ before. (0, omega arith, before)) (λ after. (1, omega arith, after ∙ sym holds)) is) (crash fine settled);
+      following = λ settled k left. ⊎_elim (λ before. inl before) (λ after. inr (after ∙ sym holds))
+          (now_leaves old.disk new.disk _ (lawful (subst IsTrue (sym rest.1.honest) settled.honest)) (crash fine settled) k left);
+    } where
+      fine : old.has_failed ≡ false
+      fine = fine_at_device old.has_failed fault failed device
+
+  -- it fails after a turn
+  module _ (old mid new : Members State) (xs : List (Step Global)) (answers : List (Answer Global)) (first : IsTurnOf recovered calls old xs answers mid) where
+    pub stopped_on : (x : Step Global) (fault : Fault) → IsStoppedOf recovered calls mid [] [] x fault new → IsStoppedOf recovered calls old xs answers x fault new
+    stopped_on x fault last = record {
+      answered = first.answered;
+      contents = last.contents ∙ first.contents;
+      rest = (last.rest.0 ∙ first.rest.0, kept_then _ _ _ first.rest.2 last.rest.1);
+      failed = λ bad. (first.none bad, (last.failed (first.rest.1 ∙ bad)).1);
+      turn = λ other.
+          subst (λ (zs : List (Step Global)). IsTurnOf recovered calls old zs answers new) (append-nil xs)
+          (subst (λ (l : List (Answer Global)). IsTurnOf recovered calls old (xs ++ []) l new) (append-nil answers)
+          (turns_on recovered calls old mid new xs [] answers [] first (last.turn other)));
+      device = last.device;
+      crash = λ settled. crash_of recovered calls old mid new xs [] answers [] first (x ∷ []) settled (last.crash (first.settled settled));
+      following = λ settled k left. ⊎_elim
+          (λ before. inl (before ∙ first.durable settled.honest))
+          (λ after. inr (after ∙ durable_there recovered calls old mid new xs [] answers [] first settled.honest (x ∷ [])))
+          (last.following (first.settled settled) k left);
+    }
+
+-- ---- lists as they are called
+
+-- the first of some steps
+pub first_step : (xs : List code_step.Step) → 0 < length xs → (x : code_step.Step) × (rest : List code_step.Step) × (drop 0 xs ≡ x ∷ rest)
+first_step [] some = absurd (omega (arith, some))
+first_step (x ∷ xs) some = (x, xs, refl)
+
+-- one more answer
+pub answered_more : (xs ys : List code_answer.Answer) (a : code_answer.Answer) → ys ≡ xs ++ a ∷ [] → map answer_of ys ≡ map answer_of xs ++ answer_of a ∷ []
+answered_more xs ys a is = ap (map answer_of) is ∙ map-append answer_of xs (a ∷ [])
+
+-- a turn of the same steps and answers
+pub turn_of_same : {State : Type 0} (recovered : Bytes → Option Held) (calls : StateCalls State) (old new : Members State) (xs ys : List (Step Global)) (answers reported : List (Answer Global)) → ys ≡ xs → reported ≡ answers
+    → IsTurnOf recovered calls old xs answers new → IsTurnOf recovered calls old ys reported new
+turn_of_same recovered calls old new xs ys answers reported steps same turn =
+    subst (λ (l : List (Answer Global)). IsTurnOf recovered calls old ys l new) (sym same) (subst (λ (l : List (Step Global)). IsTurnOf recovered calls old l answers new) (sym steps) turn)
+
+-- a play that was stopped, with the same answers
+pub stopped_same : {State : Type 0} (recovered : Bytes → Option Held) (calls : StateCalls State) (old new : Members State) (xs : List (Step Global)) (answers reported : List (Answer Global)) (x : Step Global) (fault : Fault) → reported ≡ answers
+    → IsStoppedOf recovered calls old xs answers x fault new → IsStoppedOf recovered calls old xs reported x fault new
+stopped_same recovered calls old new xs answers reported x fault same stopped =
+    subst (λ (l : List (Answer Global)). IsStoppedOf recovered calls old xs l x fault new) (sym same) stopped
+
+-- ---- stores that implement the trait
+
+-- the fault that a failed store has to return
+pub only_failed : {X : Type 0} (r : Result X Fault) (fault : Fault) → r ≡ Err fault → r ≡ Err Failed → (fault ≡ Failed) ⊎ (fault ≡ NoMemory)
+only_failed r fault was has = (let same : fault ≡ Failed = cc in inl same)
+
+module _ {X D State : Type 0} (con : X → Pairs Bytes) (set : X → Settings) (bad : X → Bool) (st : X → State) (disk : X → D) (view : D → View)
+    (lawful : (d : D) → IsTrue (view d).is_honest → Lawful (view d)) (recovered : Bytes → Option Held) (calls : StateCalls State) (old new : X) where
+  abbrev members : X → Members State
+  members = members_of con set bad st disk view
+
+  module _ (x : Step Global) (fault : Fault) (failed : bad old ≡ true → (fault ≡ Failed) ⊎ (fault ≡ NoMemory)) where
+    pub unchanged_stopped : fault ≢ Device → new ≡ old → IsStoppedOf recovered calls (members old) [] [] x fault (members new)
+    unchanged_stopped other same =
+        turn_stopped recovered calls (members old) (members new) x fault failed other
+        (subst (λ (y : X). IsTurnOf recovered calls (members old) [] [] (members y)) (sym same) (no_turn_of recovered calls (members old) (lawful (disk old))))
+
+    module _ (contents : con new ≡ con old) (rest : (set new ≡ set old) × Kept (view (disk old)) (view (disk new))) where
+      -- a flush or an upgrade
+      pub written_stopped : (held : Option Held) → durable_after (set old) (recovered (view (disk old)).seen) (con old) (x ∷ []) ≡ held → (fault ≡ Device → bad new ≡ true) → (fault ≢ Device → new ≡ old)
+          → (bad old ≡ false → IsSettled (view (disk old)) → LeavesOnly (view (disk old)) (view (disk new)) (λ k. (recovered k ≡ recovered (view (disk old)).seen) ⊎ (recovered k ≡ held)))
+          → IsStoppedOf recovered calls (members old) [] [] x fault (members new)
+      written_stopped held holds flag same crash = ⊎_elim
+          (λ device. device_stopped recovered calls (members old) (members new) x fault failed held holds device contents rest (flag device) (lawful (disk new)) crash)
+          (λ other. unchanged_stopped other.0 (same other.0))
+          (device_or_not fault)
+
+      -- a clean has only read the disk, if no call of the disk failed
+      read_only : (fault ≢ Device → bad new ≡ bad old) → st new ≡ st old → (IsTrue (view (disk old)).is_honest → fault ≢ Device → Same (view (disk old)) (view (disk new)))
+          → fault ≢ Device → IsTurnOf recovered calls (members old) [] [] (members new)
+      read_only flag state same other = record {
+        answered = refl;
+        contents = contents;
+        rest = (rest.0, flag other, rest.1);
+        none = λ _. refl;
+        durable = λ honest. ap recovered (same honest other).seen;
+        state = λ honest.
+            ap (λ (y : State). (let q : Option (State × Bytes) = Some (y, (view (disk old)).seen) in q)) (sym state)
+            ∙ ap (λ (f : Bytes). (let q : Option (State × Bytes) = Some (st new, f) in q)) (sym (same honest other).seen);
+        settled = λ settled. settled_still (view (disk old)) (view (disk new)) rest.1 (same settled.honest other) settled;
+        crash = λ settled. left_still (view (disk old)) (view (disk old)) (view (disk new)) _
+            (leaves_itself (view (disk old)) _ (lawful (disk old) settled.honest) settled (0, omega arith, refl)) (same settled.honest other);
+      }
+
+      pub clean_stopped : durable_after (set old) (recovered (view (disk old)).seen) (con old) (x ∷ []) ≡ recovered (view (disk old)).seen
+          → (fault ≡ Device → bad new ≡ true) × (fault ≢ Device → bad new ≡ bad old) → st new ≡ st old
+          → (IsTrue (view (disk old)).is_honest → fault ≢ Device → Same (view (disk old)) (view (disk new)))
+          → (bad old ≡ false → IsSettled (view (disk old)) → LeavesOnly (view (disk old)) (view (disk new)) (λ k. recovered k ≡ recovered (view (disk old)).seen))
+          → IsStoppedOf recovered calls (members old) [] [] x fault (members new)
+      clean_stopped holds flag state same crash = ⊎_elim
+          (λ device. device_stopped recovered calls (members old) (members new) x fault failed _ holds device contents rest (flag.0 device) (lawful (disk new))
+          (λ fine settled. either_is recovered (view (disk old)) (view (disk new)) (recovered (view (disk old)).seen) (crash fine settled)))
+          (λ other. turn_stopped recovered calls (members old) (members new) x fault failed other.0 (read_only flag.1 state same other.0))
+          (device_or_not fault)
+
+  -- another name of the step
+  pub turn_named : (x y : Step Global) (a b : Answer Global) → y ≡ x → b ≡ a → IsTurnOf recovered calls (members old) (x ∷ []) (a ∷ []) (members new) → IsTurnOf recovered calls (members old) (y ∷ []) (b ∷ []) (members new)
+  turn_named x y a b step answer turn =
+      subst (λ (z : Step Global). IsTurnOf recovered calls (members old) (z ∷ []) (b ∷ []) (members new)) (sym step)
+      (subst (λ (z : Answer Global). IsTurnOf recovered calls (members old) (x ∷ []) (z ∷ []) (members new)) (sym answer) turn)
+
+  pub stopped_named : (x y : Step Global) (fault : Fault) → y ≡ x → IsStoppedOf recovered calls (members old) [] [] x fault (members new) → IsStoppedOf recovered calls (members old) [] [] y fault (members new)
+  stopped_named x y fault step stopped = subst (λ (z : Step Global). IsStoppedOf recovered calls (members old) [] [] z fault (members new)) (sym step) stopped

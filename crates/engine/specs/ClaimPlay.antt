@@ -1,0 +1,109 @@
+-- A play of steps on a store that implements `OrderedStore`: what the steps answer and leave, in the words of the trait.
+use Rattle.std.specs.Prelude.{◌≡◌, ◌≢◌, ◌⊎◌, ℕ, ◌≤◌, Bool, IsTrue, true, List, [], ◌∷◌, ◌++◌, length, take, Option, Some, None}
+use Rattle.std.specs.declared.alloc.Global.{Global}
+use Rattle.keys.specs.Bytes.{Bytes, Pairs}
+use Rattle.keys.specs.Step.{replies_to, map_after_all}
+use Rattle.keys.specs.declared.command.Command.{Command}
+use Rattle.keys.specs.declared.fault.Fault.{Fault}
+use Rattle.keys.specs.declared.fault.Fault.TheVariants.{Device, Failed, NoMemory}
+use Rattle.keys.specs.declared.settings.Settings.{Settings}
+use Rattle.flush_log.specs.Disk.{View, IsSettled, Kept, LeavesOnly}
+use Rattle.engine.specs.Batches.{map_in_turn}
+use Rattle.engine.specs.Claim.{Held}
+use Rattle.engine.specs.Steps.{Step, Answer, batches_among}
+use Rattle.engine.specs.Steps.Step.{Batch, Flush, Clean, Upgrade}
+use Rattle.engine.specs.Steps.Answer.{Replies, Flushed, Cleaned, Upgraded}
+
+-- ---- a store, as the trait sees it
+
+-- the ghost members of one store, and its disk; the state is plain data of any type
+pub record Members (State : Type 0) : Type 1 where
+  pub contents : Pairs Bytes
+  pub settings : Settings
+  pub has_failed : Bool
+  pub state : State
+  pub disk : View
+
+-- the members of a store, by the functions that an implementation chose
+abbrev pub members_of : {X D State : Type 0} → (X → Pairs Bytes) → (X → Settings) → (X → Bool) → (X → State) → (X → D) → (D → View) → X → Members State
+members_of contents settings has_failed state disk_of view x =
+    record { contents = contents x; settings = settings x; has_failed = has_failed x; state = state x; disk = view (disk_of x) }
+
+-- what the calls make of a state, and of the bytes of its disk
+pub record StateCalls (State : Type 0) : Type 0 where
+  pub batch : Settings → State → List (Command Global) → State
+  pub flush : Settings → State → Bytes → Option (State × Bytes)
+  pub clean : Settings → State → Bytes → Option (State × Bytes)
+  pub upgrade : Settings → State → Bytes → Option (State × Bytes)
+
+abbrev pub calls_of : {State : Type 0} → (Settings → State → List (Command Global) → State) → (Settings → State → Bytes → Option (State × Bytes)) → (Settings → State → Bytes → Option (State × Bytes))
+    → (Settings → State → Bytes → Option (State × Bytes)) → StateCalls State
+calls_of batch flush clean upgrade = record { batch = batch; flush = flush; clean = clean; upgrade = upgrade }
+
+-- ---- what steps answer and leave
+
+-- the pairs after these steps
+abbrev pub contents_after : Pairs Bytes → List (Step Global) → Pairs Bytes
+contents_after m xs = map_in_turn m (batches_among xs)
+
+-- each step has an answer of its kind, and each batch the replies of an ordered map
+abbrev pub AreAnswered : Pairs Bytes → List (Step Global) → List (Answer Global) → Type 0
+AreAnswered m [] answers = answers ≡ []
+AreAnswered m (Batch cs ∷ xs) answers = (rest : List (Answer Global)) × (answers ≡ Replies (replies_to m cs) ∷ rest) × AreAnswered (map_after_all m cs) xs rest
+AreAnswered m (Flush ∷ xs) answers = (n : ℕ) × (rest : List (Answer Global)) × (answers ≡ Flushed n ∷ rest) × AreAnswered m xs rest
+AreAnswered m (Clean ∷ xs) answers = (n : ℕ) × (rest : List (Answer Global)) × (answers ≡ Cleaned n ∷ rest) × AreAnswered m xs rest
+AreAnswered m (Upgrade ∷ xs) answers = (n : ℕ) × (rest : List (Answer Global)) × (answers ≡ Upgraded n ∷ rest) × AreAnswered m xs rest
+
+-- what is durable after these steps: the pairs at the last flush or upgrade among them, or else what was durable before them
+abbrev pub durable_after : Settings → Option Held → Pairs Bytes → List (Step Global) → Option Held
+durable_after s held m [] = held
+durable_after s held m (Batch cs ∷ xs) = durable_after s held (map_after_all m cs) xs
+durable_after s held m (Flush ∷ xs) = durable_after s (Some (s, m)) m xs
+durable_after s held m (Clean ∷ xs) = durable_after s held m xs
+durable_after s held m (Upgrade ∷ xs) = durable_after s (Some (s, m)) m xs
+
+-- this is durable after the first n of these steps, for some n
+abbrev pub IsDurableAfterSome : Settings → Option Held → Pairs Bytes → List (Step Global) → Option Held → Type 0
+IsDurableAfterSome s held m xs h = (n : ℕ) × (n ≤ length xs) × (h ≡ durable_after s held m (take n xs))
+
+-- what the next steps make of a state and bytes, if there are some
+abbrev pub then_next : {State : Type 0} → Option (State × Bytes) → (State → Bytes → Option (State × Bytes)) → Option (State × Bytes)
+then_next None next = None
+then_next (Some p) next = next p.0 p.1
+
+-- the state and the bytes after these steps
+abbrev pub state_after : {State : Type 0} → StateCalls State → Settings → State → Bytes → List (Step Global) → Option (State × Bytes)
+state_after f s st file [] = Some (st, file)
+state_after f s st file (Batch cs ∷ xs) = state_after f s (f.batch s st cs) file xs
+state_after f s st file (Flush ∷ xs) = then_next (f.flush s st file) (λ now bytes. state_after f s now bytes xs)
+state_after f s st file (Clean ∷ xs) = then_next (f.clean s st file) (λ now bytes. state_after f s now bytes xs)
+state_after f s st file (Upgrade ∷ xs) = then_next (f.upgrade s st file) (λ now bytes. state_after f s now bytes xs)
+
+-- ---- a play
+
+-- These steps succeeded one after the other on the store `old`, returned these answers, and left the store `new`.
+pub record IsTurnOf {State : Type 0} (recovered : Bytes → Option Held) (calls : StateCalls State) (old : Members State) (xs : List (Step Global)) (answers : List (Answer Global)) (new : Members State) : Type 0 where
+  pub answered : AreAnswered old.contents xs answers
+  pub contents : new.contents ≡ contents_after old.contents xs
+  pub rest : (new.settings ≡ old.settings) × (new.has_failed ≡ old.has_failed) × Kept old.disk new.disk
+  -- a failed store does no step
+  pub none : old.has_failed ≡ true → xs ≡ []
+  pub durable : IsTrue old.disk.is_honest → recovered new.disk.seen ≡ durable_after old.settings (recovered old.disk.seen) old.contents xs
+  pub state : IsTrue old.disk.is_honest → state_after calls old.settings old.state old.disk.seen xs ≡ Some (new.state, new.disk.seen)
+  pub settled : IsSettled old.disk → IsSettled new.disk
+  -- a crash at any moment leaves what was durable after some of the steps
+  pub crash : IsSettled old.disk → LeavesOnly old.disk new.disk (λ c. IsDurableAfterSome old.settings (recovered old.disk.seen) old.contents xs (recovered c))
+
+-- These steps succeeded, and then the step `x` failed with this fault. It has changed nothing, unless the fault is `Device`: then the store is a
+-- failed one, and a crash leaves what was durable before `x`, or what `x` would have made durable.
+pub record IsStoppedOf {State : Type 0} (recovered : Bytes → Option Held) (calls : StateCalls State) (old : Members State) (xs : List (Step Global)) (answers : List (Answer Global)) (x : Step Global) (fault : Fault) (new : Members State) : Type 0 where
+  pub answered : AreAnswered old.contents xs answers
+  pub contents : new.contents ≡ contents_after old.contents xs
+  pub rest : (new.settings ≡ old.settings) × Kept old.disk new.disk
+  pub failed : old.has_failed ≡ true → (xs ≡ []) × ((fault ≡ Failed) ⊎ (fault ≡ NoMemory))
+  pub turn : fault ≢ Device → IsTurnOf recovered calls old xs answers new
+  pub device : fault ≡ Device → new.has_failed ≡ true
+  -- a crash during the play, and one after it
+  pub crash : IsSettled old.disk → LeavesOnly old.disk new.disk (λ c. IsDurableAfterSome old.settings (recovered old.disk.seen) old.contents (xs ++ x ∷ []) (recovered c))
+  pub following : IsSettled old.disk → (c : Bytes) → new.disk.may_leave c →
+      (recovered c ≡ durable_after old.settings (recovered old.disk.seen) old.contents xs) ⊎ (recovered c ≡ durable_after old.settings (recovered old.disk.seen) old.contents (xs ++ x ∷ []))
