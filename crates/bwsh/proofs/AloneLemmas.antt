@@ -1,6 +1,6 @@
 -- Lemmas on orders that leave a store as it is.
-use Rattle.std.proofs.Common.{◌≡◌, inl, inr, List, [], ◌++◌, Option, Some, None, Result, Ok, Err, refl, sym, ap, ◌∙◌, subst, append-nil}
-use Rattle.std.specs.Prelude.{Bool, true, false, ⊤}
+use Rattle.std.proofs.Common.{◌≡◌, inl, inr, List, [], ◌++◌, Option, Some, None, Result, Ok, Err, refl, sym, ap, ◌∙◌, subst}
+use Rattle.std.specs.Prelude.{Bool, ⊤}
 use Rattle.std.specs.Option.{option_or}
 use Rattle.std.specs.Io.KnownBytes.{Appends}
 use Rattle.std.proofs.KnownBytes.{Appends-nil, Appends-trans}
@@ -17,13 +17,10 @@ use Rattle.bwsh.specs.declared.order.Order.TheVariants.{Back, BadLine, Batch, Cl
 use Rattle.bwsh.specs.declared.session.SessionError.{SessionError}
 use Rattle.bwsh.specs.declared.session.SessionError.TheVariants.{Device}
 use Rattle.bwsh.specs.declared.session.SessionError.TheVariants as errors
-use Rattle.bwsh.specs.BatchFile.{is_flush}
 use Rattle.bwsh.specs.Output.{BeginsWith, Writes}
-use Rattle.bwsh.specs.Session.{LeavesStored, MayFail, PrintsOwn, RunsAlone, RunsOrder, Seen, Stored, after_order, answer_then, left_unless, map_after, map_unless, no_tidying, own_lines, refusal_of}
-use Rattle.bwsh.proofs.FirstLemmas.{MakesNone}
-use Rattle.bwsh.proofs.OwnLemmas.{ended_by}
+use Rattle.bwsh.specs.Session.{LeavesStored, MayFail, RunsAlone, RunsOrder, Seen, Stored, after_order, left_unless, map_after, map_unless, own_lines, refusal_of}
 use Rattle.bwsh.proofs.Prints.{flat-append, front-longer, front-more}
-use Rattle.bwsh.proofs.RunLemmas.{no_tidying_asked}
+use Rattle.bwsh.proofs.RunLemmas.{PrintsOwn-writes, bare_printed, failing, none_in_front, refused, seen_failing, seen_untidied, untidied_before}
 
 -- the order leaves a store as it is, and is refused by no store
 abbrev pub IsStill : Order → Type 0
@@ -35,9 +32,9 @@ IsStill Upgrade = ⊥
 IsStill (Tidy most) = ⊥
 IsStill _ = ⊤
 
--- these bytes are seen, and the order fails so, if it does
-abbrev pub seen_still : Option Fault → Bytes → Seen
-seen_still fails file = record { bytes = file; ahead = file; tidying = no_tidying; merged = []; fails = fails; told = [] }
+-- it is no flush
+not_flush : (order : Order) → IsStill order → order ≡ Flush → ⊥
+not_flush order still is = subst IsStill is still
 
 pub left_same : (fails : Option Fault) (at : Stored) → left_unless fails at at ≡ at
 left_same None at = refl
@@ -52,7 +49,7 @@ map_same None m order same = sym same
 map_same (Some fault) m order same = refl
 
 module _ (settings : Settings) (st : Store) (fails : Option Fault) (file : Bytes) where
-  still_after : (order : Order) → IsStill order → after_order settings st (seen_still fails file) order ≡ (st, file)
+  still_after : (order : Order) → IsStill order → after_order settings st (failing fails file) order ≡ (st, file)
   unfolding after_order
   still_after (Batch cs) still = absurd still
   still_after (BadLine line why) still = left_same fails (st, file)
@@ -69,7 +66,7 @@ module _ (settings : Settings) (st : Store) (fails : Option Fault) (file : Bytes
   still_after (Prefix bytes limit) still = left_same fails (st, file)
   still_after Help still = left_same fails (st, file)
 
-  still_refusal : (order : Order) → IsStill order → refusal_of settings st (seen_still fails file) order ≡ fails
+  still_refusal : (order : Order) → IsStill order → refusal_of settings st (failing fails file) order ≡ fails
   unfolding refusal_of
   still_refusal (Batch cs) still = absurd still
   still_refusal (BadLine line why) still = refused_same fails
@@ -102,30 +99,20 @@ map_still m (Back lo hi limit) still = refl
 map_still m (Prefix bytes limit) still = refl
 map_still m Help still = refl
 
--- an order that isn't refused, and whose lines are written
-pub RunsAlone-done : (on : Bool) (settings : Settings) (st : Store) (seen : Seen) (order : Order) (old new : Option Bytes) (end : Result (Unit {0}) SessionError)
+-- an order without cleans in front of it that isn't refused, and whose lines are written
+pub RunsAlone-done : (on : Bool) (settings : Settings) (st : Store) (seen : Seen) (order : Order) (old new : Option Bytes) (end : Result (Unit {0}) SessionError) → seen.rows ≡ []
     → refusal_of settings st seen order ≡ None → Writes old new (own_lines settings st seen (contents st.tree) order) end → RunsAlone on settings st seen order old new end
-unfolding RunsAlone
-RunsAlone-done on settings st seen order old new end none written =
-    let own : List Bytes = own_lines settings st seen (contents st.tree) order in
-    subst (λ (r : Option Fault). PrintsOwn on old new (answer_then false r seen.told own []) (ended_by r) end) (sym none)
-    (subst (λ (lines : List Bytes). PrintsOwn on old new lines (Ok tt) end) (sym (append-nil own)) (by written))
-  where
-    by : Writes old new (own_lines settings st seen (contents st.tree) order) end → PrintsOwn on old new (own_lines settings st seen (contents st.tree) order) (Ok tt) end
-    by (inl p) = inl p
-    by (inr p) = inr (inr p)
+RunsAlone-done on settings st seen order old new end bare none written =
+    bare_printed settings st seen order on old new (none_in_front st seen order bare) end none (PrintsOwn-writes on old new (own_lines settings st seen (contents st.tree) order) end written)
 
--- an order that is refused, with nothing written
-pub RunsAlone-refused : (on : Bool) (settings : Settings) (st : Store) (seen : Seen) (order : Order) (old : Option Bytes) (fault : Fault)
+-- one that is refused, with nothing written
+pub RunsAlone-refused : (on : Bool) (settings : Settings) (st : Store) (seen : Seen) (order : Order) (old : Option Bytes) (fault : Fault) → seen.rows ≡ []
     → refusal_of settings st seen order ≡ Some fault → RunsAlone on settings st seen order old old (Err (errors.Fault fault))
-unfolding RunsAlone
-RunsAlone-refused on settings st seen order old fault some =
-    subst (λ (r : Option Fault). PrintsOwn on old old (answer_then false r seen.told (own_lines settings st seen (contents st.tree) order) []) (ended_by r) (Err (errors.Fault fault))) (sym some)
-    (inl (refl, Appends-nil old))
+RunsAlone-refused on settings st seen order old fault bare some = refused settings st seen order on old old (none_in_front st seen order bare) fault refl some
 
 module _ (mode : Mode) (honest : Bool) (settings : Settings) (st : Store) (left : Bytes) (order : Order) where
   module _ (still : IsStill order) where
-    leaves_still : (fails : Option Fault) → LeavesStored honest settings st (seen_still fails left) order st left
+    leaves_still : (fails : Option Fault) → LeavesStored honest settings st (failing fails left) order st left
     leaves_still fails = record {
       store = ap (λ (at : Stored). at.0) (sym (still_after settings st fails left order still));
       bytes = λ h. ap (λ (at : Stored). at.1) (sym (still_after settings st fails left order still));
@@ -134,12 +121,12 @@ module _ (mode : Mode) (honest : Bool) (settings : Settings) (st : Store) (left 
     }
 
     -- it is done, and its lines are written
-    pub RunsOrder-still : (old new : Option Bytes) (end : Result (Unit {0}) SessionError) → Writes old new (own_lines settings st (seen_still None left) (contents st.tree) order) end
+    pub RunsOrder-still : (old new : Option Bytes) (end : Result (Unit {0}) SessionError) → Writes old new (own_lines settings st (failing None left) (contents st.tree) order) end
         → RunsOrder mode honest settings st left order old new end st left
     RunsOrder-still old new end written = (
-      seen_still None left,
-      (no_tidying_asked mode, tt, λ h. (refl, refl)),
-      RunsAlone-done mode.stream settings st (seen_still None left) order old new end (still_refusal settings st None left order still) written,
+      failing None left,
+      seen_untidied mode honest settings st left order (λ is. absurd (not_flush order still is)),
+      RunsAlone-done mode.stream settings st (failing None left) order old new end refl (still_refusal settings st None left order still) written,
       λ other. leaves_still None,
     )
 
@@ -147,24 +134,25 @@ module _ (mode : Mode) (honest : Bool) (settings : Settings) (st : Store) (left 
     pub RunsOrder-unstill : (old : Option Bytes) (fault : Fault) → MayFail mode.clean_when_full settings (st, left) order fault
         → RunsOrder mode honest settings st left order old old (Err (errors.Fault fault)) st left
     RunsOrder-unstill old fault may = (
-      seen_still (Some fault) left,
-      (no_tidying_asked mode, may, λ h. (refl, refl)),
-      RunsAlone-refused mode.stream settings st (seen_still (Some fault) left) order old fault (still_refusal settings st (Some fault) left order still),
+      failing (Some fault) left,
+      seen_failing mode honest settings st left left order fault (λ is. absurd (not_flush order still is))
+          (subst (λ (at : Stored). MayFail mode.clean_when_full settings at order fault) (sym (untidied_before order settings (Some fault) left st)) may) (λ h. refl),
+      RunsAlone-refused mode.stream settings st (failing (Some fault) left) order old fault refl (still_refusal settings st (Some fault) left order still),
       λ other. leaves_still (Some fault),
     )
 
     -- a device fails, and nothing is written
     pub RunsOrder-cut : (old : Option Bytes) → RunsOrder mode honest settings st left order old old (Err Device) st left
-    RunsOrder-cut old = RunsOrder-still old old (Err Device) (inr (refl, ([], (flat (own_lines settings st (seen_still None left) (contents st.tree) order), refl), Appends-nil old)))
+    RunsOrder-cut old = RunsOrder-still old old (Err Device) (inr (refl, ([], (flat (own_lines settings st (failing None left) (contents st.tree) order), refl), Appends-nil old)))
 
 -- a batch that lost a line is refused
 pub RunsOrder-lost : (mode : Mode) (honest : Bool) (settings : Settings) (st : Store) (left : Bytes) (old : Option Bytes)
     → RunsOrder mode honest settings st left Lost old old (Err (errors.Fault NoMemory)) st left
 unfolding after_order refusal_of
 RunsOrder-lost mode honest settings st left old = (
-  seen_still None left,
-  (no_tidying_asked mode, tt, λ h. (refl, refl)),
-  RunsAlone-refused mode.stream settings st (seen_still None left) Lost old NoMemory refl,
+  failing None left,
+  seen_untidied mode honest settings st left Lost (λ is. absurd (cc)),
+  RunsAlone-refused mode.stream settings st (failing None left) Lost old NoMemory refl refl,
   λ other. record { store = refl; bytes = λ h. refl; holds = refl },
 )
 
@@ -188,15 +176,3 @@ pub Writes-early : (old new : Option Bytes) (first lines : List Bytes) (early : 
 Writes-early old new first lines early (inl (e, a)) = absurd (cc)
 Writes-early old new first lines early (inr (e, (front, begins, a))) =
     inr (e, (front, subst (λ (bytes : Bytes). BeginsWith bytes front) (sym (flat-append first lines)) (front-longer (flat first) (flat lines) front begins), a))
-
--- ---- which orders are run without cleans
-
--- an order that is no flush
-pub unroomed_if : (cleans : Bool) (order : Order) → is_flush order ≡ false → MakesNone cleans order
-unroomed_if true order is = is
-unroomed_if false order is = refl
-
--- and any, where flushes make themselves no room
-pub unroomed_off : (cleans : Bool) (order : Order) → cleans ≡ false → MakesNone cleans order
-unroomed_off true order off = absurd (cc)
-unroomed_off false order off = refl

@@ -1,6 +1,6 @@
 -- Lemmas on the answer to an order, from what is run of it.
 use Rattle.std.proofs.Common.{◌≡◌, ◌⊎◌, inl, inr, List, [], ◌∷◌, ◌++◌, Option, Result, Ok, Err, refl, sym, ap, ◌∙◌, subst, append-nil}
-use Rattle.std.specs.Prelude.{Bool, true, false, IfSome, IsOkUnless, OnErr, OnOk, Some, None}
+use Rattle.std.specs.Prelude.{Bool, true, IfSome, IsOkUnless, OnErr, OnOk, Some, None}
 use Rattle.std.specs.Io.KnownBytes.{Appends, Keeps}
 use Rattle.std.proofs.KnownBytes.{Appends-kept, Appends-nil}
 use Rattle.keys.specs.Bytes.{Bytes, Pairs}
@@ -15,7 +15,7 @@ use Rattle.bwsh.specs.declared.session.SessionError.{SessionError}
 use Rattle.bwsh.specs.declared.session.SessionError.TheVariants.{Bad, Device, Words}
 use Rattle.bwsh.specs.declared.session.SessionError.TheVariants as errors
 use Rattle.bwsh.specs.Output.{BeginsWith, IsBegun, Writes}
-use Rattle.bwsh.specs.Session.{GoesOn, Runs, RunsAfter, RunsAsk, RunsFirst, RunsOn, RunsRefused, RunsTold, Stops, answered, device_line, fault_line, run_of}
+use Rattle.bwsh.specs.Session.{GoesOn, Runs, RunsAfter, RunsAsk, RunsFirst, RunsOn, RunsRefused, RunsTold, Stops, answered, device_line, fault_line}
 use Rattle.bwsh.proofs.FirstLemmas.{RunsOn-cut}
 use Rattle.bwsh.proofs.OwnLemmas.{Prints-then}
 use Rattle.bwsh.proofs.Prints.{front-longer}
@@ -34,8 +34,7 @@ module _ (mode : Mode) (honest : Bool) (settings : Settings) (st : Store) (left 
   RunsTold-device : (told : Bytes) → IsBegun old new (fault_line told) → RunsTold told mode honest settings st left orders old new (Err Device) held
   unfolding RunsAfter
   RunsTold-device told (front, begins, a) =
-      let (shown, are, p, map) = RunsOn-cut mode honest settings st left orders new Device (inr refl) held in
-      let ran : List Order = run_of mode.clean_when_full settings st shown orders in (
+      let (shown, are, p, map) = RunsOn-cut mode honest settings st left orders new Device (inr refl) held in (
         shown,
         are,
         inr (inr (
@@ -43,7 +42,7 @@ module _ (mode : Mode) (honest : Bool) (settings : Settings) (st : Store) (left 
           (
             front,
             [],
-            front-longer (fault_line told) (flat (answered mode.stream settings st shown (contents st.tree) ran)) front begins,
+            front-longer (fault_line told) (flat (answered mode.stream settings st shown (contents st.tree) orders)) front begins,
             (device_line mode.stream, refl),
             subst (Appends old new) (sym (append-nil front)) a,
           ),
@@ -58,13 +57,6 @@ abbrev pub IsFlushed : Option Bytes → Option Bytes → Result (Unit {0}) Sessi
 IsFlushed mid new done end = Keeps mid new × ((end ≡ done) ⊎ (end ≡ Err Device))
 
 module _ (mode : Mode) (honest : Bool) (settings : Settings) (st : Store) (left : Bytes) (orders : List Order) (old : Option Bytes) (now : Store) (bytes : Bytes) where
-  -- in a session that isn't a stream a refusal is the end
-  pub RunsAsk-plain : mode.stream ≡ false → (new : Option Bytes) (end : Result (Unit {0}) SessionError) → RunsFirst mode honest settings st left orders old new end now bytes
-      → RunsAsk mode honest settings st left orders old new end now bytes
-  RunsAsk-plain off new (Ok done) p = p
-  RunsAsk-plain off new (Err early) p =
-      (λ on. absurd (cc), subst (λ (b : Bool). RunsRefused b mode honest settings st left orders old new early now bytes) off p)
-
   module _ (on : mode.stream ≡ true) (mid new : Option Bytes) where
     -- nothing more is printed
     kept_nothing : Keeps mid new → Appends mid new []

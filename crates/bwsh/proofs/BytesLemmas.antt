@@ -10,19 +10,20 @@ use Rattle.keys.specs.declared.fault.Fault.TheVariants.{NoMemory}
 use Rattle.keys.specs.declared.settings.Settings.{Settings}
 use Rattle.keys.specs.declared.version.Version.{Version}
 use Rattle.keys.specs.declared.version.Version.TheVariants.{One, Two}
-use Rattle.mapping.specs.Tree.{Store, with_tree}
+use Rattle.mapping.specs.Tree.{Store}
 use Rattle.flush_log.specs.AfterFlush.{after_text, of_version_two, unless_upgraded, flush_commit, file_after, store_after, is_spent}
 use Rattle.flush_log.specs.FlushText.{flush_text, upgrade_text, flushed}
 use Rattle.flush_log.specs.Layout.{is_full_for_flush}
+use Rattle.engine.specs.Cleaning.{CleanRow, count_of, reads_in}
 use Rattle.engine.specs.Steps.{Step, Answer, Stepped, unless_refused, after_step, batching}
 use Rattle.engine.specs.Tidied.{counted_pages}
 use Rattle.bwsh.specs.declared.order.Order.{Order}
 use Rattle.bwsh.specs.declared.order.Order.TheVariants.{Batch, Lost, Flush, Clean, Upgrade, Tidy}
 use Rattle.bwsh.specs.declared.session.SessionError.TheVariants as errors
 use Rattle.bwsh.specs.BatchFile.{IsNoClean}
-use Rattle.bwsh.specs.Session.{Batches, Stored, Seen, Reads, Tidying, later, AreLeft, AreSeenAlike, AreUntidied, by_batches, left_unless, own_refusal, tidied, tidied_before, tidied_tree, step_in, left_by, refused_by, left_by_step, refusal_of_step, after_order, refusal_of, map_after, map_unless, own_lines, answer_lines, answer_then, answered, accepted, first_refusal, orders_end, stopped_by, untidied}
+use Rattle.bwsh.specs.Session.{Batches, Stored, Seen, Reads, Tidying, later, AreLeft, AreSeenAlike, AreUntidied, by_batches, cleaned, cleaned_by, front_lines, head_lines, left_unless, own_refusal, readied, tidied, step_in, left_by, refused_by, left_by_step, refusal_of_step, after_order, refusal_of, map_after, map_unless, own_lines, answer_lines, answer_then, answered, accepted, first_refusal, orders_end, stopped_by, untidied}
 use Rattle.bwsh.specs.Shown.{shown_flushed, shown_cleaned, shown_tidied, shown_upgraded}
-use Rattle.bwsh.proofs.RunLemmas.{of_flush, of_upgrade, answering, committed_unless, first_shown, tidied_before-as}
+use Rattle.bwsh.proofs.RunLemmas.{of_flush, of_upgrade, answering, committed_unless, first_shown}
 
 -- ---- a step
 
@@ -53,12 +54,6 @@ upgrade-same : (version : Version) (settings : Settings) (st : Store) (f g : Lis
     ≡ without_bytes (answering of_upgrade (unless_upgraded version (after_text settings st g text)))
 upgrade-same One settings st f g text = text-same of_upgrade settings st f g text
 upgrade-same Two settings st f g text = refl
-
--- what is tidied before an order is the same store, whatever the bytes, and these stay
-tidied-same : (order : Order) (settings : Settings) (seen : Seen) (st : Store) → (now : Store) × ((file : List ℕ) → tidied_before order settings seen (st, file) ≡ (now, file))
-tidied-same Flush settings seen st = (with_tree st (tidied_tree settings seen.tidying st.tree), λ file. refl)
-tidied-same (Tidy most) settings seen st = (with_tree st (tidied_tree settings (by_batches seen.merged) st.tree), λ file. refl)
-tidied-same _ settings seen st = (st, λ file. refl)
 
 -- why an order is refused by its right: its step is, or it is a lost one
 own_or : (settings : Settings) (order : Order)
@@ -118,34 +113,46 @@ own_refusal-same settings st f g order only = by (own_or settings order)
     by (inl lost) = lost (st, f) ∙ sym (lost (st, g))
     by (inr step) = step (st, f) ∙ refusal-same settings st f g order only ∙ sym (step (st, g))
 
+-- cleans leave the same store, whatever the bytes are in front of them
+cleaned-same : (settings : Settings) (reads : List (List ℕ)) (st : Store) (f g : List ℕ) → (cleaned_by settings reads (st, f)).0 ≡ (cleaned_by settings reads (st, g)).0
+cleaned-same settings [] st f g = refl
+cleaned-same settings (file ∷ reads) st f g = refl
+
 module _ (settings : Settings) (st : Store) (f g : Seen) where
-  -- an order that is no clean leaves the same store, where it is tidied in the same way before it and fails in the same way, and is refused for the same reason
-  same_by : (order : Order) → ((file : List ℕ) → tidied_before order settings f (st, file) ≡ tidied_before order settings g (st, file)) → f.fails ≡ g.fails → IsNoClean order
+  -- what is readied for an order is the same store, where it is tidied and cleaned in the same way
+  readied-same : (order : Order) → f.tidying ≡ g.tidying → f.rows ≡ g.rows → f.merged ≡ g.merged → (readied order settings f (st, f.bytes)).0 ≡ (readied order settings g (st, g.bytes)).0
+  readied-same Flush tidying rows merged =
+      ap (λ (t : Tidying). (cleaned_by settings (reads_in f.rows) (tidied settings t (st, f.bytes))).0) tidying
+      ∙ ap (λ (r : List CleanRow). (cleaned_by settings (reads_in r) (tidied settings g.tidying (st, f.bytes))).0) rows
+      ∙ cleaned-same settings (reads_in g.rows) (tidied settings g.tidying (st, f.bytes)).0 f.bytes g.bytes
+  readied-same (Tidy most) tidying rows merged = ap (λ (b : Batches). (tidied settings (by_batches b) (st, f.bytes)).0) merged
+  readied-same _ tidying rows merged = refl
+
+  -- an order that is no clean leaves the same store, where the same store is readied for it and it fails in the same way, and is refused for the same reason
+  same_by : (order : Order) → (readied order settings f (st, f.bytes)).0 ≡ (readied order settings g (st, g.bytes)).0 → f.fails ≡ g.fails → IsNoClean order
       → ((after_order settings st f order).0 ≡ (after_order settings st g order).0) × (refusal_of settings st f order ≡ refusal_of settings st g order)
   unfolding after_order refusal_of
-  same_by order tidied_alike fails only =
-      let (now, are) = tidied-same order settings g st in
-      let before : tidied_before order settings f (st, f.bytes) ≡ (now, f.bytes) = tidied_alike f.bytes ∙ are f.bytes in
-      let mine : Stored = (now, f.bytes) in
-      let other : Stored = (now, g.bytes) in (
-        ap (λ (at : Stored). (left_unless f.fails at (left_by_step settings at (step_in order))).0) before
-            ∙ ap (λ (r : Option Fault). (left_unless r mine (left_by_step settings mine (step_in order))).0) fails
-            ∙ unless-same g.fails mine other (left_by_step settings mine (step_in order)) (left_by_step settings other (step_in order)) refl (stored-same settings now f.bytes g.bytes order only)
-            ∙ ap (λ (at : Stored). (left_unless g.fails at (left_by_step settings at (step_in order))).0) (sym (are g.bytes)),
-        ap (λ (at : Stored). option_or f.fails (own_refusal settings at order)) before
-            ∙ ap (λ (r : Option Fault). option_or r (own_refusal settings mine order)) fails
-            ∙ ap (λ (r : Option Fault). option_or g.fails r) (own_refusal-same settings now f.bytes g.bytes order only)
-            ∙ ap (λ (at : Stored). option_or g.fails (own_refusal settings at order)) (sym (are g.bytes)),
+  same_by order same fails only =
+      let mine : Stored = readied order settings f (st, f.bytes) in
+      let other : Stored = readied order settings g (st, g.bytes) in
+      let moved : Stored = (other.0, mine.1) in
+      let is : mine ≡ moved = ap (λ (x : Store). (let at : Stored = (x, mine.1) in at)) same in (
+        ap (λ (at : Stored). (left_unless f.fails at (left_by_step settings at (step_in order))).0) is
+            ∙ ap (λ (r : Option Fault). (left_unless r moved (left_by_step settings moved (step_in order))).0) fails
+            ∙ unless-same g.fails moved other (left_by_step settings moved (step_in order)) (left_by_step settings other (step_in order)) refl (stored-same settings other.0 mine.1 other.1 order only),
+        ap (λ (at : Stored). option_or f.fails (own_refusal settings at order)) is
+            ∙ ap (λ (r : Option Fault). option_or r (own_refusal settings moved order)) fails
+            ∙ ap (λ (r : Option Fault). option_or g.fails r) (own_refusal-same settings other.0 mine.1 other.1 order only),
       )
 
-  pub after_order-same : f.tidying ≡ g.tidying → f.merged ≡ g.merged → f.fails ≡ g.fails → (order : Order) → IsNoClean order
+  pub after_order-same : f.tidying ≡ g.tidying → f.rows ≡ g.rows → f.merged ≡ g.merged → f.fails ≡ g.fails → (order : Order) → IsNoClean order
       → ((after_order settings st f order).0 ≡ (after_order settings st g order).0) × (refusal_of settings st f order ≡ refusal_of settings st g order)
-  after_order-same tidying merged fails order only = same_by order (λ file. tidied_before-as order settings f g (st, file) tidying merged) fails only
+  after_order-same tidying rows merged fails order only = same_by order (readied-same order tidying rows merged) fails only
 
-  -- so it is of a flush
-  pub after_flush-same : f.tidying ≡ g.tidying → f.fails ≡ g.fails
-      → ((after_order settings st f Flush).0 ≡ (after_order settings st g Flush).0) × (refusal_of settings st f Flush ≡ refusal_of settings st g Flush)
-  after_flush-same tidying fails = same_by Flush (λ file. ap (λ (t : Tidying). tidied settings t (st, file)) tidying) fails tt
+  -- with the same rows of cleans in front of it there are the same lines
+  front-same : (order : Order) → f.rows ≡ g.rows → front_lines st f order ≡ front_lines st g order
+  front-same Flush rows = ap (λ (r : List CleanRow). head_lines st.head (count_of r)) rows
+  front-same _ rows = refl
 
   -- where it leaves the same store, it answers the same
   pub own-same : (m : List (List ℕ × List ℕ)) (order : Order) → (after_order settings st f order).0 ≡ (after_order settings st g order).0 → own_lines settings st f m order ≡ own_lines settings st g m order
@@ -158,12 +165,13 @@ module _ (settings : Settings) (st : Store) (f g : Seen) where
 -- ---- orders
 
 -- what is seen is the same where all of its parts are
-seen_is : (a b : Seen) → a.bytes ≡ b.bytes → a.ahead ≡ b.ahead → a.tidying ≡ b.tidying → a.merged ≡ b.merged → a.fails ≡ b.fails → a.told ≡ b.told → a ≡ b
-seen_is a b bytes ahead tidying merged fails told =
+seen_is : (a b : Seen) → a.bytes ≡ b.bytes → a.tidying ≡ b.tidying → a.rows ≡ b.rows → a.last ≡ b.last → a.merged ≡ b.merged → a.fails ≡ b.fails → a.told ≡ b.told → a ≡ b
+seen_is a b bytes tidying rows last merged fails told =
     ap (λ (x : List ℕ). (let s : Seen = record a { bytes = x } in s)) bytes
-    ∙ ap (λ (x : List ℕ). (let s : Seen = record a { bytes = b.bytes; ahead = x } in s)) ahead
-    ∙ ap (λ (x : Tidying). (let s : Seen = record a { bytes = b.bytes; ahead = b.ahead; tidying = x } in s)) tidying
-    ∙ ap (λ (x : Batches). (let s : Seen = record a { bytes = b.bytes; ahead = b.ahead; tidying = b.tidying; merged = x } in s)) merged
+    ∙ ap (λ (x : Tidying). (let s : Seen = record a { bytes = b.bytes; tidying = x } in s)) tidying
+    ∙ ap (λ (x : List CleanRow). (let s : Seen = record a { bytes = b.bytes; tidying = b.tidying; rows = x } in s)) rows
+    ∙ ap (λ (x : List ℕ). (let s : Seen = record b { last = x; merged = a.merged; fails = a.fails; told = a.told } in s)) last
+    ∙ ap (λ (x : Batches). (let s : Seen = record b { merged = x; fails = a.fails; told = a.told } in s)) merged
     ∙ ap (λ (x : Option Fault). (let s : Seen = record b { fails = x; told = a.told } in s)) fails
     ∙ ap (λ (x : List ℕ). (let s : Seen = record b { told = x } in s)) told
 
@@ -173,22 +181,23 @@ module _ (settings : Settings) where
   AreAlike st shown other [] = ⊤
   AreAlike st shown other (order ∷ rest) =
       ((after_order settings st (shown 0) order).0 ≡ (after_order settings st (other 0) order).0)
-      × (refusal_of settings st (shown 0) order ≡ refusal_of settings st (other 0) order)
+      × (refusal_of settings st (shown 0) order ≡ refusal_of settings st (other 0) order) × (front_lines st (shown 0) order ≡ front_lines st (other 0) order)
       × AreAlike (after_order settings st (shown 0) order).0 (later shown) (later other) rest
 
   lines-alike : (st : Store) (shown other : Reads) (m : List (List ℕ × List ℕ)) (orders : List Order) → AreAlike st shown other orders
       → answer_lines settings st shown m orders ≡ answer_lines settings st other m orders
   lines-alike st shown other m [] alike = refl
-  lines-alike st shown other m (order ∷ rest) (same, refused, alike) =
+  lines-alike st shown other m (order ∷ rest) (same, refused, front, alike) =
       let now : Store = (after_order settings st (shown 0) order).0 in
       let n = map_after m order in
       let further = lines-alike now (later shown) (later other) n rest alike ∙ ap (λ (s : Store). answer_lines settings s (later other) n rest) same in
-      ap (λ (l : List (List ℕ)). l ++ answer_lines settings now (later shown) n rest) (own-same settings st (shown 0) (other 0) m order same)
-      ∙ ap (λ (l : List (List ℕ)). own_lines settings st (other 0) m order ++ l) further
+      ap (λ (l : List (List ℕ)). l ++ own_lines settings st (shown 0) m order ++ answer_lines settings now (later shown) n rest) front
+      ∙ ap (λ (l : List (List ℕ)). front_lines st (other 0) order ++ l ++ answer_lines settings now (later shown) n rest) (own-same settings st (shown 0) (other 0) m order same)
+      ∙ ap (λ (l : List (List ℕ)). front_lines st (other 0) order ++ own_lines settings st (other 0) m order ++ l) further
 
   accepted-alike : (st : Store) (shown other : Reads) (orders : List Order) → AreAlike st shown other orders → accepted settings st shown orders ≡ accepted settings st other orders
   accepted-alike st shown other [] alike = refl
-  accepted-alike st shown other (order ∷ rest) (same, refused, alike) =
+  accepted-alike st shown other (order ∷ rest) (same, refused, front, alike) =
       let now : Store = (after_order settings st (shown 0) order).0 in
       let further = accepted-alike now (later shown) (later other) rest alike ∙ ap (λ (s : Store). accepted settings s (later other) rest) same in
       ap (λ (r : Option Fault). if is_some r then [] else order ∷ accepted settings now (later shown) rest) refused
@@ -196,7 +205,7 @@ module _ (settings : Settings) where
 
   refusal-alike : (st : Store) (shown other : Reads) (orders : List Order) → AreAlike st shown other orders → first_refusal settings st shown orders ≡ first_refusal settings st other orders
   refusal-alike st shown other [] alike = refl
-  refusal-alike st shown other (order ∷ rest) (same, refused, alike) =
+  refusal-alike st shown other (order ∷ rest) (same, refused, front, alike) =
       let now : Store = (after_order settings st (shown 0) order).0 in
       let further = refusal-alike now (later shown) (later other) rest alike ∙ ap (λ (s : Store). first_refusal settings s (later other) rest) same in
       ap (λ (r : Option Fault). option_or r (first_refusal settings now (later shown) rest)) refused
@@ -213,44 +222,52 @@ module _ (settings : Settings) where
   answered-alike : (on : Bool) (st : Store) (shown other : Reads) → AreTold shown other → (m : List (List ℕ × List ℕ)) (orders : List Order) → AreAlike st shown other orders
       → answered on settings st shown m orders ≡ answered on settings st other m orders
   answered-alike on st shown other told m [] alike = refl
-  answered-alike on st shown other told m (order ∷ rest) (same, refused, alike) =
+  answered-alike on st shown other told m (order ∷ rest) (same, refused, front, alike) =
       let now : Store = (after_order settings st (shown 0) order).0 in
       let next : Store = (after_order settings st (other 0) order).0 in
       let r : Option Fault = refusal_of settings st (shown 0) order in
       let q : Option Fault = refusal_of settings st (other 0) order in
+      let before : List (List ℕ) = front_lines st (other 0) order in
       let own : List (List ℕ) = own_lines settings st (other 0) m order in
       let further = answered-alike on now (later shown) (later other) (λ i. told (suc i)) (map_unless r m order) rest alike
       ∙ ap (λ (s : Store). answered on settings s (later other) (map_unless r m order) rest) same in
-      ap (λ (l : List (List ℕ)). answer_then on r (shown 0).told l (answered on settings now (later shown) (map_unless r m order) rest)) (own-same settings st (shown 0) (other 0) m order same)
-      ∙ ap (λ (l : List (List ℕ)). answer_then on r (shown 0).told own l) further
-      ∙ ap (λ (o : Option Fault). answer_then on o (shown 0).told own (answered on settings next (later other) (map_unless o m order) rest)) refused
-      ∙ ap (λ (t : List ℕ). answer_then on q t own (answered on settings next (later other) (map_unless q m order) rest)) (told 0)
+      ap (λ (l : List (List ℕ)). answer_then on r (shown 0).told l (own_lines settings st (shown 0) m order) (answered on settings now (later shown) (map_unless r m order) rest)) front
+      ∙ ap (λ (l : List (List ℕ)). answer_then on r (shown 0).told before l (answered on settings now (later shown) (map_unless r m order) rest)) (own-same settings st (shown 0) (other 0) m order same)
+      ∙ ap (λ (l : List (List ℕ)). answer_then on r (shown 0).told before own l) further
+      ∙ ap (λ (o : Option Fault). answer_then on o (shown 0).told before own (answered on settings next (later other) (map_unless o m order) rest)) refused
+      ∙ ap (λ (t : List ℕ). answer_then on q t before own (answered on settings next (later other) (map_unless q m order) rest)) (told 0)
 
   -- so it is where none is a clean
   alike-without_cleans : (st : Store) (shown other : Reads) → AreSeenAlike shown other → (orders : List Order) → AllByRecursion IsNoClean orders → AreAlike st shown other orders
   alike-without_cleans st shown other alike [] only = tt
   alike-without_cleans st shown other alike (order ∷ rest) only =
-      let (tidying, merged, fails, told) = alike 0 in
-      let (same, refused) = after_order-same settings st (shown 0) (other 0) tidying merged fails order only.0 in
-      (same, refused, alike-without_cleans (after_order settings st (shown 0) order).0 (later shown) (later other) (λ i. alike (suc i)) rest only.1)
+      let (tidying, rows, merged, fails, told) = alike 0 in
+      let (same, refused) = after_order-same settings st (shown 0) (other 0) tidying rows merged fails order only.0 in
+      (same, refused, front-same settings st (shown 0) (other 0) order rows, alike-without_cleans (after_order settings st (shown 0) order).0 (later shown) (later other) (λ i. alike (suc i)) rest only.1)
 
   alike-left : (st : Store) (file : List ℕ) (shown other : Reads) → AreSeenAlike shown other → (orders : List Order) → AreLeft settings st file shown orders
       → AreLeft settings st file other orders → AreAlike st shown other orders
   alike-left st file shown other alike [] p q = tt
   alike-left st file shown other alike (order ∷ rest) (first, p) (first_too, q) =
-      let (tidying, merged, fails, told) = alike 0 in
-      let seen : shown 0 ≡ other 0 = seen_is (shown 0) (other 0) (first.0 ∙ sym first_too.0) (first.1 ∙ sym first_too.1) tidying merged fails told in
+      let (tidying, rows, merged, fails, told) = alike 0 in
+      let bytes : (shown 0).bytes ≡ (other 0).bytes = first.0 ∙ sym first_too.0 in
+      let last : (shown 0).last ≡ (other 0).last =
+      first.1 ∙ ap (λ (f : List ℕ). (cleaned settings (shown 0) (st, f)).1) bytes
+      ∙ ap (λ (t : Tidying). (cleaned_by settings (reads_in (shown 0).rows) (tidied settings t (st, (other 0).bytes))).1) tidying
+      ∙ ap (λ (r : List CleanRow). (cleaned_by settings (reads_in r) (tidied settings (other 0).tidying (st, (other 0).bytes))).1) rows ∙ sym first_too.1 in
+      let seen : shown 0 ≡ other 0 = seen_is (shown 0) (other 0) bytes tidying rows last merged fails told in
       let same = ap (λ (f : Seen). after_order settings st f order) seen in
       let at : Stored = after_order settings st (shown 0) order in
       let here = subst (λ (a : Stored). AreLeft settings a.0 a.1 (later other) rest) (sym same) q in (
         ap (λ (a : Stored). a.0) same,
         ap (λ (f : Seen). refusal_of settings st f order) seen,
+        ap (λ (f : Seen). front_lines st f order) seen,
         alike-left at.0 at.1 (later shown) (later other) (λ i. alike (suc i)) rest p here,
       )
 
 module _ (settings : Settings) (st : Store) (shown other : Reads) (alike : AreSeenAlike shown other) where
   told_alike : (i : ℕ) → (shown i).told ≡ (other i).told
-  told_alike i = let (tidying, merged, fails, told) = alike i in told
+  told_alike i = let (tidying, rows, merged, fails, told) = alike i in told
 
   -- no order is a clean
   module _ (orders : List Order) (only : All IsNoClean orders) where

@@ -1,6 +1,6 @@
 -- Lemmas on how a session ends.
 use Rattle.std.proofs.Common.{Bool, true, false, ◌≡◌, ◌≢◌, ◌↔◌, ◌⊎◌, inl, inr, ℕ, List, [], ◌∷◌, Option, Some, None, IfSome, Ok, Err, refl, sym, ap, ◌∙◌, subst, arith}
-use Rattle.std.specs.Prelude.{IsTrue, IsOk, replicate, unwrap_or, if◌then◌else◌, ◌==◌}
+use Rattle.std.specs.Prelude.{IsTrue, IsOk, is_none, replicate, unwrap_or, if◌then◌else◌, ◌==◌}
 use Rattle.std.specs.Bool.{MatchBool}
 use Rattle.std.specs.Option.{option_map}
 use Rattle.std.specs.Io.KnownBytes.{Appends, Keeps, prepend_known}
@@ -30,11 +30,12 @@ use Rattle.bwsh.specs.declared.session.SessionError.TheVariants as errors
 use Rattle.bwsh.specs.BatchFile.{AreRead, IsReadError, first_bad, orders_in, parse_text}
 use Rattle.bwsh.specs.Options.{Given, Request, AsksFor, AsksForText, AsksToStream, AreRefused, IsRightKind, copy_of, is_refusal, request_by}
 use Rattle.bwsh.specs.Options.Asked.{options}
-use Rattle.bwsh.specs.Session.{Answers, AreLeft, AreReadOf, EndsBy, IsEndAfter, IsForWords, IsShown, IsStart, IsStartBy, IsUncopied, IsUnopened, Prints, PrintsOneText, Reads, Runs, RunsAll, RunsFrom, RunsOn, RunsRead, RunsRequest, Start, answered, end_from, found_start, lines_from, map_kept, map_kept_from, new_start, orders_end, run_of, session_orders, start_for_copy, start_unless_bad, status_of_end, stopped_by, first_refusal, untidied, version_text}
+use Rattle.bwsh.specs.Session.{Answers, AreLeft, AreReadOf, EndsBy, IsEndAfter, IsForWords, IsShown, IsStart, IsStartBy, IsUncopied, IsUnopened, Prints, PrintsOneText, Reads, Runs, RunsAll, RunsFrom, RunsOn, RunsRead, RunsRequest, Start, answered, end_from, found_start, lines_from, map_kept, map_kept_from, new_start, orders_end, session_orders, start_for_copy, start_unless_bad, status_of_end, stopped_by, first_refusal, untidied, version_text}
 use Rattle.bwsh.proofs.CopiedLemmas.{End, IsFront, IsLeft, OnOk-flushed, Prints-done, Prints-none, Prints-right, PrintsCopied-before, PrintsCopied-begun, PrintsCopied-front, PrintsCopied-left, PrintsCopied-other, PrintsCopied-plain}
 use Rattle.bwsh.proofs.FirstLemmas.{RunsOn-cut}
 use Rattle.bwsh.proofs.LoopLemmas.{some_read}
 use Rattle.bwsh.proofs.Prints.{Prints-flushed}
+use Rattle.bwsh.proofs.RowLemmas.{AreCleaning-weaker}
 use Rattle.bwsh.proofs.RunLemmas.{TidiesBy-none}
 
 -- ---- right starts
@@ -148,22 +149,25 @@ pub RunsOn-flushed : (mode : Mode) (honest : Bool) (settings : Settings) (st : S
     → RunsOn mode honest settings st left orders old mid done held → Keeps mid new → (flushed ≡ done) ⊎ (flushed ≡ Err Device) → RunsOn mode honest settings st left orders old new flushed held
 unfolding Runs
 RunsOn-flushed mode honest settings st left orders old mid new done flushed held (shown, are, runs, leaves) kept ended =
-    let ran : List Order = run_of mode.clean_when_full settings st shown orders in
-    let lines : List Bytes = answered mode.stream settings st shown (contents st.tree) ran in
-    let right : End = orders_end mode.stream settings st shown ran in (
+    let lines : List Bytes = answered mode.stream settings st shown (contents st.tree) orders in
+    let right : End = orders_end mode.stream settings st shown orders in (
       shown,
       are,
       Prints-flushed mode.stream old mid new lines right done flushed runs kept ended,
-      OnOk-flushed done flushed (held ≡ map_kept settings st shown (contents st.tree) ran) ended leaves,
+      OnOk-flushed done flushed (held ≡ map_kept settings st shown (contents st.tree) orders) ended leaves,
     )
+
+none_is : (disk : Option Bytes) → IsTrue (is_none disk) → disk ≡ None
+none_is None memory = refl
+none_is (Some path) memory = absurd (cc)
 
 module _ (request : Request) (settings : Settings) (st : Store) (file left : Bytes) (honest : Bool) (is_left : IsTrue honest → left ≡ file) (in_memory : request.disk ≡ None → IsTrue honest)
     (parsed : List Line) (old new : Option Bytes) where
   RunsFrom-run : (done end : End) (held : Pairs Bytes) → RunsOn request.mode honest settings st left (orders_in request.mode.stream request.mode.stat parsed) old new done held
       → IsLeft (copy_of request) held done end → RunsFrom request (Ok (settings, (st, file))) parsed old new end
   unfolding RunsFrom Runs
-  RunsFrom-run done end held (shown, (tidies, failing, are), runs, leaves) follows =
-      let ran : List Order = run_of request.mode.clean_when_full settings st shown (orders_in request.mode.stream request.mode.stat parsed) in
+  RunsFrom-run done end held (shown, (tidies, failing, cleans, are), runs, leaves) follows =
+      let ran : List Order = orders_in request.mode.stream request.mode.stat parsed in
       let on : Bool = request.mode.stream in
       let lines : List Bytes = answered on settings st shown (contents st.tree) ran in
       let right : End = orders_end on settings st shown ran in
@@ -172,6 +176,7 @@ module _ (request : Request) (settings : Settings) (st : Store) (file left : Byt
         (
           tidies,
           failing,
+          AreCleaning-weaker honest (is_none request.disk) (λ memory. in_memory (none_is request.disk memory)) settings request.mode.clean_when_full st shown ran cleans,
           λ memory. let h : IsTrue honest = in_memory memory in subst (λ (f : Bytes). AreLeft settings st f shown ran) (is_left h) (are h),
         ),
         PrintsCopied-left (copy_of request) m held on old new lines right done end runs leaves follows,
@@ -184,9 +189,9 @@ module _ (request : Request) (parsed : List Line) (old : Option Bytes) where
   RunsFrom-none fault =
       let shown : Reads = λ i. untidied [] in
       let start : Start = Err fault in
-      let ran : List Order = session_orders request start shown parsed in (
+      let ran : List Order = session_orders request parsed in (
         shown,
-        (TidiesBy-none request.mode shown ran (λ i. refl), tt, λ memory. tt),
+        (TidiesBy-none request.mode shown (λ i. refl), tt, tt, λ memory. tt),
         PrintsCopied-before (copy_of request) (map_kept_from start shown ran) request.mode.stream old old (lines_from request.mode.stream start shown ran)
             (end_from request.mode.stream start shown ran) (Err (errors.Fault fault)) (inl (refl, Appends-nil old)),
       )
@@ -197,9 +202,9 @@ module _ (request : Request) (parsed : List Line) (old : Option Bytes) where
   RunsFrom-device (Err fault) =
       let shown : Reads = λ i. untidied [] in
       let start : Start = Err fault in
-      let ran : List Order = session_orders request start shown parsed in (
+      let ran : List Order = session_orders request parsed in (
         shown,
-        (TidiesBy-none request.mode shown ran (λ i. refl), tt, λ memory. tt),
+        (TidiesBy-none request.mode shown (λ i. refl), tt, tt, λ memory. tt),
         PrintsCopied-before (copy_of request) (map_kept_from start shown ran) request.mode.stream old old (lines_from request.mode.stream start shown ran)
             (end_from request.mode.stream start shown ran) (Err Device)
             (Prints-none request.mode.stream old (lines_from request.mode.stream start shown ran) (end_from request.mode.stream start shown ran)),
@@ -400,16 +405,16 @@ no_end false (Ok p) shown orders early other e = no_stop (first_refusal p.0 p.1.
 abbrev IsDoneOn : Request → Option Bytes → Option Bytes → Bytes → Type 0
 IsDoneOn request old new text =
     (parsed : List Line) × AreRead (parse_text request.mode.stream text) parsed × (request.mode.stream ≡ false → first_bad 1 (parse_text false text) ≡ None)
-    × ((start : Start) × IsStart request start × IsOk start × (shown : Reads) × IsShown request start shown (session_orders request start shown parsed)
-    × (end_from request.mode.stream start shown (session_orders request start shown parsed) ≡ Ok tt)
-    × Appends old new (flat (lines_from request.mode.stream start shown (session_orders request start shown parsed))))
+    × ((start : Start) × IsStart request start × IsOk start × (shown : Reads) × IsShown request start shown (session_orders request parsed)
+    × (end_from request.mode.stream start shown (session_orders request parsed) ≡ Ok tt)
+    × Appends old new (flat (lines_from request.mode.stream start shown (session_orders request parsed))))
 
 -- a beginning of it is
 abbrev HasBegunOn : Request → Option Bytes → Option Bytes → Bytes → Type 0
 HasBegunOn request old new text =
     (parsed : List Line) × AreRead (parse_text request.mode.stream text) parsed
-    × ((start : Start) × IsStart request start × (shown : Reads) × IsShown request start shown (session_orders request start shown parsed)
-    × IsFront request.mode.stream old new (lines_from request.mode.stream start shown (session_orders request start shown parsed)))
+    × ((start : Start) × IsStart request start × (shown : Reads) × IsShown request start shown (session_orders request parsed)
+    × IsFront request.mode.stream old new (lines_from request.mode.stream start shown (session_orders request parsed)))
 
 module _ (request : Request) (known old new : Option Bytes) where
   -- what was read of the known text
@@ -439,7 +444,7 @@ module _ (request : Request) (known old new : Option Bytes) where
   not_run : (early : SessionError) → ((fault : Fault) → early ≡ errors.Fault fault → ⊥) → (early ≡ Device → ⊥) → (parsed : List Line) → RunsRequest request parsed old new (Err early) → ⊥
   unfolding RunsRequest RunsFrom
   not_run early other no_device parsed (start, is, (shown, is_shown, p)) =
-      no_end request.mode.stream start shown (session_orders request start shown parsed) early other
+      no_end request.mode.stream start shown (session_orders request parsed) early other
       (Prints-right request.mode.stream old new _ _ (Err early) (λ e. other NoMemory (let injective : early ≡ errors.Fault NoMemory = cc in injective))
       (λ e. no_device (let injective : early ≡ Device = cc in injective))
       (PrintsCopied-other (copy_of request) _ request.mode.stream old new _ _ (Err early) (λ fault e. other fault (let injective : early ≡ errors.Fault fault = cc in injective)) p))

@@ -1,17 +1,16 @@
-mod AheadLemmas
 mod AloneLemmas
 mod AnswerLemmas
 mod AskLemmas
 mod AskedLemmas
 mod BytesLemmas
 mod ClapLemmas
-mod CleansLemmas
 mod CommandLineLemmas
 mod CopiedLemmas
 mod CopyOrderLemmas
 mod EndLemmas
 mod ErrorLemmas
 mod FirstLemmas
+mod FlushLemmas
 mod FoundLemmas
 mod Literals
 mod LoopLemmas
@@ -23,7 +22,6 @@ mod PrintedLemmas
 mod Prints
 mod ReadLemmas
 mod RefusalLemmas
-mod RoomLemmas
 mod RowLemmas
 mod RunLemmas
 mod ShowLemmas

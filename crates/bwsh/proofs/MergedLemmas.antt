@@ -1,7 +1,7 @@
 -- Lemmas on the order to tidy a store.
 use Rattle.std.proofs.Common.{◌≡◌, ℕ, List, [], ◌∷◌, Option, Some, None, Result, Err, refl, sym, ap, ◌∙◌, subst}
 use Rattle.std.specs.Prelude.{Bool, ◌-◌}
-use Rattle.keys.specs.Bytes.{Bytes, Pairs}
+use Rattle.keys.specs.Bytes.{Bytes}
 use Rattle.keys.specs.declared.fault.Fault.{Fault}
 use Rattle.keys.specs.declared.settings.Settings.{Settings}
 use Rattle.mapping.specs.Levels.{contents}
@@ -12,15 +12,15 @@ use Rattle.bwsh.specs.declared.order.Order.TheVariants.{Tidy}
 use Rattle.bwsh.specs.declared.session.SessionError.{SessionError}
 use Rattle.bwsh.specs.declared.session.SessionError.TheVariants as errors
 use Rattle.bwsh.specs.Output.{Writes}
-use Rattle.bwsh.specs.Session.{Batches, LeavesStored, RunsOrder, Seen, Stored, after_order, by_batches, map_unless, no_tidying, own_lines, refusal_of, tidied}
+use Rattle.bwsh.specs.Session.{Batches, LeavesStored, RunsOrder, Seen, Stored, after_order, by_batches, map_unless, no_tidying, refusal_of, tidied}
 use Rattle.bwsh.specs.Shown.{shown_tidied}
 use Rattle.bwsh.proofs.AloneLemmas.{RunsAlone-done, RunsAlone-refused, left_same, map_same, refused_same}
-use Rattle.bwsh.proofs.RunLemmas.{no_tidying_asked}
+use Rattle.bwsh.proofs.RunLemmas.{no_cleans, no_tidying_asked}
 use Rattle.bwsh.proofs.TidiedLemmas.{tidies}
 
 -- these bytes are seen, the store is tidied by these batches, and the order fails so, if it does
 abbrev pub seen_merged : Option Fault → Batches → Bytes → Seen
-seen_merged fails batches file = record { bytes = file; ahead = file; tidying = no_tidying; merged = batches; fails = fails; told = [] }
+seen_merged fails batches file = record { bytes = file; tidying = no_tidying; rows = []; last = file; merged = batches; fails = fails; told = [] }
 
 module _ (settings : Settings) (st now : Store) (batches : Batches) (are : (file : List ℕ) → tidied settings (by_batches batches) (st, file) ≡ (now, file)) (most : ℕ) (fails : Option Fault) (file : Bytes) where
   merged_after : after_order settings st (seen_merged fails batches file) (Tidy most) ≡ (now, file)
@@ -50,8 +50,8 @@ module _ (mode : Mode) (honest : Bool) (settings : Settings) (st now : Store) (l
       let freed : pages ≡ counted_pages st.tree - counted_pages (after_order settings st seen (Tidy most)).0.tree =
       pages_are ∙ ap (λ (at : Stored). counted_pages st.tree - counted_pages at.0.tree) (sym after) in (
         seen,
-        (no_tidying_asked mode, tt, λ h. (refl, refl)),
-        RunsAlone-done mode.stream settings st seen (Tidy most) old new end (merged_refusal settings st now batches are most None left)
+        (no_tidying_asked mode, tt, no_cleans honest mode.clean_when_full settings st (Tidy most) seen (λ e. absurd (cc)) refl, λ h. (refl, refl)),
+        RunsAlone-done mode.stream settings st seen (Tidy most) old new end refl (merged_refusal settings st now batches are most None left)
             (subst (λ (n : ℕ). Writes old new (shown_tidied n ∷ []) end) freed written),
         λ other. merged_leaves settings st now batches are most None left honest is.holds,
       )
@@ -62,7 +62,7 @@ module _ (mode : Mode) (honest : Bool) (settings : Settings) (st now : Store) (l
       let (batches, are) = tidies settings st now is in
       let seen : Seen = seen_merged (Some fault) batches left in (
         seen,
-        (no_tidying_asked mode, may, λ h. (refl, refl)),
-        RunsAlone-refused mode.stream settings st seen (Tidy most) old fault (merged_refusal settings st now batches are most (Some fault) left),
+        (no_tidying_asked mode, may, no_cleans honest mode.clean_when_full settings st (Tidy most) seen (λ e. absurd (cc)) refl, λ h. (refl, refl)),
+        RunsAlone-refused mode.stream settings st seen (Tidy most) old fault refl (merged_refusal settings st now batches are most (Some fault) left),
         λ other. merged_leaves settings st now batches are most (Some fault) left honest is.holds,
       )

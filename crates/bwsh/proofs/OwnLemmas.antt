@@ -1,5 +1,5 @@
 -- Lemmas on what one order prints, alone and in front of others.
-use Rattle.std.proofs.Common.{◌≡◌, inl, inr, ℕ, List, [], ◌∷◌, ◌++◌, Option, Some, None, Result, Ok, Err, refl, sym, ap, ◌∙◌, subst, append_assoc, append-nil}
+use Rattle.std.proofs.Common.{◌≡◌, inl, inr, List, [], ◌∷◌, ◌++◌, Option, Some, None, Result, Ok, Err, refl, sym, ap, ◌∙◌, subst, append_assoc, append-nil}
 use Rattle.std.specs.Prelude.{Bool, true, false, OnOk}
 use Rattle.std.specs.Option.{option_map, option_or}
 use Rattle.std.specs.Io.KnownBytes.{Appends}
@@ -16,7 +16,7 @@ use Rattle.bwsh.specs.declared.session.SessionError.{SessionError}
 use Rattle.bwsh.specs.declared.session.SessionError.TheVariants.{Device}
 use Rattle.bwsh.specs.declared.session.SessionError.TheVariants as errors
 use Rattle.bwsh.specs.Output.{BeginsWith}
-use Rattle.bwsh.specs.Session.{LeavesMap, Prints, PrintsOwn, Reads, Runs, RunsAfter, RunsAlone, Seen, Stored, after_order, answer_then, answered, device_line, fault_line, first_refusal, left_by_step, left_unless, map_kept, map_unless, orders_end, own_lines, own_refusal, refusal_of, step_in, stopped_by, tidied_before}
+use Rattle.bwsh.specs.Session.{LeavesMap, Prints, PrintsOwn, Reads, Runs, RunsAfter, RunsAlone, Seen, Stored, after_order, answer_then, answered, device_line, fault_line, first_refusal, front_lines, left_by_step, left_unless, map_kept, map_unless, orders_end, own_lines, own_refusal, refusal_of, step_in, stopped_by, readied}
 use Rattle.bwsh.proofs.Prints.{flat-append, front-longer, front-more}
 use Rattle.bwsh.proofs.RunLemmas.{first_shown}
 
@@ -24,13 +24,9 @@ use Rattle.bwsh.proofs.RunLemmas.{first_shown}
 abbrev pub ended_by : Option Fault → Result (Unit {0}) SessionError
 ended_by refused = stopped_by (option_map (λ fault. errors.Fault fault) refused)
 
--- nothing begins with no more than nothing
-front_of_none : (front : List ℕ) → BeginsWith [] front → front ≡ []
-front_of_none [] begins = refl
-front_of_none (x ∷ front) (rest, e) = absurd (cc)
-
-nothing_first : (xs front : List ℕ) → BeginsWith [] front → BeginsWith xs front
-nothing_first xs front begins = subst (λ (f : List ℕ). BeginsWith xs f) (sym (front_of_none front begins)) (xs, refl)
+-- lines and no more after them
+nothing_after : (front own : List Bytes) → front ++ own ++ [] ≡ front ++ own
+nothing_after front own = append-nil (front ++ own)
 
 -- a beginning of some lines is one of more lines
 flat_longer : (lines more : List Bytes) (front : Bytes) → BeginsWith (flat lines) front → BeginsWith (flat (lines ++ more)) front
@@ -59,58 +55,66 @@ module _ (old mid new : Option Bytes) (first : List Bytes) (printed : Appends ol
 
 module _ (old new : Option Bytes) where
   -- an order ends its session
-  own_stops : (own further : List Bytes) (told : Bytes) (r later : Option Fault) (early : SessionError) → PrintsOwn false old new (answer_then false r told own []) (ended_by r) (Err early)
-      → Prints false old new (answer_then false r told own further) (ended_by (option_or r later)) (Err early)
-  own_stops own further told None later early (inl (e, a)) = absurd (cc)
-  own_stops own further told None later early (inr (inl (off, e, (front, begins, a)))) =
-      inr (inl (off, e, (front, front-longer own further front (subst (λ (l : List Bytes). BeginsWith l front) (append-nil own) begins), a)))
-  own_stops own further told None later early (inr (inr (e, (front, begins, a)))) =
+  own_stops : (front own further : List Bytes) (told : Bytes) (r later : Option Fault) (early : SessionError) → PrintsOwn false old new (answer_then false r told front own []) (ended_by r) (Err early)
+      → Prints false old new (answer_then false r told front own further) (ended_by (option_or r later)) (Err early)
+  own_stops front own further told None later early (inl (e, a)) = absurd (cc)
+  own_stops front own further told None later early (inr (inl (off, e, (begun, begins, a)))) =
+      inr (inl (
+        off,
+        e,
+        (
+          begun,
+          front-longer (front ++ own) further begun (subst (λ (l : List Bytes). BeginsWith l begun) (nothing_after front own) begins),
+          a,
+        ),
+      ))
+  own_stops front own further told None later early (inr (inr (e, (begun, begins, a)))) =
       inr (inr (
         e,
         (
-          front,
+          begun,
           [],
-          flat_longer own further front (subst (λ (l : List Bytes). BeginsWith (flat l) front) (append-nil own) begins),
+          flat_longer (front ++ own) further begun (subst (λ (l : List Bytes). BeginsWith (flat l) begun) (nothing_after front own) begins),
           ([], refl),
-          subst (Appends old new) (sym (append-nil front)) a,
+          subst (Appends old new) (sym (append-nil begun)) a,
         ),
       ))
-  own_stops own further told (Some fault) later early (inl p) = inl p
-  own_stops own further told (Some fault) later early (inr (inl p)) = inr (inl p)
-  own_stops own further told (Some fault) later early (inr (inr (e, (front, begins, a)))) =
-      inr (inr (e, (front, [], begins, ([], refl), subst (Appends old new) (sym (append-nil front)) a)))
+  own_stops front own further told (Some fault) later early (inl p) = inl p
+  own_stops front own further told (Some fault) later early (inr (inl p)) = inr (inl p)
+  own_stops front own further told (Some fault) later early (inr (inr (e, (begun, begins, a)))) =
+      inr (inr (e, (begun, [], begins, ([], refl), subst (Appends old new) (sym (append-nil begun)) a)))
 
   -- a device ends a stream, and then its line is begun
-  own_cut : (own further : List Bytes) (told : Bytes) (r : Option Fault) (last : Bytes) (printed : Option Bytes) → BeginsWith (device_line true) last → Appends new printed last
-      → PrintsOwn true old new (answer_then false r told own []) (ended_by r) (Err Device) → Prints true old printed (answer_then true r told own further) (Ok tt) (Err Device)
-  own_cut own further told None last printed ends b (inl (e, a)) = absurd (cc)
-  own_cut own further told None last printed ends b (inr (inl (off, e, p))) = absurd (cc)
-  own_cut own further told None last printed ends b (inr (inr (e, (front, begins, a)))) =
+  own_cut : (front own further : List Bytes) (told : Bytes) (r : Option Fault) (last : Bytes) (printed : Option Bytes) → BeginsWith (device_line true) last → Appends new printed last
+      → PrintsOwn true old new (answer_then false r told front own []) (ended_by r) (Err Device) → Prints true old printed (answer_then true r told front own further) (Ok tt) (Err Device)
+  own_cut front own further told None last printed ends b (inl (e, a)) = absurd (cc)
+  own_cut front own further told None last printed ends b (inr (inl (off, e, p))) = absurd (cc)
+  own_cut front own further told None last printed ends b (inr (inr (e, (begun, begins, a)))) =
       inr (inr (
         refl,
         (
-          front,
+          begun,
           last,
-          flat_longer own further front (subst (λ (l : List Bytes). BeginsWith (flat l) front) (append-nil own) begins),
+          flat_longer (front ++ own) further begun (subst (λ (l : List Bytes). BeginsWith (flat l) begun) (nothing_after front own) begins),
           ends,
-          Appends-trans old new printed front last a b,
+          Appends-trans old new printed begun last a b,
         ),
       ))
-  own_cut own further told (Some fault) last printed ends b (inl (e, a)) = absurd (cc)
-  own_cut own further told (Some fault) last printed ends b (inr (inl (off, e, p))) = absurd (cc)
-  own_cut own further told (Some fault) last printed ends b (inr (inr (e, (front, begins, a)))) =
-      inr (inr (refl, (front, last, nothing_first (flat (fault_line told ∷ further)) front begins, ends, Appends-trans old new printed front last a b)))
+  own_cut front own further told (Some fault) last printed ends b (inl (e, a)) = absurd (cc)
+  own_cut front own further told (Some fault) last printed ends b (inr (inl (off, e, p))) = absurd (cc)
+  own_cut front own further told (Some fault) last printed ends b (inr (inr (e, (begun, begins, a)))) =
+      inr (inr (refl, (begun, last, flat_longer front (fault_line told ∷ further) begun begins, ends, Appends-trans old new printed begun last a b)))
 
-  -- an order of a stream is refused, and then this is told
-  own_told : (was_own own further : List Bytes) (was told : Bytes) (r : Option Fault) (fault : Fault) (last : Option Bytes) (end : Result (Unit {0}) SessionError)
-      → PrintsOwn true old new (answer_then false r was was_own []) (ended_by r) (Err (errors.Fault fault)) → Prints true new last (fault_line told ∷ further) (Ok tt) end
-      → Prints true old last (answer_then true r told own further) (Ok tt) end
-  own_told was_own own further was told None fault last end (inl (e, a)) q = absurd (cc)
-  own_told was_own own further was told None fault last end (inr (inl (off, e, p))) q = absurd (cc)
-  own_told was_own own further was told None fault last end (inr (inr (e, p))) q = absurd (cc)
-  own_told was_own own further was told (Some why) fault last end (inl (e, a)) q = Prints-then old new last [] a true (fault_line told ∷ further) (Ok tt) end q
-  own_told was_own own further was told (Some why) fault last end (inr (inl (off, e, p))) q = absurd (cc)
-  own_told was_own own further was told (Some why) fault last end (inr (inr (e, p))) q = absurd (cc)
+  -- an order of a stream is refused, and then this is told: the lines of the cleans in front of it were printed
+  own_told : (front was_own own further : List Bytes) (was told : Bytes) (r : Option Fault) (fault : Fault) (last : Option Bytes) (end : Result (Unit {0}) SessionError)
+      → PrintsOwn true old new (answer_then false r was front was_own []) (ended_by r) (Err (errors.Fault fault)) → Prints true new last (fault_line told ∷ further) (Ok tt) end
+      → Prints true old last (answer_then true r told front own further) (Ok tt) end
+  own_told front was_own own further was told None fault last end (inl (e, a)) q = absurd (cc)
+  own_told front was_own own further was told None fault last end (inr (inl (off, e, p))) q = absurd (cc)
+  own_told front was_own own further was told None fault last end (inr (inr (e, p))) q = absurd (cc)
+  own_told front was_own own further was told (Some why) fault last end (inl (e, a)) q = Prints-then old new last front a true (fault_line told ∷ further) (Ok tt) end q
+  own_told front was_own own further was told (Some why) fault last end (inr (inl (off, e, p))) q = absurd (cc)
+  own_told front was_own own further was told (Some why) fault last end (inr (inr (e, p))) q = absurd (cc)
 
   -- an order is done
   pub own_unrefused : (on : Bool) (lines : List Bytes) (r : Option Fault) (done : Unit {0}) → PrintsOwn on old new lines (ended_by r) (Ok done) → r ≡ None
@@ -124,13 +128,13 @@ module _ (old new : Option Bytes) where
   own_all on lines right done (inr (inl (off, e, p))) = absurd (cc)
   own_all on lines right done (inr (inr (e, p))) = absurd (cc)
 
-  own_done : (on : Bool) (own further : List Bytes) (told : Bytes) (r : Option Fault) (done : Unit {0}) (last : Option Bytes) (right end : Result (Unit {0}) SessionError)
-      → PrintsOwn on old new (answer_then false r told own []) (ended_by r) (Ok done) → Prints on new last further right end → Prints on old last (answer_then on r told own further) right end
-  own_done on own further told None done last right end p q =
-      Prints-then old new last own (subst (λ (l : List Bytes). Appends old new (flat l)) (append-nil own) (own_all on (own ++ []) (Ok tt) done p)) on further right end q
-  own_done on own further told (Some fault) done last right end (inl (e, a)) q = absurd (cc)
-  own_done on own further told (Some fault) done last right end (inr (inl (off, e, p))) q = absurd (cc)
-  own_done on own further told (Some fault) done last right end (inr (inr (e, p))) q = absurd (cc)
+  own_done : (on : Bool) (front own further : List Bytes) (told : Bytes) (r : Option Fault) (done : Unit {0}) (last : Option Bytes) (right end : Result (Unit {0}) SessionError)
+      → PrintsOwn on old new (answer_then false r told front own []) (ended_by r) (Ok done) → Prints on new last further right end → Prints on old last (answer_then on r told front own further) right end
+  own_done on front own further told None done last right end p q =
+      Prints-then old new last (front ++ own) (subst (λ (l : List Bytes). Appends old new (flat l)) (nothing_after front own) (own_all on (front ++ own ++ []) (Ok tt) done p)) on further right end q
+  own_done on front own further told (Some fault) done last right end (inl (e, a)) q = absurd (cc)
+  own_done on front own further told (Some fault) done last right end (inr (inl (off, e, p))) q = absurd (cc)
+  own_done on front own further told (Some fault) done last right end (inr (inr (e, p))) q = absurd (cc)
 
   -- no order of a stream ends otherwise
   own_never : (lines : List Bytes) (r : Option Fault) (early : SessionError) → (early ≡ Device → ⊥) → ((fault : Fault) → early ≡ errors.Fault fault → ⊥)
@@ -146,7 +150,7 @@ abbrev pub with_told : Bytes → Seen → Seen
 with_told text seen = record seen { told = text }
 
 -- what is told changes nothing else
-told_before : (text : Bytes) (order : Order) (settings : Settings) (seen : Seen) (at : Stored) → tidied_before order settings (with_told text seen) at ≡ tidied_before order settings seen at
+pub told_before : (text : Bytes) (order : Order) (settings : Settings) (seen : Seen) (at : Stored) → readied order settings (with_told text seen) at ≡ readied order settings seen at
 told_before text (Batch cs) settings seen at = refl
 told_before text (BadLine line why) settings seen at = refl
 told_before text Lost settings seen at = refl
@@ -161,6 +165,11 @@ told_before text (Tidy most) settings seen at = refl
 told_before text (Back lo hi limit) settings seen at = refl
 told_before text (Prefix bytes limit) settings seen at = refl
 told_before text Help settings seen at = refl
+
+-- nor the lines of the cleans
+front_told : (text : Bytes) (st : Store) (seen : Seen) (order : Order) → front_lines st (with_told text seen) order ≡ front_lines st seen order
+front_told text st seen Flush = refl
+front_told text st seen _ = refl
 
 pub after_told : (text : Bytes) (settings : Settings) (st : Store) (seen : Seen) (order : Order) → after_order settings st (with_told text seen) order ≡ after_order settings st seen order
 unfolding after_order
@@ -180,6 +189,10 @@ module _ (settings : Settings) (st : Store) (seen : Seen) (order : Order) (old n
   abbrev own : List Bytes
   own = own_lines settings st seen (contents st.tree) order
 
+  -- the lines of the cleans in front of it
+  abbrev front : List Bytes
+  front = front_lines st seen order
+
   -- why it is refused, if it is, and what answers the others
   abbrev why : Option Fault
   why = refusal_of settings st seen order
@@ -192,14 +205,14 @@ module _ (settings : Settings) (st : Store) (seen : Seen) (order : Order) (old n
       → Runs on on settings st (first_shown seen shown) (order ∷ rest) old new (Err early)
   unfolding Runs RunsAlone
   Runs-stops true off early p = absurd (cc)
-  Runs-stops false off early p = own_stops old new own (further false) seen.told why (first_refusal settings left.0 shown rest) early p
+  Runs-stops false off early p = own_stops old new front own (further false) seen.told why (first_refusal settings left.0 shown rest) early p
 
   -- a device ends a stream, and then its line is begun
   pub Runs-device : (on : Bool) → on ≡ true → (last : Bytes) (printed : Option Bytes) → BeginsWith (device_line true) last → Appends new printed last
       → RunsAlone on settings st seen order old new (Err Device) → Runs on on settings st (first_shown seen shown) (order ∷ rest) old printed (Err Device)
   unfolding Runs RunsAlone
   Runs-device false off last printed ends a p = absurd (cc)
-  Runs-device true is last printed ends a p = own_cut old new own (further true) seen.told why last printed ends a p
+  Runs-device true is last printed ends a p = own_cut old new front own (further true) seen.told why last printed ends a p
 
   -- no order of a stream ends otherwise
   pub Runs-never : (on : Bool) → on ≡ true → (early : SessionError) → (early ≡ Device → ⊥) → ((fault : Fault) → early ≡ errors.Fault fault → ⊥)
@@ -207,11 +220,6 @@ module _ (settings : Settings) (st : Store) (seen : Seen) (order : Order) (old n
   unfolding RunsAlone
   Runs-never false off early other none p = absurd (cc)
   Runs-never true is early other none p = own_never old new _ why early other none p
-
-  -- all of it is done, so it isn't refused
-  pub Runs-unrefused : (on : Bool) (done : Unit {0}) → RunsAlone on settings st seen order old new (Ok done) → why ≡ None
-  unfolding RunsAlone
-  Runs-unrefused on done p = own_unrefused old new on _ why done p
 
   -- it leaves this store, whether it is refused or not
   module _ (now : Store) (now_is : now ≡ left.0) (holds : contents now.tree ≡ map_unless why (contents st.tree) order) (last : Option Bytes) (end : Result (Unit {0}) SessionError) where
@@ -235,12 +243,12 @@ module _ (settings : Settings) (st : Store) (seen : Seen) (order : Order) (old n
     pub Runs-then : (on : Bool) (done : Unit {0}) → RunsAlone on settings st seen order old new (Ok done) → Runs on on settings now shown rest new last end
         → Runs on on settings st (first_shown seen shown) (order ∷ rest) old last end
     unfolding Runs RunsAlone
-    Runs-then true done p q = own_done old new true own (further true) seen.told why done last (Ok tt) end p (then_on true q)
+    Runs-then true done p q = own_done old new true front own (further true) seen.told why done last (Ok tt) end p (then_on true q)
     Runs-then false done p q =
         let none : why ≡ None = own_unrefused old new false _ why done p in
         let ends : orders_end false settings left.0 shown rest ≡ orders_end false settings st (first_shown seen shown) (order ∷ rest) =
         ap (λ (r : Option Fault). ended_by (option_or r (first_refusal settings left.0 shown rest))) (sym none) in
-        own_done old new false own (further false) seen.told why done last (orders_end false settings st (first_shown seen shown) (order ∷ rest)) end p
+        own_done old new false front own (further false) seen.told why done last (orders_end false settings st (first_shown seen shown) (order ∷ rest)) end p
         (subst (λ (right : Result (Unit {0}) SessionError). Prints false new last (further false) right end) ends (then_on false q))
 
 -- an order of a stream is refused, and this is told of it: what the others print comes after the line of its fault
@@ -260,11 +268,13 @@ module _ (settings : Settings) (st : Store) (seen : Seen) (order : Order) (old n
   holds_told = holds ∙ ap (λ (r : Option Fault). map_unless r (contents st.tree) order) (sym (refusal_told told settings st seen order))
 
   alone_told : (fault : Fault) → RunsAlone true settings st seen order old new (Err (errors.Fault fault))
-      → PrintsOwn true old new (answer_then false why_told seen.told (own_lines settings st seen (contents st.tree) order) []) (ended_by why_told) (Err (errors.Fault fault))
+      → PrintsOwn true old new (answer_then false why_told seen.told (front_lines st seen_told order) (own_lines settings st seen (contents st.tree) order) []) (ended_by why_told) (Err (errors.Fault fault))
   unfolding RunsAlone
   alone_told fault p =
-      subst (λ (r : Option Fault). PrintsOwn true old new (answer_then false r seen.told (own_lines settings st seen (contents st.tree) order) []) (ended_by r) (Err (errors.Fault fault)))
-      (sym (refusal_told told settings st seen order)) p
+      subst (λ (l : List Bytes). PrintsOwn true old new (answer_then false why_told seen.told l (own_lines settings st seen (contents st.tree) order) []) (ended_by why_told) (Err (errors.Fault fault)))
+      (sym (front_told told st seen order))
+      (subst (λ (r : Option Fault). PrintsOwn true old new (answer_then false r seen.told (front_lines st seen order) (own_lines settings st seen (contents st.tree) order) []) (ended_by r) (Err (errors.Fault fault)))
+      (sym (refusal_told told settings st seen order)) p)
 
   pub Runs-told : (on : Bool) → on ≡ true → (fault : Fault) → RunsAlone on settings st seen order old new (Err (errors.Fault fault)) → RunsAfter told on settings now shown rest new last end
       → Runs on on settings st (first_shown seen_told shown) (order ∷ rest) old last end
@@ -274,4 +284,4 @@ module _ (settings : Settings) (st : Store) (seen : Seen) (order : Order) (old n
       let line = fault_line told in
       let printed = subst (λ (s : Store). Prints true new last (line ∷ answered true settings s shown (map_unless why_told (contents st.tree) order) rest) (Ok tt) end) is_told
       (subst (λ (m : Pairs Bytes). Prints true new last (line ∷ answered true settings now shown m rest) (Ok tt) end) holds_told q) in
-      own_told old new _ _ _ seen.told told why_told fault last end (alone_told fault p) printed
+      own_told old new _ _ _ _ seen.told told why_told fault last end (alone_told fault p) printed

@@ -1,11 +1,12 @@
 -- What is printed in all, in the words of the commands.
-use Rattle.std.proofs.Common.{◌≡◌, ◌-◌, ℕ, List, [], ◌∷◌, ◌++◌, map, Option, Some, None, refl, sym, ap, ◌∙◌}
+use Rattle.std.proofs.Common.{◌≡◌, ◌-◌, ℕ, List, [], ◌∷◌, ◌++◌, map, Option, Some, None, refl, sym, ap, append_assoc, ◌∙◌}
 use Rattle.std.specs.Prelude.{take}
 use Rattle.std.specs.List.{All, AllByRecursion, flat_map}
 use Rattle.std.specs.declared.alloc.Global.{Global}
 use Rattle.std.proofs.lemmas.Grind.{flat_map-append}
 use Rattle.std.proofs.lemmas.List.Elements.{recursion_from_All}
 use Rattle.keys.proofs.RunLemmas.{replies_to-append}
+use Rattle.keys.specs.Lists.{flat}
 use Rattle.keys.specs.Step.{replies_to, map_after_all}
 use Rattle.keys.specs.declared.command.Command.{Command}
 use Rattle.keys.specs.declared.command.Reply.{Reply}
@@ -21,7 +22,7 @@ use Rattle.bwsh.specs.declared.line.Why.{Why}
 use Rattle.bwsh.specs.declared.order.Order.{Order}
 use Rattle.bwsh.specs.declared.order.Order.TheVariants.{Batch, BadLine, Flush, Clean, Upgrade, Verify, Numbers, Stat, Copy, Tidy, Back, Prefix, Help}
 use Rattle.bwsh.specs.BatchFile.{orders_of, commands_of, commands_of_lines, IsBatch, IsForBatches}
-use Rattle.bwsh.specs.Session.{Reads, Stored, later, after_order, answer_lines, bad_line, left_unless, numbers_of, printed}
+use Rattle.bwsh.specs.Session.{Reads, Stored, later, after_order, answer_lines, bad_line, front_lines, left_unless, numbers_of, printed}
 use Rattle.bwsh.specs.Shown.{help_lines, shown_reply, shown_rows, shown_flushed, shown_cleaned, shown_upgraded, shown_report, shown_numbers, shown_settings, shown_tidied, shown_copied}
 use Rattle.bwsh.proofs.OrderLemmas.{commands-orders_of, batches-orders_of}
 use Rattle.bwsh.proofs.Prints.{flat-append, flat-map}
@@ -36,8 +37,14 @@ printed-batch settings st shown m commands rest =
 
 pub printed-flush : (settings : Settings) (st : Store) (shown : Reads) (m : List (List ℕ × List ℕ)) (rest : List Order)
     → printed settings st shown m (Flush ∷ rest)
-    ≡ shown_flushed (after_order settings st (shown 0) Flush).0.sequence ++ printed settings (after_order settings st (shown 0) Flush).0 (later shown) m rest
-printed-flush settings st shown m rest = refl
+    ≡ flat (front_lines st (shown 0) Flush)
+    ++ (shown_flushed (after_order settings st (shown 0) Flush).0.sequence ++ printed settings (after_order settings st (shown 0) Flush).0 (later shown) m rest)
+printed-flush settings st shown m rest =
+    let now : Store = (after_order settings st (shown 0) Flush).0 in
+    let front : List (List ℕ) = front_lines st (shown 0) Flush in
+    let own : List ℕ = shown_flushed now.sequence in
+    let further : List (List ℕ) = answer_lines settings now (later shown) m rest in
+    ap (λ (l : List (List ℕ)). flat l) (append_assoc front (own ∷ []) further) ∙ flat-append front (own ∷ further)
 
 pub printed-clean : (settings : Settings) (st : Store) (shown : Reads) (m : List (List ℕ × List ℕ)) (rest : List Order)
     → printed settings st shown m (Clean ∷ rest)

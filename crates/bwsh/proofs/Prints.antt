@@ -1,10 +1,9 @@
 -- Lemmas on fronts of lists, and on what was printed.
-use Rattle.std.proofs.Common.{◌≡◌, ◌⊎◌, inl, inr, ℕ, List, [], ◌++◌, map, take, drop, Option, Result, Ok, Err, refl, sym, ap, ◌∙◌, subst, append_assoc, append-nil, take-append-drop}
+use Rattle.std.proofs.Common.{◌≡◌, ◌⊎◌, inl, inr, ℕ, List, [], ◌++◌, map, Option, Result, Err, refl, sym, ap, ◌∙◌, subst, append_assoc, append-nil}
 use Rattle.std.specs.List.{flat_map}
 use Rattle.std.specs.Io.KnownBytes.{Appends, Keeps}
 use Rattle.std.proofs.KnownBytes.{Appends-trans, Appends-kept}
 use Rattle.std.proofs.lemmas.Grind.{flat_map-append}
-use Rattle.std.proofs.lemmas.List.{map-append}
 use Rattle.std.proofs.lemmas.List.Folds.{flat_map-map}
 use Rattle.std.specs.Prelude.{Bool}
 use Rattle.keys.specs.Lists.{flat}
@@ -25,14 +24,8 @@ module _ {X : Type 0} where
   pub front-longer : (xs after_order front : List X) → BeginsWith xs front → BeginsWith (xs ++ after_order) front
   front-longer xs after_order front (rest, e) = (rest ++ after_order, ap (λ (l : List X). l ++ after_order) e ∙ append_assoc front rest after_order)
 
-  pub front-trans : (xs ys zs : List X) → BeginsWith xs ys → BeginsWith ys zs → BeginsWith xs zs
-  front-trans xs ys zs (p, e) (q, f) = (q ++ p, e ∙ ap (λ (l : List X). l ++ p) f ∙ append_assoc zs q p)
-
   pub front-whole : (xs : List X) → BeginsWith xs xs
   front-whole xs = ([], sym (append-nil xs))
-
-  pub front-map : (f : X → List ℕ) (xs : List X) (n : ℕ) → BeginsWith (map f xs) (map f (take n xs))
-  front-map f xs n = (map f (drop n xs), ap (map f) (sym (take-append-drop n xs)) ∙ map-append f (take n xs) (drop n xs))
 
   pub flat-map : (f : X → List ℕ) (xs : List X) → flat (map f xs) ≡ flat_map f xs
   flat-map f xs = flat_map-map (λ (ys : List ℕ). ys) f xs
@@ -41,46 +34,6 @@ pub front-flat : (lines front : List (List ℕ)) → BeginsWith lines front → 
 front-flat lines front (rest, e) = (flat rest, ap flat e ∙ flat-append front rest)
 
 -- ---- what was printed
-
--- nothing is appended after some bytes
-after_all : (old new : Option (List ℕ)) (first front last : List ℕ) → Appends old new (first ++ (front ++ last)) → Appends old new ((first ++ front) ++ last)
-after_all old new first front last a = subst (Appends old new) (sym (append_assoc first front last)) a
-
-pub Prints-after_order : (on : Bool) (old mid new : Option (List ℕ)) (first lines : List (List ℕ)) (right end : Result (Unit {0}) SessionError)
-    → Appends old mid (flat first) → Prints on mid new lines right end → Prints on old new (first ++ lines) right end
-Prints-after_order on old mid new first lines right end a (inl (e, b)) =
-    inl (e, subst (Appends old new) (sym (flat-append first lines)) (Appends-trans old mid new (flat first) (flat lines) a b))
-Prints-after_order on old mid new first lines right end a (inr (inl (off, e, (front, begins, b)))) =
-    inr (inl (off, e, (first ++ front, front-more first lines front begins, subst (Appends old new) (sym (flat-append first front)) (Appends-trans old mid new (flat first) (flat front) a b))))
-Prints-after_order on old mid new first lines right end a (inr (inr (e, (front, last, begins, ends, b)))) =
-    inr (inr (
-      e,
-      (
-        flat first ++ front,
-        last,
-        subst (λ (bytes : List ℕ). BeginsWith bytes (flat first ++ front)) (sym (flat-append first lines)) (front-more (flat first) (flat lines) front begins),
-        ends,
-        after_all old new (flat first) front last (Appends-trans old mid new (flat first) (front ++ last) a b),
-      ),
-    ))
-
--- an end that came early came early for what is longer too
-pub Prints-early : (on : Bool) (old new : Option (List ℕ)) (lines after_order : List (List ℕ)) (right : Result (Unit {0}) SessionError) (early : SessionError)
-    → Prints on old new lines (Ok tt) (Err early) → Prints on old new (lines ++ after_order) right (Err early)
-Prints-early on old new lines after_order right early (inl (e, b)) = absurd (cc)
-Prints-early on old new lines after_order right early (inr (inl (off, e, (front, begins, b)))) =
-    inr (inl (off, e, (front, front-longer lines after_order front begins, b)))
-Prints-early on old new lines after_order right early (inr (inr (e, (front, last, begins, ends, b)))) =
-    inr (inr (
-      e,
-      (
-        front,
-        last,
-        subst (λ (bytes : List ℕ). BeginsWith bytes front) (sym (flat-append lines after_order)) (front-longer (flat lines) (flat after_order) front begins),
-        ends,
-        b,
-      ),
-    ))
 
 -- whatever the end, what was printed is a front of the lines' text, and after it a front of the line of a failed device
 pub Prints-front : (on : Bool) (old new : Option (List ℕ)) (lines : List (List ℕ)) (right end : Result (Unit {0}) SessionError)
@@ -115,13 +68,6 @@ module _ (on : Bool) (old mid new : Option (List ℕ)) (asked : Appends old mid 
   Prints-asked lines right end (inl (e, a)) = inl (e, after_nothing (flat lines) a)
   Prints-asked lines right end (inr (inl (off, e, (front, begins, a)))) = inr (inl (off, e, (front, begins, after_nothing (flat front) a)))
   Prints-asked lines right end (inr (inr (e, (front, last, begins, ends, a)))) = inr (inr (e, (front, last, begins, ends, after_nothing (front ++ last) a)))
-
--- all is done, so all was printed
-pub Prints-all : (on : Bool) (old new : Option (List ℕ)) (lines : List (List ℕ)) (right : Result (Unit {0}) SessionError) (done : Unit {0})
-    → Prints on old new lines right (Ok done) → Appends old new (flat lines)
-Prints-all on old new lines right done (inl (e, b)) = b
-Prints-all on old new lines right done (inr (inl (off, e, p))) = absurd (cc)
-Prints-all on old new lines right done (inr (inr (e, p))) = absurd (cc)
 
 -- the output is handed on to the device, and that may fail
 pub Prints-flushed : (on : Bool) (old mid new : Option (List ℕ)) (lines : List (List ℕ)) (right done end : Result (Unit {0}) SessionError)

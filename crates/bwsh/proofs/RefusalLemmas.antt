@@ -22,8 +22,8 @@ use Rattle.bwsh.specs.declared.order.Order.{Order}
 use Rattle.bwsh.specs.declared.order.Order.TheVariants.{Batch, Flush, Lost, Tidy}
 use Rattle.bwsh.specs.BatchFile.{IsInBatch, asked, first_bad, is_too_long}
 use Rattle.bwsh.specs.BatchFile.Pending.{begun, skipped}
-use Rattle.bwsh.specs.Session.{Reads, Seen, Stored, after_order, answer_then, answered, by_batches, fault_line, later, left_by, left_by_step, left_unless, map_unless, own_lines, own_refusal, refusal_of, refusal_of_step, refused_by, step_in, tidied_before}
-use Rattle.bwsh.proofs.TidiedLemmas.{holds-tidied}
+use Rattle.bwsh.specs.Session.{Reads, Seen, Stored, after_order, answer_then, answered, by_batches, fault_line, front_lines, later, left_by, left_by_step, left_unless, map_unless, own_lines, own_refusal, refusal_of, readied, refusal_of_step, refused_by, step_in}
+use Rattle.bwsh.proofs.TidiedLemmas.{holds-cleaned, holds-tidied}
 
 -- ---- a refusal
 
@@ -53,9 +53,9 @@ left_refused : (settings : Settings) (at : Stored) (order : Order) (fails : Opti
 left_refused settings at order None fault e = own_refused settings at order fault e
 left_refused settings at order (Some other) fault e = refl
 
--- what is tidied before an order holds the same
-held_before : (order : Order) (settings : Settings) (seen : Seen) (at : Stored) → contents (tidied_before order settings seen at).0.tree ≡ contents at.0.tree
-held_before Flush settings seen at = holds-tidied settings seen.tidying at
+-- what is readied for an order holds the same
+held_before : (order : Order) (settings : Settings) (seen : Seen) (at : Stored) → contents (readied order settings seen at).0.tree ≡ contents at.0.tree
+held_before Flush settings seen at = holds-cleaned settings seen at
 held_before (Tidy most) settings seen at = holds-tidied settings (by_batches seen.merged) at
 held_before _ settings seen at = refl
 
@@ -64,14 +64,14 @@ pub refused-holds : (settings : Settings) (st : Store) (seen : Seen) (order : Or
     → contents (after_order settings st seen order).0.tree ≡ contents st.tree
 unfolding after_order refusal_of
 refused-holds settings st seen order fault e =
-    let at : Stored = tidied_before order settings seen (st, seen.bytes) in
+    let at : Stored = readied order settings seen (st, seen.bytes) in
     ap (λ (left : Stored). contents left.0.tree) (left_refused settings at order seen.fails fault e) ∙ held_before order settings seen (st, seen.bytes)
 
--- it is answered by a line, and the others after it
+-- it is answered by a line, after those of the cleans in front of it, and the others after it
 pub answered-refused : (settings : Settings) (st : Store) (shown : Reads) (m : Pairs Bytes) (order : Order) (rest : List Order) (fault : Fault) → refusal_of settings st (shown 0) order ≡ Some fault
-    → answered true settings st shown m (order ∷ rest) ≡ fault_line (shown 0).told ∷ answered true settings (after_order settings st (shown 0) order).0 (later shown) m rest
+    → answered true settings st shown m (order ∷ rest) ≡ front_lines st (shown 0) order ++ fault_line (shown 0).told ∷ answered true settings (after_order settings st (shown 0) order).0 (later shown) m rest
 answered-refused settings st shown m order rest fault e =
-    ap (λ (r : Option Fault). answer_then true r (shown 0).told (own_lines settings st (shown 0) m order)
+    ap (λ (r : Option Fault). answer_then true r (shown 0).told (front_lines st (shown 0) order) (own_lines settings st (shown 0) m order)
     (answered true settings (after_order settings st (shown 0) order).0 (later shown) (map_unless r m order) rest)) e
 
 refused_batch : (r : Option Fault) (answer : Answer Global) (st : Store) (file : Bytes) → refused_by (unless_refused r answer st file) ≡ r

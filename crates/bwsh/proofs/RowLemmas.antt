@@ -1,423 +1,331 @@
--- Lemmas on the rows of cleans in front of a flush.
-use Rattle.std.proofs.Common.{◌≡◌, ◌≢◌, ◌⊎◌, ◌-◌, ◌<◌, inl, inr, ℕ, zero, suc, Bool, true, false, List, [], ◌∷◌, Option, Some, None, Result, Ok, Err, refl, sym, ap, ◌∙◌, subst, arith}
-use Rattle.std.specs.Option.{option_or}
-use Rattle.std.specs.Prelude.{not, is_some, IfOk, IfSome, IsTrue}
-use Rattle.std.specs.Io.KnownBytes.{Appends}
-use Rattle.std.proofs.KnownBytes.{Appends-nil}
+-- Rows of cleans in front of a flush: what they lead to, what they are on an honest disk, and what they are if less is known to be honest.
+use Rattle.std.proofs.Common.{◌≡◌, ◌⊎◌, ◌<◌, ◌≤◌, ◌+◌, ◌-◌, inl, inr, ⊎_elim, ℕ, zero, suc, Bool, true, false, List, [], ◌∷◌, length, length-append, Option, Some, None, Result, Ok, Err, refl, sym, ap, ◌∙◌, subst, arith}
+use Rattle.std.specs.Prelude.{IsTrue, min}
+use Rattle.std.specs.declared.alloc.Global.{Global}
 use Rattle.keys.specs.declared.fault.Fault.{Fault}
-use Rattle.keys.specs.declared.fault.Fault.TheVariants.{Device, Full, NoMemory, NothingToClean}
+use Rattle.keys.specs.declared.fault.Fault.TheVariants.{Full}
 use Rattle.keys.specs.declared.settings.Settings.{Settings}
 use Rattle.mapping.specs.Tree.{Store}
+use Rattle.flush_log.specs.AfterFlush.{after_flush}
+use Rattle.engine.specs.Cleaning.{CleanRow, AreCleansBy, AreRows, BeginsFull, IsCalm, IsCleanRefused, IsEarly, IsFull, IsRoomy, IsRow, NoneFollow, count_of, most_ahead, most_cleanable, reads_in, row_length}
+use Rattle.engine.specs.Room.{is_overfull, live_known}
+use Rattle.engine.specs.Steps.{Answer, Stepped, after_step, batching}
+use Rattle.engine.specs.Steps.Step.{Clean}
+use Rattle.engine.proofs.RowsLemmas.{cleans_head, rows_cleans}
 use Rattle.bwsh.specs.declared.order.Order.{Order}
-use Rattle.bwsh.specs.declared.order.Order.TheVariants.{Flush, Clean}
-use Rattle.bwsh.specs.declared.options.asked.Mode.{Mode}
-use Rattle.bwsh.specs.declared.session.SessionError.{SessionError}
-use Rattle.bwsh.specs.declared.session.SessionError.TheVariants as errors
-use Rattle.bwsh.specs.Session.{AreSeen, IsAsked, IsSeen, LeavesMap, LeavesStored, MayFail, Reads, Runs, RunsAlone, RunsCleans, RunsOrder, RunsRoom, RunsRoomRefused, Seen, Tidying, after_order, can_clean, flush_with_room, has_reason, later, makes_no_room, own_refusal, refusal_of, refusal_of_step, row_after, row_of_cleans, step_in, wants_clean}
-use Rattle.bwsh.proofs.BytesLemmas.{after_flush-same}
-use Rattle.bwsh.proofs.FirstLemmas.{RunsBy, RunsBy-asked, RunsBy-device, RunsBy-show_call, RunsBy-stops, RunsOrder-same, clean_with}
-use Rattle.bwsh.proofs.RoomLemmas.{Rows, RunsBy-due, RunsBy-reseen, RunsBy-shows, RunsOrder-ahead, RunsRoom-device, RunsRoom-fails, leavable_room, orders_after_flush, room_made, room_refused-as, room_wanted, unfailing, wants_failing}
-use Rattle.bwsh.proofs.RunLemmas.{Early, IsCut, by_right, cut, early_by, first_shown, refusal_of-failing, refused_cut, unrefused_by}
-use Rattle.bwsh.proofs.TidiedLemmas.{IsTidiedBy, clean_refused, clean_under}
+use Rattle.bwsh.specs.declared.order.Order.TheVariants.{Flush}
+use Rattle.bwsh.specs.Session.{AreCleaning, AreCleansOf, AreRight, Reads, Seen, Stored, after_order, cleaned, finds_no_memory, later, refused_by, tidied}
+use Rattle.bwsh.proofs.RunLemmas.{answering, clean_head, of_flush}
 
--- ---- a clean in a row
+-- ---- numbers
 
--- a clean that makes no room is not run: the flush is
-module _ (mode : Mode) (honest : Bool) (settings : Settings) (st : Store) (seen : List ℕ) (at : Seen) (is : IsSeen mode honest settings st seen Clean at) (refused_so : makes_no_room (refusal_of settings st at Clean) ≡ true)
-    (unfailed : at.fails ≡ None) (next : Store → Reads → List Order) where
-  -- the same bytes are read, and the rest of what is seen is that of another order
-  abbrev reading_so : Seen → Seen
-  reading_so other = record other { bytes = at.bytes }
-
-  -- where nothing fails the clean is refused by its right
-  right_refused : makes_no_room (own_refusal settings (st, at.bytes) Clean) ≡ true
-  unfolding refusal_of
-  right_refused = subst (λ (o : Option Fault). makes_no_room (option_or o (own_refusal settings (st, at.bytes) Clean)) ≡ true) unfailed refused_so
-
-  cannot : (other : Seen) → can_clean settings st (reading_so other) ≡ false
-  unfolding refusal_of
-  cannot other = some_off other.fails (own_refusal settings (st, at.bytes) Clean) right_refused
-    where
-      some_off : (o r : Option Fault) → makes_no_room r ≡ true → not (is_some (option_or o r)) ≡ false
-      some_off (Some fault) r frees = refl
-      some_off None (Some fault) frees = refl
-      some_off None None frees = absurd (cc)
-
-  no_clean : (other : Seen) (most row : ℕ) → wants_clean (suc most) row settings st (reading_so other) ≡ false
-  no_clean other most zero = let none = cannot other in rw none refl
-  no_clean other most (suc row) = cannot other
-
-  flush_alike : (other : Seen) → ((after_order settings st (reading_so other) Flush).0 ≡ (after_order settings st other Flush).0) × (refusal_of settings st (reading_so other) Flush ≡ refusal_of settings st other Flush)
-  flush_alike other = after_flush-same settings st (reading_so other) other refl refl
-
-  abbrev unrun : Reads → List Order
-  unrun shown = Flush ∷ next (after_order settings st (shown 0) Flush).0 (later shown)
-
-  flush_made : (most row : ℕ) (shown : Reads) → flush_with_room (suc most) row settings st (first_shown (reading_so (shown 0)) (later shown)) next ≡ unrun shown
-  flush_made most row shown =
-      room_made settings st (reading_so (shown 0)) (suc most) row next (no_clean (shown 0) most row) (later shown) ∙ ap (λ (s : Store). Flush ∷ next s (later shown)) (flush_alike (shown 0)).0
-
-  -- where the flush fails, it takes no clean either
-  flush_failing : (fault : Fault) (most row : ℕ) (shown : Reads) → (shown 0).fails ≡ Some fault → flush_with_room (suc most) row settings st shown next ≡ unrun shown
-  flush_failing fault most row shown fails =
-      let none = wants_failing settings st (shown 0) fault fails (suc most) row in rw none refl
-
-  unrun_by : (batches : Tidying) (most row : ℕ) (old new : Option (List ℕ)) (end : Result (Unit {0}) SessionError) (held : Rows) (shown : Reads) → (shown 0).tidying ≡ batches
-      → AreSeen mode honest settings st seen shown (unrun shown) → Runs mode.stream mode.stream settings st shown (unrun shown) old new end → LeavesMap settings st shown (unrun shown) end held
-      → (o : Option Fault) → (shown 0).fails ≡ o → RunsBy batches mode honest settings st seen (λ reads. flush_with_room (suc most) row settings st reads next) old new end held
-  unrun_by batches most row old new end held shown first are runs map None none =
-      RunsBy-reseen mode honest settings st seen shown (reading_so (shown 0)) Flush (next (after_order settings st (shown 0) Flush).0 (later shown)) refl refl refl refl (flush_alike (shown 0)).0 (flush_alike (shown 0)).1
-      (subst (λ (f : Option Fault). IfSome f (MayFail mode.clean_when_full settings (st, at.bytes) Flush)) (sym none) tt)
-      (λ h. ((is.2 h).0, (are.2 h).0.1)) batches (λ reads. flush_with_room (suc most) row settings st reads next) unrun first refl (flush_made most row shown) are old new end held runs map
-  unrun_by batches most row old new end held shown first are runs map (Some fault) fails =
-      let same = flush_failing fault most row shown fails in (
-        shown,
-        first,
-        subst (AreSeen mode honest settings st seen shown) (sym same) are,
-        subst (λ (os : List Order). Runs mode.stream mode.stream settings st shown os old new end) (sym same) runs,
-        subst (λ (os : List Order). LeavesMap settings st shown os end held) (sym same) map,
-      )
-
-  RunsBy-unrun : (batches : Tidying) (most row : ℕ) (old new : Option (List ℕ)) (end : Result (Unit {0}) SessionError) (held : Rows) → RunsBy batches mode honest settings st seen unrun old new end held
-      → RunsBy batches mode honest settings st seen (λ shown. flush_with_room (suc most) row settings st shown next) old new end held
-  RunsBy-unrun batches most row old new end held (shown, first, are, runs, map) = unrun_by batches most row old new end held shown first are runs map (shown 0).fails refl
-
--- What the flush prints before which these cleans are still to be run is, after what stands there, what it printed with all of them to be run; the
--- store is one that these batches tidy to this one.
-abbrev pub LeadsRow : ℕ → ℕ → Tidying → Mode → Bool → Settings → Store → List ℕ → Option (List ℕ) → ℕ → ℕ → Store → List ℕ → Option (List ℕ) → Type 0
-LeadsRow all length batches mode honest settings first file old most row st seen now =
-    (under : Store) × IsTidiedBy settings batches under st
-    × ((rest : List Order) (new : Option (List ℕ)) (end : Result (Unit {0}) SessionError) (held : Rows) → RunsRoom most row batches mode honest settings under seen rest now new end held
-    → RunsRoom all length batches mode honest settings first file rest old new end held)
-
--- no clean is run yet
-pub LeadsRow-first : (all length : ℕ) (batches : Tidying) (mode : Mode) (honest : Bool) (settings : Settings) (first st : Store) (file : List ℕ) (old : Option (List ℕ)) → IsTidiedBy settings batches first st
-    → LeadsRow all length batches mode honest settings first file old all length st file old
-LeadsRow-first all length batches mode honest settings first st file old are = (first, are, λ rest new end held p. p)
-
--- a clean that is refused so makes no room
-abbrev pub MakesNoRoom : SessionError → Type 0
-MakesNoRoom early = (early ≡ errors.Fault Full) ⊎ (early ≡ errors.Fault NothingToClean)
-
--- how many cleans may follow one that was refused, or how the session ends
-abbrev pub IsAfterRefusal : SessionError → Result ℕ SessionError → Type 0
-IsAfterRefusal early result =
-    (MakesNoRoom early × (result ≡ Ok 0)) ⊎ ((early ≢ errors.Fault Full) × (early ≢ errors.Fault NothingToClean) × (result ≡ Err early))
-
--- a fault by which a clean is refused makes no room, or it is another one
-by_kind : (fault : Fault) → (makes_no_room (Some fault) ≡ true) ⊎ ((makes_no_room (Some fault) ≡ false) × (fault ≢ Full) × (fault ≢ NothingToClean))
-by_kind Full = inl refl
-by_kind NothingToClean = inl refl
-by_kind _ = inr (refl, λ e. cc, λ e. cc)
-
-of_fault : (fault other : Fault) → (let early : SessionError = errors.Fault fault in early ≡ errors.Fault other) → fault ≡ other
-of_fault fault other e = cc
-
-not_so : (fault : Fault) → fault ≢ Full → fault ≢ NothingToClean → MakesNoRoom (errors.Fault fault) → ⊥
-not_so fault full nothing (inl e) = full (of_fault fault Full e)
-not_so fault full nothing (inr e) = nothing (of_fault fault NothingToClean e)
-
--- it is no lack of memory and no failed device
-abbrev pub IsLate : SessionError → Type 0
-IsLate early = (early ≡ errors.Fault NoMemory) ⊎ (early ≡ errors.Device)
-
-pub no_cut : (early : SessionError) → IsLate early → MakesNoRoom early → ⊥
-no_cut early (inl memory) (inl e) = cc
-no_cut early (inl memory) (inr e) = cc
-no_cut early (inr device) (inl e) = cc
-no_cut early (inr device) (inr e) = cc
-
-pub late_of : (stream : Bool) (early : SessionError) → IsCut stream early → IsLate early
-late_of stream early (inl (off, e)) = inl e
-late_of stream early (inr e) = inr e
-
--- no device failed in the clean where none did in the row
-pub unless_ended : (early : SessionError) (result : Result ℕ SessionError) → IsAfterRefusal early result → result ≢ Err errors.Device → early ≢ errors.Device
-unless_ended early result (inl (none, is)) other device = no_cut early (inr device) none
-unless_ended early result (inr (full, nothing, is)) other device =
-    other (is ∙ ap (λ (x : SessionError). (let r : Result ℕ SessionError = Err x in r)) device)
-
--- how many cleans are left
-pub fewer_after : (early : SessionError) (result : Result ℕ SessionError) → IsAfterRefusal early result → (most : ℕ) → 0 < most → IfOk result (λ more. more < most)
-fewer_after early (Ok more) (inl (none, is)) most some = let no_more : more ≡ 0 = cc in subst (λ (n : ℕ). n < most) (sym no_more) some
-fewer_after early (Ok more) (inr (full, nothing, is)) most some = absurd (cc)
-fewer_after early (Err other) after most some = tt
-
-pub fewer_left : (more most due row : ℕ) → (more < most) ⊎ ((more ≡ most) × (due ≡ row)) → (due ≡ 0) ⊎ (more ≡ 0) → 0 < row → 0 < most → more < most
-fewer_left more most due row (inl fewer) none some some_left = fewer
-fewer_left more most due row (inr (all, first)) (inl none) some some_left = omega (arith, all, first, none, some, some_left)
-fewer_left more most due row (inr (all, first)) (inr none) some some_left = omega (arith, all, first, none, some, some_left)
-
-pub fewer_on : (more most due row : ℕ) → (more < most) ⊎ ((more ≡ most) × (due ≡ row)) → more ≢ 0 → (more - 1 < most) ⊎ ((more - 1 ≡ most) × (due - 1 ≡ row))
-fewer_on zero most due row fewer some = absurd (some refl)
-fewer_on (suc more) most due row (inl fewer) some = inl (omega (arith, fewer))
-fewer_on (suc more) most due row (inr (all, first)) some = inl (omega (arith, all))
-
--- a number above 0 is not 0
-pub not_none : (n : ℕ) → 0 < n → n ≢ 0
-not_none zero some none = omega (arith, some)
-not_none (suc n) some none = omega (arith, none)
-
--- a number that is not 0 is one more than another
-pub one_more : (n : ℕ) → n ≢ 0 → n ≡ suc (n - 1)
-one_more zero some = absurd (some refl)
-one_more (suc n) some = omega arith
-
-true_false : true ≡ false → ⊥
-true_false e = cc
-
-fault_device : (fault : Fault) → (let early : SessionError = errors.Fault fault in early ≡ errors.Device) → ⊥
-fault_device fault e = cc
-
--- a fault that makes no room is named so
-so_named : {early : SessionError} (f : Fault) → early ≡ errors.Fault f → makes_no_room (Some f) ≡ true → MakesNoRoom early
-so_named Full x y = inl x
-so_named NothingToClean x y = inr x
-so_named _ x y = absurd (cc)
-
--- a clean that is refused so by its right finds memory
-clean_unfailed : (cleans : Bool) (settings : Settings) (st : Store) (at : Seen) (fault : Fault) → IfSome at.fails (MayFail cleans settings (st, at.bytes) Clean) → refusal_of settings st at Clean ≡ Some fault
-    → makes_no_room (Some fault) ≡ true → at.fails ≡ None
-clean_unfailed cleans settings st at fault may some frees = by at.fails refl may
+compared : (n m : ℕ) → (n ≡ m) ⊎ (n < m) ⊎ (m < n)
+compared zero zero = inl refl
+compared zero (suc m) = inr (inl (omega arith))
+compared (suc n) zero = inr (inr (omega arith))
+compared (suc n) (suc m) = by (compared n m)
   where
-    by : (o : Option Fault) → at.fails ≡ o → IfSome o (MayFail cleans settings (st, at.bytes) Clean) → at.fails ≡ None
-    by None is m = is
-    by (Some other) is memory =
-        let same : Some other ≡ Some fault = sym (refusal_of-failing settings st at Clean other is) ∙ some in
-        let one : other ≡ fault = cc in
-        let no : makes_no_room (Some NoMemory) ≡ true = subst (λ (f : Fault). makes_no_room (Some f) ≡ true) (sym one ∙ memory) frees in
-        absurd (true_false (sym no))
+    by : (n ≡ m) ⊎ (n < m) ⊎ (m < n) → (suc n ≡ suc m) ⊎ (suc n < suc m) ⊎ (suc m < suc n)
+    by (inl same) = inl (ap suc same)
+    by (inr (inl less)) = inr (inl (omega (arith, less)))
+    by (inr (inr more)) = inr (inr (omega (arith, more)))
 
--- a flush fails as a clean in front of it that is refused for another reason
-flush_may_fail : (cleans : Bool) → cleans ≡ true → (settings : Settings) (st : Store) (at : Seen) (fault : Fault) → IfSome at.fails (MayFail cleans settings (st, at.bytes) Clean)
-    → refusal_of settings st at Clean ≡ Some fault → makes_no_room (Some fault) ≡ false → MayFail cleans settings (st, at.bytes) Flush fault
-flush_may_fail cleans on settings st at fault may some frees = by (clean_refused settings st at cleans fault may some)
-  where
-    by : (fault ≡ NoMemory) ⊎ (refusal_of_step settings (st, at.bytes) (step_in Clean) ≡ Some fault) → MayFail cleans settings (st, at.bytes) Flush fault
-    by (inl memory) = inl memory
-    by (inr right) = inr (on, frees, right)
+few_of : (n a b c : ℕ) → n ≤ min (min a b) c → n ≤ b
+few_of n a b c few = omega (arith, few)
 
-module _ (all length : ℕ) (batches : Tidying) (mode : Mode) (unasked : IsAsked mode batches) (honest : Bool) (settings : Settings) (first : Store) (file : List ℕ) (old : Option (List ℕ))
-    (most row : ℕ) (st : Store) (seen : List ℕ) (now : Option (List ℕ)) (leads : LeadsRow all length batches mode honest settings first file old most row st seen now) where
-  -- the store that is tidied to the one that is there
-  abbrev under : Store
-  under = leads.0
+sum_few : (n count segments : ℕ) → count ≤ segments → n ≤ segments - count → count + n ≤ segments
+sum_few n count segments low few = omega (arith, low, few)
 
-  -- no more cleans are to be run
-  pub Row-ends : (row ≡ 0) ⊎ (most ≡ 0) → RunsCleans all length batches mode honest settings first file old now (Ok most) st seen
-  Row-ends none = (under, leads.1, by none)
+none_left : (n count segments : ℕ) → 0 < n → n ≤ segments - count → count ≡ segments → ⊥
+none_left n count segments some few all = absurd (omega (arith, some, few, all))
+
+not_more : (n m most : ℕ) → n < m → m ≤ most → n ≡ most → ⊥
+not_more n m most less few all = absurd (omega (arith, less, few, all))
+
+-- ---- what rows lead to
+
+count_reads : (rows : List CleanRow) → length (reads_in rows) ≡ count_of rows
+count_reads [] = refl
+count_reads (row ∷ earlier) = length-append (reads_in earlier) row.reads ∙ ap (λ (n : ℕ). n + length row.reads) (count_reads earlier)
+
+-- each clean leaves the next segment as the first one
+pub rows_head : (honest cut : Bool) (s : Settings) (st : Store) (left : List ℕ) (rows : List CleanRow) (now : Store) (last : List ℕ) → AreRows honest cut s st left rows now last
+    → now.head ≡ st.head + count_of rows
+rows_head honest cut s st left rows now last are =
+    cleans_head honest s (clean_head s) st left (reads_in rows) now last (rows_cleans honest s cut st left rows now last are) ∙ ap (λ (n : ℕ). st.head + n) (count_reads rows)
+
+-- there are at most as many as segments
+pub rows_few : (honest cut : Bool) (s : Settings) (st : Store) (left : List ℕ) (rows : List CleanRow) (now : Store) (last : List ℕ) → AreRows honest cut s st left rows now last
+    → count_of rows ≤ s.segments
+rows_few honest cut s st left [] now last are = omega arith
+rows_few honest cut s st left (row ∷ earlier) now last (mid, bytes, opened, is) =
+    sum_few (length row.reads) (count_of earlier) s.segments (rows_few honest false s st left earlier mid bytes opened)
+    (few_of (length row.reads) (most_ahead s) (s.segments - count_of earlier) (most_cleanable s mid) is.few)
+
+-- ---- cleans on an honest disk
+
+-- a clean of this store that reads these bytes is done
+abbrev IsCleanDone : Settings → Store → List ℕ → Type 0
+IsCleanDone s st file = (p : Answer Global × Stored) × (after_step (batching s) s st file Clean ≡ Ok p)
+
+same_ok : (p q : Answer Global × Stored) → (let r : Stepped Global = Ok p in r ≡ Ok q) → p ≡ q
+same_ok p q e = cc
+
+step_same : (s : Settings) (st : Store) (f g : List ℕ) → f ≡ g → (p q : Answer Global × Stored) → after_step (batching s) s st f Clean ≡ Ok p → after_step (batching s) s st g Clean ≡ Ok q → p ≡ q
+step_same s st f g same p q first second = same_ok p q (sym first ∙ ap (λ (file : List ℕ). after_step {A = Global} (batching s) s st file Clean) same ∙ second)
+
+not_both : (p : Answer Global × Stored) (fault : Fault) → (let r : Stepped Global = Ok p in r ≡ Err fault) → ⊥
+not_both p fault e = absurd (cc)
+
+-- so it isn't refused
+not_refused : (s : Settings) (st : Store) (left : List ℕ) → IsCleanDone s st left → IsCleanRefused true s st left → ⊥
+not_refused s st left (p, done) (file, shown, fault, refused) =
+    not_both p fault (sym done ∙ ap (λ (f : List ℕ). after_step {A = Global} (batching s) s st f Clean) (sym (shown refl)) ∙ refused)
+
+cons_is : {X : Type 0} (x y : X) (xs ys : List X) → x ≡ y → xs ≡ ys → x ∷ xs ≡ y ∷ ys
+cons_is {X} x y xs ys first rest = ap (λ (z : X). z ∷ xs) first ∙ ap (λ (zs : List X). y ∷ zs) rest
+
+-- as many cleans lead to the same
+cleans_same : (s : Settings) (reads others : List (List ℕ)) (st : Store) (left : List ℕ) (now after : Store) (last end : List ℕ) → length reads ≡ length others
+    → AreCleansBy true s st left reads now last → AreCleansBy true s st left others after end → (reads ≡ others) × (now ≡ after) × (last ≡ end)
+cleans_same s [] [] st left now after last end many (is, shows) (is_too, shows_too) = (refl, is ∙ sym is_too, shows refl ∙ sym (shows_too refl))
+cleans_same s [] (g ∷ gs) st left now after last end many one two = absurd (omega (arith, many))
+cleans_same s (f ∷ fs) [] st left now after last end many one two = absurd (omega (arith, many))
+cleans_same s (f ∷ fs) (g ∷ gs) st left now after last end many (answer, mid, bytes, shown, done, further) (other, at, file, shown_too, done_too, further_too) =
+    let same : f ≡ g = shown refl ∙ sym (shown_too refl) in
+    let pair = step_same s st f g same (answer, (mid, bytes)) (other, (at, file)) done done_too in
+    let here : AreCleansBy true s mid bytes gs after end = subst (λ (p : Answer Global × Stored). AreCleansBy true s p.1.0 p.1.1 gs after end) (sym pair) further_too in
+    let (rest, stores, files) = cleans_same s fs gs mid bytes now after last end (omega (arith, many)) further here in
+    (cons_is f g fs gs same rest, stores, files)
+
+-- where others are more, the next one is done
+cleans_more : (s : Settings) (reads others : List (List ℕ)) (st : Store) (left : List ℕ) (now after : Store) (last end : List ℕ) → length reads < length others
+    → AreCleansBy true s st left reads now last → AreCleansBy true s st left others after end → IsCleanDone s now last
+cleans_more s reads [] st left now after last end less one two = absurd (omega (arith, less))
+cleans_more s [] (g ∷ gs) st left now after last end less (is, shows) (other, at, file, shown, done, further) = (
+  (other, (at, file)),
+  subst (λ (x : Store). after_step (batching s) s x last Clean ≡ Ok (other, (at, file))) (sym is)
+      (subst (λ (f : List ℕ). after_step {A = Global} (batching s) s st f Clean ≡ Ok (other, (at, file))) (shown refl ∙ sym (shows refl)) done),
+)
+cleans_more s (f ∷ fs) (g ∷ gs) st left now after last end less (answer, mid, bytes, shown, done, further) (other, at, file, shown_too, done_too, further_too) =
+    let pair = step_same s st f g (shown refl ∙ sym (shown_too refl)) (answer, (mid, bytes)) (other, (at, file)) done done_too in
+    let here : AreCleansBy true s mid bytes gs after end = subst (λ (p : Answer Global × Stored). AreCleansBy true s p.1.0 p.1.1 gs after end) (sym pair) further_too in
+    cleans_more s fs gs mid bytes now after last end (omega (arith, less)) further here
+
+-- the first of some is done
+first_done : (s : Settings) (reads : List (List ℕ)) (st : Store) (left : List ℕ) (now : Store) (last : List ℕ) → 0 < length reads → AreCleansBy true s st left reads now last → IsCleanDone s st left
+first_done s reads st left now last some are = cleans_more s [] reads st left st now left last some (refl, λ h. refl) are
+
+-- ---- rows on an honest disk
+
+row_is : (a b : CleanRow) → a.ahead ≡ b.ahead → a.reads ≡ b.reads → a ≡ b
+row_is a b ahead reads =
+    ap (λ (x : List ℕ). (let r : CleanRow = record { ahead = x; reads = a.reads } in r)) ahead ∙ ap (λ (x : List (List ℕ)). (let r : CleanRow = record { ahead = b.ahead; reads = x } in r)) reads
+
+module _ (s : Settings) where
+  abbrev IsWholeRow : List CleanRow → Store → List ℕ → CleanRow → Store → List ℕ → Type 0
+  IsWholeRow earlier st left row now last = IsRow true false s earlier st left row now last
+
+  -- none is shorter than another one that begins there
+  not_shorter : (earlier : List CleanRow) (st : Store) (left : List ℕ) (row other : CleanRow) (now after : Store) (last end : List ℕ) → IsWholeRow earlier st left row now last
+      → IsWholeRow earlier st left other after end → length row.reads < length other.reads → ⊥
+  not_shorter earlier st left row other now after last end one two less =
+      ⊎_elim (λ all. not_more (length row.reads) (length other.reads) (row_length s earlier st) less two.few all)
+      (λ refused. not_refused s now last (cleans_more s row.reads other.reads st left now after last end less one.done two.done) refused) (one.whole refl)
+
+  row_same : (earlier : List CleanRow) (st : Store) (left : List ℕ) (row other : CleanRow) (now after : Store) (last end : List ℕ) → IsWholeRow earlier st left row now last
+      → IsWholeRow earlier st left other after end → (row ≡ other) × (now ≡ after) × (last ≡ end)
+  row_same earlier st left row other now after last end one two = by (compared (length row.reads) (length other.reads))
     where
-      by : (row ≡ 0) ⊎ (most ≡ 0) → (rest : List Order) (last : Option (List ℕ)) (end : Result (Unit {0}) SessionError) (held : Rows) → RunsRoom most 0 batches mode honest settings under seen rest now last end held
-          → RunsRoom all length batches mode honest settings first file rest old last end held
-      by (inl no_row) rest last end held q = leads.2 rest last end held (subst (λ (n : ℕ). RunsRoom most n batches mode honest settings under seen rest now last end held) (sym no_row) q)
-      by (inr no_more) rest last end held q =
-          let here = subst (λ (n : ℕ). RunsRoom n 0 batches mode honest settings under seen rest now last end held) no_more q in
-          leads.2 rest last end held (subst (λ (n : ℕ). RunsRoom n row batches mode honest settings under seen rest now last end held) (sym no_more) here)
+      by : (length row.reads ≡ length other.reads) ⊎ (length row.reads < length other.reads) ⊎ (length other.reads < length row.reads) → (row ≡ other) × (now ≡ after) × (last ≡ end)
+      by (inl many) =
+          let (reads, stores, files) = cleans_same s row.reads other.reads st left now after last end many one.done two.done in
+          (row_is row other (one.shown refl ∙ sym (two.shown refl)) reads, stores, files)
+      by (inr (inl less)) = absurd (not_shorter earlier st left row other now after last end one two less)
+      by (inr (inr more)) = absurd (not_shorter earlier st left other row after now end last two one more)
 
-  -- a clean that can be done stands in front of the flush, where this was read ahead
-  abbrev IsReady : List ℕ → Type 0
-  IsReady ahead = (at : Seen) → at.tidying ≡ batches → at.ahead ≡ ahead → at.fails ≡ None → can_clean settings under at ≡ true → wants_clean (suc (most - 1)) row settings under at ≡ true
+  module _ (st : Store) (left : List ℕ) where
+    abbrev AreWhole : List CleanRow → Store → List ℕ → Type 0
+    AreWhole rows now last = AreRows true false s st left rows now last
 
-  module _ (some_left : most ≢ 0) (ahead : List ℕ) (here : IsTrue honest → ahead ≡ seen) (b : Bool) (b_is : b ≡ honest) (s : Settings) (s_is : s ≡ settings) (new : Option (List ℕ))
-      (ended : Result (Unit {0}) SessionError) (after : Store) (bytes : List ℕ) (cleaned : RunsOrder mode b s st seen Clean now new ended after bytes) where
-    abbrev orders : List Order → Store → Reads → List Order
-    orders rest s shown = flush_with_room (suc (most - 1)) row settings s shown (orders_after_flush settings rest)
+    -- as many rows lead to the same
+    rows_same : (rows others : List CleanRow) (now after : Store) (last end : List ℕ) → length rows ≡ length others → AreWhole rows now last → AreWhole others after end
+        → (rows ≡ others) × (now ≡ after) × (last ≡ end)
+    rows_same [] [] now after last end many (is, shows) (is_too, shows_too) = (refl, is ∙ sym is_too, shows refl ∙ sym (shows_too refl))
+    rows_same [] (other ∷ others) now after last end many one two = absurd (omega (arith, many))
+    rows_same (row ∷ rows) [] now after last end many one two = absurd (omega (arith, many))
+    rows_same (row ∷ rows) (other ∷ others) now after last end many (mid, bytes, opened, one) (at, file, open_too, two) =
+        let (same, stores, files) = rows_same rows others mid at bytes file (omega (arith, many)) opened open_too in
+        let here : IsWholeRow rows mid bytes other after end =
+        subst (λ (f : List ℕ). IsWholeRow rows mid f other after end) (sym files)
+        (subst (λ (x : Store). IsWholeRow rows x file other after end) (sym stores) (subst (λ (l : List CleanRow). IsWholeRow l at file other after end) (sym same) two)) in
+        let (is, nows, lasts) = row_same rows mid bytes row other now after last end one here in
+        (cons_is row other rows others is same, nows, lasts)
 
-    abbrev next_orders : List Order → Store → Reads → List Order
-    next_orders rest s shown = flush_with_room (most - 1) (row_after row settings) settings s shown (orders_after_flush settings rest)
+    -- one row more than some
+    abbrev OneMore : ℕ → Type 0
+    OneMore n =
+        (earlier : List CleanRow) × (length earlier ≡ n) × (mid : Store) × (bytes : List ℕ) × AreRows true false s st left earlier mid bytes
+        × ((row : CleanRow) × (now : Store) × (last : List ℕ) × IsWholeRow earlier mid bytes row now last)
 
-    lower : (rest : List Order) (last : Option (List ℕ)) (end : Result (Unit {0}) SessionError) (held : Rows) → RunsBy batches mode honest settings under seen (orders rest under) now last end held
-        → RunsRoom all length batches mode honest settings first file rest old last end held
-    lower rest last end held p = leads.2 rest last end held (subst (λ (n : ℕ). RunsRoom n row batches mode honest settings under seen rest now last end held) (sym (one_more most some_left)) p)
-
-    -- the clean of the store that is tidied to this one, at which the same is seen of it, and which was read ahead
-    abbrev Own : Result (Unit {0}) SessionError → Type 0
-    Own end =
-        (w : Store) × (end ≢ Err errors.Device → IsTidiedBy settings batches w after) × (one : RunsOrder mode honest settings under seen Clean now new end w bytes) × (one.0.tidying ≡ batches) × (one.0.ahead ≡ ahead)
-
-    own : Own ended
-    own =
-        let (w, clean, becomes) = clean_under mode honest settings batches under st leads.1 seen now new ended after bytes
-        (RunsOrder-same mode b honest s settings b_is s_is st seen Clean now new ended after bytes cleaned) in
-        let (one, with_these) = clean_with mode honest settings under seen now new ended w bytes batches unasked clean in
-        let (two, these, of_ahead) = RunsOrder-ahead mode honest settings under seen ahead here Clean now new ended w bytes batches one with_these in
-        (w, becomes, two, these, of_ahead)
-
-    -- the clean can be done where nothing refuses it
-    can_be : (at : Seen) → refusal_of settings under at Clean ≡ None → can_clean settings under at ≡ true
-    can_be at none = rw none refl
-
-    -- nothing fails then
-    unfailed_of : (at : Seen) → refusal_of settings under at Clean ≡ None → at.fails ≡ None
-    unfailed_of at none = unfailing settings under at (can_be at none)
-
-    -- a clean is done
-    pub Row-cleaned : IsReady ahead → row_after row settings ≡ row - 1 → (done : Unit {0}) → ended ≡ Ok done
-        → LeadsRow all length batches mode honest settings first file old (most - 1) (row - 1) after bytes new
-    Row-cleaned ready row_is done e = subst (λ (n : ℕ). LeadsRow all length batches mode honest settings first file old (most - 1) n after bytes new) row_is (by (subst Own e own))
+    -- among rows there is one after fewer ones
+    one_more : (rows : List CleanRow) (now : Store) (last : List ℕ) (n : ℕ) → n < length rows → AreWhole rows now last → OneMore n
+    one_more [] now last n less are = absurd (omega (arith, less))
+    one_more (row ∷ rows) now last n less (mid, bytes, opened, one) = by (compared n (length rows)) (one_more rows mid bytes n)
       where
-        by : Own (Ok done) → LeadsRow all length batches mode honest settings first file old (most - 1) (row_after row settings) after bytes new
-        by (w, becomes, (at, is, runs, leaves), with_these, of_ahead) =
-            let none = unrefused_by settings under at Clean mode.stream now new done runs in (
-              w,
-              becomes (λ device. absurd (cc)),
-              λ rest last end held q.
-                  lower rest last end held (subst (λ (l : Tidying). RunsBy l mode honest settings under seen (orders rest under) now last end held) with_these
-                  (RunsBy-show_call mode honest settings under seen Clean w bytes now new (orders rest under) (next_orders rest) done (at, is, runs, leaves)
-                  (room_wanted settings under at (most - 1) row (orders_after_flush settings rest) (ready at with_these of_ahead (unfailed_of at none) (can_be at none))) batches (inr with_these) last end held q)),
-            )
+        by : (n ≡ length rows) ⊎ (n < length rows) ⊎ (length rows < n) → (n < length rows → AreWhole rows mid bytes → OneMore n) → OneMore n
+        by (inl same) further = (rows, sym same, mid, bytes, opened, (row, now, last, one))
+        by (inr (inl fewer)) further = further fewer opened
+        by (inr (inr more)) further = absurd (omega (arith, less, more))
 
-    -- it is refused
-    module _ (room : mode.clean_when_full ≡ true) (early : SessionError) (e : ended ≡ Err early) (result : Result ℕ SessionError) (want : IsAfterRefusal early result)
-        (stays : early ≢ errors.Device → (after ≡ st) × (IsTrue b → bytes ≡ seen)) (ready : (MakesNoRoom early → ⊥) → IsReady ahead) where
-      abbrev Ended : Result ℕ SessionError → Type 0
-      Ended r = RunsCleans all length batches mode honest settings first file old new r after bytes
+  -- ---- where rows end on an honest disk
 
-      -- what follows it
-      abbrev Here : Type 0
-      Here = RunsRoomRefused mode.stream (suc (most - 1)) row batches mode honest settings under seen now new early after bytes
+  -- a store is not calm for which a row is early
+  not_calm : (st : Store) (left ahead : List ℕ) → ahead ≡ left → IsEarly s st ahead → IsCleanDone s st left → IsCalm true s st left → ⊥
+  not_calm st left ahead same early done (inl (file, shown, never)) = never (subst (λ (f : List ℕ). IsEarly s st f) (same ∙ sym (shown refl)) early)
+  not_calm st left ahead same early done (inr refused) = not_refused s st left done refused
 
-      -- it ends the session, or the flush is refused as it is
-      stops : Here → (MakesNoRoom early → ⊥) → Ended result
-      stops so other = by want
-        where
-          by : IsAfterRefusal early result → Ended result
-          by (inl (none, is)) = absurd (other none)
-          by (inr (full, nothing, is)) =
-              subst Ended (sym is)
-              (room_refused-as mode.stream mode honest settings (suc (most - 1)) row batches under seen now all length batches first file old lower new early after bytes so)
+  same_live : (o : Option ℕ) (a b : ℕ) → o ≡ Some a → o ≡ Some b → a ≡ b
+  same_live o a b first second = cc
 
-      unwritten : early ≢ errors.Device → IsTrue honest → bytes ≡ seen
-      unwritten other h = (stays other).1 (subst IsTrue (sym b_is) h)
+  -- a row begins since the log is full, unless it is early
+  begins_full : (st : Store) (left : List ℕ) (rows : List CleanRow) (now : Store) (last : List ℕ) → AreRows true false s st left rows now last → (rows ≡ [] → IsCalm true s st left)
+      → (row : CleanRow) (after : Store) (end : List ℕ) → IsWholeRow rows now last row after end → IsFull s now row.ahead
+  begins_full st left rows now last opened calm row after end one = by one.begins
+    where
+      done : IsCleanDone s now last
+      done = first_done s row.reads now last after end one.some one.done
 
-      -- the flush is tried next
-      tried : (at : Seen) → IsSeen mode honest settings under seen Clean at → makes_no_room (refusal_of settings under at Clean) ≡ true → at.fails ≡ None → Appends now new [] → MakesNoRoom early → Ended result
-      tried at is refused_so unfailed nothing none = by want
-        where
-          other : early ≢ errors.Device
-          other device = no_cut early (inr device) none
+      at_start : (l : List CleanRow) → AreRows true false s st left l now last → l ≡ [] → IsCalm true s st left → IsCalm true s now last
+      at_start [] (is, shows) none quiet = subst (λ (f : List ℕ). IsCalm true s now f) (sym (shows refl)) (subst (λ (x : Store). IsCalm true s x left) (sym is) quiet)
+      at_start (r ∷ l) opened none quiet = absurd (cc)
 
-          further_on : Ended (Ok 0)
-          further_on = (
-            under,
-            subst (IsTidiedBy settings batches under) (sym (stays other).0) leads.1,
-            λ rest last end held q.
-                lower rest last end held (RunsBy-asked batches mode honest settings under seen (orders rest under) now new last nothing end held
-                (RunsBy-unrun mode honest settings under seen at is refused_so unfailed (orders_after_flush settings rest) batches (most - 1) row new last end held
-                (RunsBy-shows batches mode honest settings under seen bytes (unwritten other) (λ shown. flush_with_room 0 0 settings under shown (orders_after_flush settings rest)) new last end held q))),
-          )
+      by : BeginsFull true s rows now last row ⊎ ((rows ≡ []) × IsEarly s now row.ahead) → IsFull s now row.ahead
+      by (inl (full, quiet)) = full
+      by (inr (first, early)) = absurd (not_calm now last row.ahead (one.shown refl) early done (at_start rows opened first (calm first)))
 
-          by : IsAfterRefusal early result → Ended result
-          by (inl (so, r)) = subst Ended (sym r) further_on
-          by (inr (full, no_clean, r)) = absurd (neither none)
-            where
-              neither : MakesNoRoom early → ⊥
-              neither (inl f) = full f
-              neither (inr n) = no_clean n
+  -- where a flush ends them, there is no other one
+  none_after : (st : Store) (left : List ℕ) (rows : List CleanRow) (now : Store) (last : List ℕ) → AreRows true false s st left rows now last → (rows ≡ [] → IsCalm true s st left)
+      → (after_flush s now last ≡ Err Full → NoneFollow true s rows now last) → (row : CleanRow) (after : Store) (end : List ℕ) → IsWholeRow rows now last row after end → ⊥
+  none_after st left rows now last opened calm follows row after end one =
+      let full : IsFull s now row.ahead = begins_full st left rows now last opened calm row after end one in
+      by full.1 (follows (subst (λ (f : List ℕ). after_flush s now f ≡ Err Full) (one.shown refl) full.0))
+    where
+      by : IsRoomy s now row.ahead → NoneFollow true s rows now last → ⊥
+      by roomy (inl all) =
+          none_left (length row.reads) (count_of rows) s.segments one.some (few_of (length row.reads) (most_ahead s) (s.segments - count_of rows) (most_cleanable s now) one.few) all
+      by (live, known, room) (inr (inl (ahead, shown, (other, known_too, over)))) =
+          let here : live_known s now row.ahead ≡ Some other = subst (λ (f : List ℕ). live_known s now f ≡ Some other) (shown refl ∙ sym (one.shown refl)) known_too in
+          let same : live ≡ other = same_live (live_known s now row.ahead) live other known here in
+          let no : false ≡ true = sym room ∙ ap (λ (n : ℕ). is_overfull s now n) same ∙ over in absurd (cc)
+      by roomy (inr (inr refused)) = not_refused s now last (first_done s row.reads now last after end one.some one.done) refused
 
-      -- the flush is refused as the clean is
-      flush_fails : (file_read : List ℕ) → (IsTrue honest → file_read ≡ seen) → Appends now new [] → (fault : Fault) → early ≡ errors.Fault fault
-          → MayFail mode.clean_when_full settings (under, file_read) Flush fault → Here
-      flush_fails file_read file_is nothing fault ends may =
-          let other : early ≢ errors.Device = λ device. fault_device fault (sym ends ∙ device) in
-          subst (λ (x : SessionError). RunsRoomRefused mode.stream (suc (most - 1)) row batches mode honest settings under seen now new x after bytes) (sym ends)
-          (RunsRoom-fails mode room honest settings under seen batches unasked (suc (most - 1)) row st leads.1 after (stays other).0 bytes (unwritten other) now new nothing file_read file_is fault may mode.stream refl)
+  -- rows that a flush ends, which is done or refused by its right
+  abbrev AreEnded : Store → List ℕ → List CleanRow → Store → List ℕ → Type 0
+  AreEnded st left rows now last =
+      AreRows true false s st left rows now last × (rows ≡ [] → IsCalm true s st left) × (after_flush s now last ≡ Err Full → NoneFollow true s rows now last)
 
-      -- the clean of the same, where it ends for a failed device
-      abbrev AtClean : Seen → Store → SessionError → Type 0
-      AtClean at w x = IsSeen mode honest settings under seen Clean at × RunsAlone mode.stream settings under at Clean now new (Err x)
-          × ((let end : Result (Unit {0}) SessionError = Err x in end ≢ Err errors.Device) → LeavesStored honest settings under at Clean w bytes)
+  module _ (st : Store) (left : List ℕ) where
+    -- there are no more than these
+    not_longer : (rows others : List CleanRow) (now after : Store) (last end : List ℕ) → AreEnded st left rows now last → AreRows true false s st left others after end → length rows < length others → ⊥
+    not_longer rows others now after last end (are, calm, follows) are_too less = by (one_more st left others after end (length rows) less are_too)
+      where
+        by : OneMore st left (length rows) → ⊥
+        by (earlier, many, mid, bytes, opened, (row, to, at_end, one)) =
+            let (same, stores, files) = rows_same st left rows earlier now mid last bytes (sym many) are opened in
+            let calm_here : earlier ≡ [] → IsCalm true s st left = λ none. calm (same ∙ none) in
+            let follows_here : after_flush s mid bytes ≡ Err Full → NoneFollow true s earlier mid bytes =
+            subst (λ (f : List ℕ). after_flush s mid f ≡ Err Full → NoneFollow true s earlier mid f) files
+            (subst (λ (x : Store). after_flush s x last ≡ Err Full → NoneFollow true s earlier x last) stores
+            (subst (λ (l : List CleanRow). after_flush s now last ≡ Err Full → NoneFollow true s l now last) same follows)) in
+            none_after st left earlier mid bytes opened calm_here follows_here row to at_end one
 
-      device_own : (at : Seen) {w : Store} → AtClean at w early → early ≡ errors.Device → AtClean at w errors.Device
-      device_own at {w} one device = subst (AtClean at w) device one
+    -- and so they are the same
+    ended_same : (rows others : List CleanRow) (now after : Store) (last end : List ℕ) → AreEnded st left rows now last → AreEnded st left others after end
+        → (others ≡ rows) × (after ≡ now) × (end ≡ last)
+    ended_same rows others now after last end one two = by (compared (length others) (length rows))
+      where
+        by : (length others ≡ length rows) ⊎ (length others < length rows) ⊎ (length rows < length others) → (others ≡ rows) × (after ≡ now) × (end ≡ last)
+        by (inl many) = rows_same st left others rows after now end last many two.0 one.0
+        by (inr (inl less)) = absurd (not_longer others rows after now end last two one.0 less)
+        by (inr (inr more)) = absurd (not_longer rows others now after last end one two.0 more)
 
-      pub Row-refused : Ended result
-      Row-refused = by (subst Own e own)
-        where
-          by : Own (Err early) → Ended result
-          by (w, becomes, (at, is, runs, leaves), with_these, of_ahead) =
-              of (refusal_of settings under at Clean) refl (early_by settings under at Clean mode.stream now new early (refusal_of settings under at Clean) refl runs)
-            where
-              -- the clean stands in front of the flush
-              stopped : wants_clean (suc (most - 1)) row settings under at ≡ true → IsCut mode.stream early → Here
-              stopped wants how = of_stream mode.stream refl how
-                where
-                  of_stream : (stream : Bool) → mode.stream ≡ stream → IsCut mode.stream early → RunsRoomRefused stream (suc (most - 1)) row batches mode honest settings under seen now new early after bytes
-                  of_stream false off how = λ rest held.
-                      subst (λ (l : Tidying). RunsBy l mode honest settings under seen (orders rest under) now new (Err early) held) with_these
-                      (RunsBy-stops mode honest settings under seen Clean w bytes now new off (orders rest under) (next_orders rest) (leavable_room settings rest (most - 1) (row_after row settings)) early (at, is, runs, leaves)
-                      (room_wanted settings under at (most - 1) row (orders_after_flush settings rest) wants) held)
-                  of_stream true on (inl (off, memory)) = absurd (true_false (sym on ∙ off))
-                  of_stream true on (inr device) =
-                      subst (λ (x : SessionError). RunsRoomRefused true (suc (most - 1)) row batches mode honest settings under seen now new x after bytes) (sym device)
-                      (λ more printed begins m rest held.
-                      subst (λ (l : Tidying). RunsBy l mode honest settings under seen (orders rest under) now printed (Err errors.Device) held) with_these
-                      (RunsBy-device mode honest settings under seen Clean w bytes now new on (orders rest under) (next_orders rest) (leavable_room settings rest (most - 1) (row_after row settings))
-                      (at, (device_own at (is, runs, leaves) device).0, (device_own at (is, runs, leaves) device).1, (device_own at (is, runs, leaves) device).2) (room_wanted settings under at (most - 1) row (orders_after_flush settings rest) wants) more printed begins m held))
+-- those that are right in front of a flush that doesn't fail
+ended_of : (settings : Settings) (st now : Store) (seen : Seen) → seen.fails ≡ None → AreRight true settings st now seen → AreEnded settings st seen.bytes seen.rows now seen.last
+ended_of settings st now seen none (are, calm, follows) =
+    let found : finds_no_memory seen.fails ≡ false = ap finds_no_memory none in (
+      subst (λ (b : Bool). AreRows true b settings st seen.bytes seen.rows now seen.last) found are,
+      calm found,
+      λ full. follows none (ap (λ (r : Result Stored Fault). refused_by (answering of_flush r)) full),
+    )
 
-              right : (fault : Fault) → refusal_of settings under at Clean ≡ Some fault → early ≡ errors.Fault fault → Appends now new []
-                  → (makes_no_room (Some fault) ≡ true) ⊎ ((makes_no_room (Some fault) ≡ false) × (fault ≢ Full) × (fault ≢ NothingToClean)) → Ended result
-              right fault some ends a (inl frees) =
-                  tried at is (ap makes_no_room some ∙ frees) (clean_unfailed mode.clean_when_full settings under at fault is.1 some frees) a (so_named fault ends frees)
-              right fault some ends a (inr (other, full, nothing)) =
-                  let no : MakesNoRoom early → ⊥ = λ m. not_so fault full nothing (subst MakesNoRoom ends m) in
-                  stops (flush_fails at.bytes (λ h. (is.2 h).0) a fault ends (flush_may_fail mode.clean_when_full room settings under at fault is.1 some other)) no
+-- what was left decides the cleans in front of a flush
+pub rows_decided : (settings : Settings) (st now after : Store) (seen other : Seen) → other.bytes ≡ seen.bytes → seen.fails ≡ None → other.fails ≡ None → AreRight true settings st now seen
+    → AreRight true settings st after other → (other.rows ≡ seen.rows) × (after ≡ now) × (other.last ≡ seen.last)
+rows_decided settings st now after seen other bytes none none_too one two =
+    ended_same settings st seen.bytes seen.rows other.rows now after seen.last other.last (ended_of settings st now seen none one)
+    (subst (λ (f : List ℕ). AreEnded settings st f other.rows after other.last) bytes (ended_of settings st after other none_too two))
 
-              memory_cut : IsCut mode.stream early → Appends now new [] → Here
-              memory_cut (inl (off, memory)) a = flush_fails seen (λ h. refl) a NoMemory memory (inl refl)
-              memory_cut (inr device) a =
-                  subst (λ (x : SessionError). RunsRoomRefused mode.stream (suc (most - 1)) row batches mode honest settings under seen now new x after bytes) (sym device)
-                  (RunsRoom-device mode honest settings under seen batches unasked (suc (most - 1)) row now new a after bytes mode.stream refl)
+-- ---- no rows
 
-              of : (r : Option Fault) → refusal_of settings under at Clean ≡ r → Early mode.stream now new r early → Ended result
-              of r is_r (by_right fault some_fault ends a) = right fault (is_r ∙ some_fault) ends a (by_kind fault)
-              of r is_r (refused_cut fault some_fault how a) = stops (memory_cut how a) (no_cut early (late_of mode.stream early how))
-              of r is_r (cut unrefused how) =
-                  let none = is_r ∙ unrefused in
-                  let never = no_cut early (late_of mode.stream early how) in
-                  stops (stopped (ready never at with_these of_ahead (unfailed_of at none) (can_be at none)) how) never
+-- there are none in front of an order that is no flush, or where flushes make themselves no room
+pub bare : (honest cleans : Bool) (settings : Settings) (st : Store) (order : Order) → (order ≡ Flush → cleans ≡ false) → (seen : Seen) → AreCleansOf honest cleans settings st order seen → seen.rows ≡ []
+bare honest true settings st Flush plain seen are = let off = plain refl in absurd (cc)
+bare honest true settings st _ plain seen are = are
+bare honest false settings st order plain seen are = are
 
--- in a row a clean that can be done stands in front of the flush
-pub ready_in_row : (row : ℕ) → row ≢ 0 → (most : ℕ) (settings : Settings) (st : Store) (at : Seen) → can_clean settings st at ≡ true → wants_clean most row settings st at ≡ true
-ready_in_row zero some most settings st at can = absurd (some refl)
-ready_in_row (suc row) some most settings st at can = can
+-- ---- what they are if less is known to be honest
 
-pub row_left : (row : ℕ) (settings : Settings) → row ≢ 0 → row_after row settings ≡ row - 1
-row_left zero settings some = absurd (some refl)
-row_left (suc row) settings some = omega arith
+module _ (b c : Bool) (weaker : IsTrue c → IsTrue b) (s : Settings) where
+  cleans-weaker : (st : Store) (left : List ℕ) (reads : List (List ℕ)) (now : Store) (last : List ℕ) → AreCleansBy b s st left reads now last → AreCleansBy c s st left reads now last
+  cleans-weaker st left [] now last (is, shows) = (is, λ h. shows (weaker h))
+  cleans-weaker st left (file ∷ reads) now last (answer, mid, bytes, shown, done, further) =
+      (answer, mid, bytes, λ h. shown (weaker h), done, cleans-weaker mid bytes reads now last further)
 
--- ---- cleans in front of a flush that is tried next
+  refused-weaker : (st : Store) (left : List ℕ) → IsCleanRefused b s st left → IsCleanRefused c s st left
+  refused-weaker st left (file, shown, fault, refused) = (file, λ h. shown (weaker h), fault, refused)
 
-module _ (mode : Mode) (honest : Bool) (settings : Settings) (under : Store) (seen : List ℕ) (batches : Tidying) (most : ℕ) where
-  -- a row of them is due, by what was read ahead
-  pub RunsCleans-due : (ahead : List ℕ) → (IsTrue honest → ahead ≡ seen) → ((at : Seen) → at.tidying ≡ batches → at.ahead ≡ ahead → at.fails ≡ None → has_reason most settings under at ≡ true)
-      → (old new : Option (List ℕ)) (end : Result ℕ SessionError) (now : Store) (bytes : List ℕ) → RunsCleans most (row_of_cleans settings.segments) batches mode honest settings under seen old new end now bytes
-      → RunsCleans most 0 batches mode honest settings under seen old new end now bytes
-  RunsCleans-due ahead here reason old new (Ok more) now bytes (cleaned, are, p) = (
-    cleaned,
-    are,
-    λ rest last end held q. RunsBy-due mode honest settings under seen ahead here batches most reason (orders_after_flush settings rest) old last end held (p rest last end held q),
+  calm-weaker : (st : Store) (left : List ℕ) → IsCalm b s st left → IsCalm c s st left
+  calm-weaker st left (inl (ahead, shown, never)) = inl (ahead, λ h. shown (weaker h), never)
+  calm-weaker st left (inr refused) = inr (refused-weaker st left refused)
+
+  full-weaker : (earlier : List CleanRow) (st : Store) (left : List ℕ) (row : CleanRow) → BeginsFull b s earlier st left row → BeginsFull c s earlier st left row
+  full-weaker earlier st left row (full, calm) = (full, λ first. calm-weaker st left (calm first))
+
+  row-weaker : (cut : Bool) (earlier : List CleanRow) (st : Store) (left : List ℕ) (row : CleanRow) (now : Store) (last : List ℕ) → IsRow b cut s earlier st left row now last
+      → IsRow c cut s earlier st left row now last
+  row-weaker cut earlier st left row now last is = record {
+    shown = λ h. is.shown (weaker h);
+    begins = ⊎_elim (λ full. inl (full-weaker earlier st left row full)) (λ early. inr early) is.begins;
+    done = cleans-weaker st left row.reads now last is.done;
+    some = is.some;
+    few = is.few;
+    whole = λ uncut. ⊎_elim (λ all. inl all) (λ refused. inr (refused-weaker now last refused)) (is.whole uncut);
+  }
+
+  module _ (st : Store) (left : List ℕ) where
+    rows-weaker : (cut : Bool) (rows : List CleanRow) (now : Store) (last : List ℕ) → AreRows b cut s st left rows now last → AreRows c cut s st left rows now last
+    rows-weaker cut [] now last (is, shows) = (is, λ h. shows (weaker h))
+    rows-weaker cut (row ∷ earlier) now last (mid, bytes, opened, is) = (mid, bytes, rows-weaker false earlier mid bytes opened, row-weaker cut earlier mid bytes row now last is)
+
+  follow-weaker : (rows : List CleanRow) (now : Store) (last : List ℕ) → NoneFollow b s rows now last → NoneFollow c s rows now last
+  follow-weaker rows now last (inl all) = inl all
+  follow-weaker rows now last (inr (inl (ahead, shown, over))) = inr (inl (ahead, λ h. shown (weaker h), over))
+  follow-weaker rows now last (inr (inr refused)) = inr (inr (refused-weaker now last refused))
+
+  right-weaker : (st now : Store) (seen : Seen) → AreRight b s st now seen → AreRight c s st now seen
+  right-weaker st now seen (are, calm, follows) = (
+    rows-weaker st seen.bytes (finds_no_memory seen.fails) seen.rows now seen.last are,
+    λ found first. calm-weaker st seen.bytes (calm found first),
+    λ none full. follow-weaker seen.rows now seen.last (follows none full),
   )
-  RunsCleans-due ahead here reason old new (Err early) now bytes p =
-      room_refused-as mode.stream mode honest settings most (row_of_cleans settings.segments) batches under seen old most 0 batches under seen old
-      (λ rest last end held q. RunsBy-due mode honest settings under seen ahead here batches most reason (orders_after_flush settings rest) old last end held q) new early now bytes p
 
-  -- a device fails before any of them
-  pub RunsCleans-device : IsAsked mode batches → (text : Option (List ℕ)) (now : Store) (bytes : List ℕ) → RunsCleans most 0 batches mode honest settings under seen text text (Err errors.Device) now bytes
-  RunsCleans-device asked text now bytes = RunsRoom-device mode honest settings under seen batches asked most 0 text text (Appends-nil text) now bytes mode.stream refl
+  cleans_of-weaker : (cleans : Bool) (st : Store) (order : Order) (seen : Seen) → AreCleansOf b cleans s st order seen → AreCleansOf c cleans s st order seen
+  cleans_of-weaker true st Flush seen right = right-weaker (tidied s seen.tidying (st, seen.bytes)).0 (cleaned s seen (st, seen.bytes)).0 seen right
+  cleans_of-weaker true st _ seen none = none
+  cleans_of-weaker false st order seen none = none
 
-  -- no memory is found before any of them, and the flush is refused
-  pub RunsCleans-memory : mode.clean_when_full ≡ true → IsAsked mode batches → (st : Store) → IsTidiedBy settings batches under st → (text : Option (List ℕ)) (now : Store) → now ≡ st → (bytes : List ℕ)
-      → (IsTrue honest → bytes ≡ seen) → RunsCleans most 0 batches mode honest settings under seen text text (Err (errors.Fault NoMemory)) now bytes
-  RunsCleans-memory room asked st are text now same bytes unwritten =
-      RunsRoom-fails mode room honest settings under seen batches asked most 0 st are now same bytes unwritten text text (Appends-nil text) seen (λ h. refl) NoMemory (inl refl) mode.stream refl
-
-  -- none is run
-  pub RunsCleans-none : (st now : Store) → IsTidiedBy settings batches under st → now ≡ st → (bytes : List ℕ) → (IsTrue honest → bytes ≡ seen) → (text : Option (List ℕ))
-      → RunsCleans most 0 batches mode honest settings under seen text text (Ok most) now bytes
-  RunsCleans-none st now are same bytes shows text = (
-    under,
-    subst (IsTidiedBy settings batches under) (sym same) are,
-    λ rest last end held q.
-        RunsBy-shows batches mode honest settings under seen bytes shows (λ shown. flush_with_room most 0 settings under shown (orders_after_flush settings rest)) text last end held q,
-  )
+  pub AreCleaning-weaker : (cleans : Bool) (st : Store) (shown : Reads) (orders : List Order) → AreCleaning b cleans s st shown orders → AreCleaning c cleans s st shown orders
+  AreCleaning-weaker cleans st shown [] are = are
+  AreCleaning-weaker cleans st shown (order ∷ rest) (first, further) =
+      (cleans_of-weaker cleans st order (shown 0) first, AreCleaning-weaker cleans (after_order s st (shown 0) order).0 (later shown) rest further)

@@ -1,6 +1,6 @@
 -- Lemmas on what orders print, and how they end.
 use Rattle.std.proofs.Common.{◌≡◌, ◌≢◌, ◌<◌, ◌+◌, ◌⊎◌, inl, inr, ℕ, zero, suc, drop, List, [], ◌∷◌, ◌++◌, map, Option, Some, None, Result, Ok, Err, refl, sym, ap, ◌∙◌, subst, append-nil, arith}
-use Rattle.std.specs.Prelude.{Bool, true, false, IsTrue, IfErr, OnOk, if◌then◌else◌, take}
+use Rattle.std.specs.Prelude.{Bool, true, false, IsTrue, IfErr, if◌then◌else◌, take}
 use Rattle.std.specs.Option.{option_or}
 use Rattle.std.specs.List.{flat_map}
 use Rattle.std.specs.declared.alloc.Global.{Global}
@@ -18,32 +18,26 @@ use Rattle.keys.specs.Lists.{flat}
 use Rattle.mapping.specs.Tree.{Store}
 use Rattle.climb_plan.specs.Plan.{plan}
 use Rattle.flush_log.specs.AfterFlush.{after_flush, after_upgrade, after_text, of_version_two, unless_upgraded, flush_commit, file_after, store_after, is_spent}
-use Rattle.flush_log.specs.Disk.{View}
 use Rattle.flush_log.specs.FlushText.{flush_text, upgrade_text, flushed}
 use Rattle.flush_log.specs.Layout.{is_full_for_flush}
 use Rattle.recovery.specs.StoreOfDisk.{and_then}
 use Rattle.cleaner.specs.AfterClean.{after_clean}
-use Rattle.engine.specs.Cleans.{IsDoneClean, IsRefusedClean}
+use Rattle.cleaner.proofs.CleanBack.{cleaned-store}
 use Rattle.engine.specs.Plays.{IsPlayed, IsStepDone, IsStepFault, IsPlayFault, step_of, answer_of}
-use Rattle.engine.specs.State.{State}
 use Rattle.engine.specs.Steps.{Step, Answer, Played, Stepped, unless_refused, played_on, after_step, batching, plays}
 use Rattle.engine.specs.declared.step.Step as code_step
 use Rattle.engine.specs.declared.step.Step.TheVariants as called
 use Rattle.engine.specs.declared.step.Answer as code_answer
-use Rattle.engine.specs.declared.step.Answer.TheVariants as given
 use Rattle.bwsh.specs.declared.order.Order.{Order}
 use Rattle.bwsh.specs.declared.order.Order.TheVariants.{Batch, Lost, Flush, Clean, Upgrade, Tidy}
 use Rattle.bwsh.specs.declared.session.SessionError.{SessionError}
 use Rattle.bwsh.specs.declared.session.SessionError.TheVariants as errors
 use Rattle.bwsh.specs.declared.options.asked.Mode.{Mode}
-use Rattle.bwsh.specs.Session.{Stored, Seen, Reads, Tidying, AreTidiedOnce, AreUntidied, IsAsked, IsSeen, IsUntouched, MayFail, TidiesBy, later, no_tidying, untidied, step_in, left_by, left_unless, refused_by, left_by_step, refusal_of_step, refusal_of, tidied, tidied_before, after_order, by_batches, device_line, map_after, map_unless, own_lines, own_refusal, answer_then, answered, Batches, PrintsOwn, Runs, RunsAlone, RunsOrder, LeavesStored}
-use Rattle.bwsh.specs.Output.{BeginsWith, Writes}
+use Rattle.engine.specs.Cleaning.{CleanRow, count_of}
+use Rattle.bwsh.specs.Session.{Stored, Seen, Reads, Tidying, AreCleansOf, AreUntidied, IsAsked, IsSeen, MayFail, TidiesBy, no_tidying, untidied, step_in, left_by, refused_by, left_by_step, refusal_of_step, refusal_of, finds_no_memory, front_lines, head_lines, readied, after_order, map_after, map_unless, own_lines, own_refusal, answer_then, PrintsOwn, RunsAlone, RunsOrder, LeavesStored}
+use Rattle.bwsh.specs.Output.{Writes}
 use Rattle.bwsh.specs.Shown.{shown_flushed, shown_cleaned, shown_upgraded, shown_answer}
 use Rattle.bwsh.proofs.StoreLemmas.{IsEndingOf}
-
-pub OnOk-always : {A B P : Type 0} (r : Result A B) → P → OnOk r P
-OnOk-always (Ok x) p = p
-OnOk-always (Err x) p = tt
 
 -- ---- an order
 
@@ -55,16 +49,6 @@ first_shown file shown (suc i) = shown i
 -- it ends a session for another reason than a fault of an order alone: memory, where that isn't a refusal, or a device
 abbrev pub IsCut : Bool → SessionError → Type 0
 IsCut stream early = ((stream ≡ false) × (early ≡ errors.Fault NoMemory)) ⊎ (early ≡ errors.Device)
-
--- nothing is printed then, but a beginning of the line of a failed device
-abbrev pub PrintsCut : Bool → Option (List ℕ) → Option (List ℕ) → SessionError → Type 0
-PrintsCut stream old new early =
-    ((stream ≡ false) × (early ≡ errors.Fault NoMemory) × Appends old new [])
-    ⊎ ((early ≡ errors.Device) × ((last : List ℕ) × BeginsWith (device_line stream) last × Appends old new last))
-
-pub PrintsCut-nothing : (stream : Bool) (old new : Option (List ℕ)) (early : SessionError) → Appends old new [] → IsCut stream early → PrintsCut stream old new early
-PrintsCut-nothing stream old new early a (inl (off, e)) = inl (off, e, a)
-PrintsCut-nothing stream old new early a (inr e) = inr (e, ([], (device_line stream, refl), a))
 
 -- some lines were written, or the output failed
 pub PrintsOwn-writes : (on : Bool) (old new : Option (List ℕ)) (lines : List (List ℕ)) (end : Result (Unit {0}) SessionError) → Writes old new lines end → PrintsOwn on old new lines (Ok tt) end
@@ -79,48 +63,59 @@ module _ (settings : Settings) (st : Store) (file : Seen) (order : Order) (strea
   abbrev left : Stored
   left = after_order settings st file order
 
+  -- the lines of the cleans in front of it
+  abbrev front : List (List ℕ)
+  front = front_lines st file order
+
   -- what the order does where it is the only one, and a refusal is an end
   abbrev AloneIs : Result (Unit {0}) SessionError → Type 0
   AloneIs end = RunsAlone stream settings st file order old new end
 
-  -- the order is refused
-  pub refused : (fault : Fault) → new ≡ old → refusal_of settings st file order ≡ Some fault → AloneIs (Err (errors.Fault fault))
-  unfolding RunsAlone
-  refused fault same some = rw (same, some) (inl (refl, Appends-nil old))
-
   -- a device fails before anything of it is written
   pub cut_off : new ≡ old → AloneIs (Err errors.Device)
   unfolding RunsAlone
-  cut_off same = rw same (inr (inr (refl, ([], (flat (answer_then false (refusal_of settings st file order) file.told lines []), refl), Appends-nil old))))
+  cut_off same = rw same (inr (inr (refl, ([], (flat (answer_then false (refusal_of settings st file order) file.told front lines []), refl), Appends-nil old))))
 
   -- the order is answered
-  pub all_printed : (end : Result (Unit {0}) SessionError) → refusal_of settings st file order ≡ None → PrintsOwn stream old new lines (Ok tt) end → AloneIs end
+  pub all_printed : (end : Result (Unit {0}) SessionError) → refusal_of settings st file order ≡ None → PrintsOwn stream old new (front ++ lines) (Ok tt) end → AloneIs end
   unfolding RunsAlone
-  all_printed end none p = rw none (subst (λ (l : List (List ℕ)). PrintsOwn stream old new l (Ok tt) end) (sym (append-nil lines)) p)
+  all_printed end none p =
+      rw none (subst (λ (l : List (List ℕ)). PrintsOwn stream old new l (Ok tt) end) (sym (append-nil (front ++ lines))) p)
 
   -- what it prints where it isn't refused, and where it is
-  pub own_printed : (end : Result (Unit {0}) SessionError) → refusal_of settings st file order ≡ None → AloneIs end → PrintsOwn stream old new lines (Ok tt) end
+  pub own_printed : (end : Result (Unit {0}) SessionError) → refusal_of settings st file order ≡ None → AloneIs end → PrintsOwn stream old new (front ++ lines) (Ok tt) end
   unfolding RunsAlone
   own_printed end none p =
-      let own : PrintsOwn stream old new (lines ++ []) (Ok tt) end = rw none at p in
-      subst (λ (l : List (List ℕ)). PrintsOwn stream old new l (Ok tt) end) (append-nil lines) own
+      let own : PrintsOwn stream old new (front ++ lines ++ []) (Ok tt) end = rw none at p in
+      subst (λ (l : List (List ℕ)). PrintsOwn stream old new l (Ok tt) end) (append-nil (front ++ lines)) own
 
-  pub none_printed : (end : Result (Unit {0}) SessionError) (fault : Fault) → refusal_of settings st file order ≡ Some fault → AloneIs end → PrintsOwn stream old new [] (Err (errors.Fault fault)) end
+  pub none_printed : (end : Result (Unit {0}) SessionError) (fault : Fault) → refusal_of settings st file order ≡ Some fault → AloneIs end → PrintsOwn stream old new front (Err (errors.Fault fault)) end
   unfolding RunsAlone
   none_printed end fault some p =
-      let own : PrintsOwn stream old new [] (Err (errors.Fault fault)) end = rw some at p in
+      let own : PrintsOwn stream old new front (Err (errors.Fault fault)) end = rw some at p in
       own
 
-  pub refused_printed : (end : Result (Unit {0}) SessionError) (fault : Fault) → refusal_of settings st file order ≡ Some fault → PrintsOwn stream old new [] (Err (errors.Fault fault)) end → AloneIs end
+  pub refused_printed : (end : Result (Unit {0}) SessionError) (fault : Fault) → refusal_of settings st file order ≡ Some fault → PrintsOwn stream old new front (Err (errors.Fault fault)) end → AloneIs end
   unfolding RunsAlone
   refused_printed end fault some p = rw some p
+
+  -- with no cleans in front of it
+  module _ (bare : front ≡ []) where
+    pub refused : (fault : Fault) → new ≡ old → refusal_of settings st file order ≡ Some fault → AloneIs (Err (errors.Fault fault))
+    refused fault same some =
+        refused_printed (Err (errors.Fault fault)) fault some
+        (subst (λ (l : List (List ℕ)). PrintsOwn stream old new l (Err (errors.Fault fault)) (Err (errors.Fault fault))) (sym bare)
+        (subst (λ (o : Option (List ℕ)). PrintsOwn stream old o [] (Err (errors.Fault fault)) (Err (errors.Fault fault))) (sym same) (inl (refl, Appends-nil old))))
+
+    pub bare_printed : (end : Result (Unit {0}) SessionError) → refusal_of settings st file order ≡ None → PrintsOwn stream old new lines (Ok tt) end → AloneIs end
+    bare_printed end none p = all_printed end none (subst (λ (l : List (List ℕ)). PrintsOwn stream old new (l ++ lines) (Ok tt) end) (sym bare) p)
 
   -- it isn't refused where it is done
   unrefused_of : (r : Option Fault) → refusal_of settings st file order ≡ r → (done : Unit {0}) → AloneIs (Ok done) → refusal_of settings st file order ≡ None
   unrefused_of None none done p = none
   unrefused_of (Some fault) some done p = by (none_printed (Ok done) fault some p)
     where
-      by : PrintsOwn stream old new [] (Err (errors.Fault fault)) (Ok done) → refusal_of settings st file order ≡ None
+      by : PrintsOwn stream old new front (Err (errors.Fault fault)) (Ok done) → refusal_of settings st file order ≡ None
       by (inl (e, a)) = absurd (cc)
       by (inr (inl (off, e, q))) = absurd (cc)
       by (inr (inr (e, q))) = absurd (cc)
@@ -128,46 +123,8 @@ module _ (settings : Settings) (st : Store) (file : Seen) (order : Order) (strea
   pub unrefused_by : (done : Unit {0}) → AloneIs (Ok done) → refusal_of settings st file order ≡ None
   unrefused_by done p = unrefused_of (refusal_of settings st file order) refl done p
 
--- an order alone that ends early: by its right, with nothing printed; or for another reason, with nothing printed either where it is refused
-pub data Early (stream : Bool) (now new : Option (List ℕ)) (r : Option Fault) (early : SessionError) : Type 0 where
-  by_right : (fault : Fault) → r ≡ Some fault → early ≡ errors.Fault fault → Appends now new [] → Early stream now new r early
-  refused_cut : (fault : Fault) → r ≡ Some fault → IsCut stream early → Appends now new [] → Early stream now new r early
-  cut : r ≡ None → IsCut stream early → Early stream now new r early
-
-nothing_front : (xs : List ℕ) → BeginsWith [] xs → xs ≡ []
-nothing_front [] b = refl
-nothing_front (x ∷ xs) (rest, e) = absurd (cc)
-
-no_lines : (xs : List (List ℕ)) → BeginsWith [] xs → xs ≡ []
-no_lines [] b = refl
-no_lines (x ∷ xs) (rest, e) = absurd (cc)
-
 pub same_ending : (early other : SessionError) → (let end : Result (Unit {0}) SessionError = Err early in end ≡ Err other) → early ≡ other
 same_ending early other e = cc
-
-never_ends : (early : SessionError) → (let end : Result (Unit {0}) SessionError = Err early in end ≡ Ok tt) → ⊥
-never_ends early e = cc
-
--- of lines that are printed where it isn't refused
-early_of_none : (stream : Bool) (now new : Option (List ℕ)) (lines : List (List ℕ)) (early : SessionError) → PrintsOwn stream now new lines (Ok tt) (Err early) → Early stream now new None early
-early_of_none stream now new lines early (inl (e, a)) = absurd (never_ends early e)
-early_of_none stream now new lines early (inr (inl (off, e, q))) = cut refl (inl (off, same_ending early (errors.Fault NoMemory) e))
-early_of_none stream now new lines early (inr (inr (e, q))) = cut refl (inr (same_ending early errors.Device e))
-
--- of nothing that is printed where it is
-early_of_some : (stream : Bool) (now new : Option (List ℕ)) (fault : Fault) (early : SessionError) → PrintsOwn stream now new [] (Err (errors.Fault fault)) (Err early) → Early stream now new (Some fault) early
-early_of_some stream now new fault early (inl (e, a)) = by_right fault refl (same_ending early (errors.Fault fault) e) a
-early_of_some stream now new fault early (inr (inl (off, e, (front, begins, a)))) =
-    refused_cut fault refl (inl (off, same_ending early (errors.Fault NoMemory) e)) (subst (λ (l : List (List ℕ)). Appends now new (flat l)) (no_lines front begins) a)
-early_of_some stream now new fault early (inr (inr (e, (front, begins, a)))) =
-    refused_cut fault refl (inr (same_ending early errors.Device e)) (subst (Appends now new) (nothing_front front begins) a)
-
-pub early_by : (settings : Settings) (st : Store) (file : Seen) (order : Order) (stream : Bool) (now new : Option (List ℕ)) (early : SessionError) (r : Option Fault) → refusal_of settings st file order ≡ r
-    → RunsAlone stream settings st file order now new (Err early) → Early stream now new r early
-early_by settings st file order stream now new early None none p =
-    early_of_none stream now new (own_lines settings st file (contents st.tree) order) early (own_printed settings st file order stream now new (Err early) none p)
-early_by settings st file order stream now new early (Some fault) some p =
-    early_of_some stream now new fault early (none_printed settings st file order stream now new (Err early) fault some p)
 
 -- all of it is done, so all was printed
 pub own_all : (stream : Bool) (old new : Option (List ℕ)) (lines : List (List ℕ)) (done : Unit {0}) → PrintsOwn stream old new lines (Ok tt) (Ok done) → Appends old new (flat lines)
@@ -177,12 +134,14 @@ own_all stream old new lines done (inr (inr (e, q))) = absurd (cc)
 
 -- an order that is refused for the same reason and answers the same lines, on another store or where something else is seen, does the same where it is the only one
 module _ (settings : Settings) (a b : Store) (f g : Seen) (order : Order) (refused_so : refusal_of settings a f order ≡ refusal_of settings b g order)
-    (lines_are : own_lines settings a f (contents a.tree) order ≡ own_lines settings b g (contents b.tree) order) (stream : Bool) (old new : Option (List ℕ)) (end : Result (Unit {0}) SessionError) where
+    (front_is : front_lines a f order ≡ front_lines b g order) (lines_are : own_lines settings a f (contents a.tree) order ≡ own_lines settings b g (contents b.tree) order) (stream : Bool) (old new : Option (List ℕ)) (end : Result (Unit {0}) SessionError) where
   alike_by : (r : Option Fault) → refusal_of settings b g order ≡ r → RunsAlone stream settings b g order old new end → RunsAlone stream settings a f order old new end
   alike_by None none p =
       all_printed settings a f order stream old new end (refused_so ∙ none)
-      (subst (λ (l : List (List ℕ)). PrintsOwn stream old new l (Ok tt) end) (sym lines_are) (own_printed settings b g order stream old new end none p))
-  alike_by (Some fault) some p = refused_printed settings a f order stream old new end fault (refused_so ∙ some) (none_printed settings b g order stream old new end fault some p)
+      (subst (λ (l : List (List ℕ)). PrintsOwn stream old new (l ++ own_lines settings a f (contents a.tree) order) (Ok tt) end) (sym front_is)
+      (subst (λ (l : List (List ℕ)). PrintsOwn stream old new (front_lines b g order ++ l) (Ok tt) end) (sym lines_are) (own_printed settings b g order stream old new end none p)))
+  alike_by (Some fault) some p = refused_printed settings a f order stream old new end fault (refused_so ∙ some)
+      (subst (λ (l : List (List ℕ)). PrintsOwn stream old new l (Err (errors.Fault fault)) end) (sym front_is) (none_printed settings b g order stream old new end fault some p))
 
   pub Runs-alike : RunsAlone stream settings b g order old new end → RunsAlone stream settings a f order old new end
   Runs-alike p = alike_by (refusal_of settings b g order) refl p
@@ -207,52 +166,29 @@ LeavesStored-unmoved honest settings st was at order fault some file after held 
   holds = ap (λ (s : Store). contents s.tree) now_is ∙ held ∙ ap (λ (r : Option Fault). map_unless r (contents st.tree) order) (sym some);
 }
 
--- ---- something else is seen
+-- ---- cleans in front of an order
 
--- it doesn't matter before an order what else is seen than how the store is tidied
-pub tidied_before-as : (order : Order) (settings : Settings) (f g : Seen) (at : Stored) → f.tidying ≡ g.tidying → f.merged ≡ g.merged → tidied_before order settings f at ≡ tidied_before order settings g at
-tidied_before-as Flush settings f g at tidying merged = ap (λ (t : Tidying). tidied settings t at) tidying
-tidied_before-as (Tidy most) settings f g at tidying merged = ap (λ (b : Batches). tidied settings (by_batches b) at) merged
-tidied_before-as _ settings f g at tidying merged = refl
+-- with no rows there are no lines of cleans
+pub none_in_front : (st : Store) (seen : Seen) (order : Order) → seen.rows ≡ [] → front_lines st seen order ≡ []
+none_in_front st seen Flush none = ap (λ (r : List CleanRow). head_lines st.head (count_of r)) none
+none_in_front st seen _ none = refl
 
-module _ (settings : Settings) (st : Store) (f g : Seen) (order : Order) (bytes : f.bytes ≡ g.bytes) (fails : f.fails ≡ g.fails) (tidying : f.tidying ≡ g.tidying) (merged : f.merged ≡ g.merged) where
-  before-as : tidied_before order settings f (st, f.bytes) ≡ tidied_before order settings g (st, g.bytes)
-  before-as =
-      tidied_before-as order settings f g (st, f.bytes) tidying merged
-      ∙ ap (λ (file : List ℕ). (let at : Stored = (st, file) in tidied_before order settings g at)) bytes
+-- no rows can be seen in front of an order that is no flush, or where flushes make themselves no room
+pub no_cleans : (honest cleans : Bool) (settings : Settings) (st : Store) (order : Order) (seen : Seen) → (order ≡ Flush → cleans ≡ false) → seen.rows ≡ [] → AreCleansOf honest cleans settings st order seen
+no_cleans honest true settings st Flush seen plain none = (let off = plain refl in absurd (cc))
+no_cleans honest true settings st _ seen plain none = none
+no_cleans honest false settings st order seen plain none = none
 
-  pub after_order-as : after_order settings st f order ≡ after_order settings st g order
-  unfolding after_order
-  after_order-as =
-      ap (λ (at : Stored). left_unless f.fails at (left_by_step settings at (step_in order))) before-as
-      ∙ ap (λ (r : Option Fault). (let at : Stored = tidied_before order settings g (st, g.bytes) in left_unless r at (left_by_step settings at (step_in order)))) fails
-
-  pub refusal_of-as : refusal_of settings st f order ≡ refusal_of settings st g order
-  unfolding refusal_of
-  refusal_of-as =
-      ap (λ (at : Stored). option_or f.fails (own_refusal settings at order)) before-as
-      ∙ ap (λ (r : Option Fault). option_or r (own_refusal settings (tidied_before order settings g (st, g.bytes)) order)) fails
+-- none can be seen in front of an order that fails, if a flush does for want of memory
+pub failing_cleans : (honest cleans : Bool) (settings : Settings) (st : Store) (order : Order) (fault : Fault) → (order ≡ Flush → fault ≡ NoMemory) → (file : List ℕ) (tidying : Tidying)
+    → AreCleansOf honest cleans settings st order (record { bytes = file; tidying = tidying; rows = []; last = file; merged = []; fails = Some fault; told = [] })
+failing_cleans honest true settings st Flush fault memory file tidying =
+    let unfed : finds_no_memory (Some fault) ≡ true = ap (λ (f : Fault). finds_no_memory (Some f)) (memory refl) in
+    ((refl, λ h. refl), λ other none. absurd (cc), λ e. absurd (cc))
+failing_cleans honest true settings st _ fault memory file tidying = refl
+failing_cleans honest false settings st order fault memory file tidying = refl
 
 -- ---- what the disk shows is what was left
-
--- reads give these bytes, the store is tidied so, and nothing fails
-abbrev pub seen_with : Tidying → List ℕ → Seen
-seen_with batches file = record { bytes = file; ahead = file; tidying = batches; merged = []; fails = None; told = [] }
-
--- all stores are tidied so
-abbrev pub AreTidiedBy : Tidying → Reads → Type 0
-AreTidiedBy batches shown = (i : ℕ) → (shown i).tidying ≡ batches
-
--- at the first order and later
-pub AreTidiedBy-first : (batches : Tidying) (file : List ℕ) (shown : Reads) → AreTidiedBy batches shown → AreTidiedBy batches (first_shown (seen_with batches file) shown)
-AreTidiedBy-first batches file shown all zero = refl
-AreTidiedBy-first batches file shown all (suc i) = all i
-
--- so they are tidied once for each flush
-pub AreTidiedOnce-alike : (batches : Tidying) (shown : Reads) (orders : List Order) → AreTidiedBy batches shown → AreTidiedOnce shown orders
-AreTidiedOnce-alike batches shown [] all = tt
-AreTidiedOnce-alike batches shown (order ∷ rest) all =
-    (inr (all zero ∙ sym (all (suc zero))), AreTidiedOnce-alike batches (later shown) rest (λ i. all (suc i)))
 
 -- no tidying is asked for in any way
 pub no_tidying_asked : (mode : Mode) → IsAsked mode no_tidying
@@ -263,43 +199,47 @@ pub as_asked : (mode : Mode) {a b : Tidying} → IsAsked mode b → a ≡ b → 
 as_asked mode asked is = subst (IsAsked mode) (sym is) asked
 
 -- where no store is tidied, none is where that isn't asked for
-pub TidiesBy-none : (mode : Mode) (shown : Reads) (orders : List Order) → AreUntidied shown → TidiesBy mode shown orders
-TidiesBy-none mode shown orders none = (λ i. as_asked mode (no_tidying_asked mode) (none i), AreTidiedOnce-alike no_tidying shown orders none)
+pub TidiesBy-none : (mode : Mode) (shown : Reads) → AreUntidied shown → TidiesBy mode shown
+TidiesBy-none mode shown none = λ i. as_asked mode (no_tidying_asked mode) (none i)
 
 -- these bytes are read, nothing is tidied, and this fails, if something does
 abbrev pub failing : Option Fault → List ℕ → Seen
-failing fails file = record { bytes = file; ahead = file; tidying = no_tidying; merged = []; fails = fails; told = [] }
+failing fails file = record { bytes = file; tidying = no_tidying; rows = []; last = file; merged = []; fails = fails; told = [] }
 
--- these bytes can be seen, where nothing is tidied, and they are what the disk shows if it is honest
-pub seen_left : (mode : Mode) (honest : Bool) (settings : Settings) (st : Store) (left file : List ℕ) (order : Order) → (IsTrue honest → file ≡ left) → IsSeen mode honest settings st left order (untidied file)
-seen_left mode honest settings st left file order is = (no_tidying_asked mode, tt, λ h. (is h, is h))
+-- these bytes can be seen, where nothing is tidied or cleaned, and they are what the disk shows if it is honest
+pub seen_left : (mode : Mode) (honest : Bool) (settings : Settings) (st : Store) (left file : List ℕ) (order : Order) → (order ≡ Flush → mode.clean_when_full ≡ false) → (IsTrue honest → file ≡ left)
+    → IsSeen mode honest settings st left order (untidied file)
+seen_left mode honest settings st left file order plain is =
+    (no_tidying_asked mode, tt, no_cleans honest mode.clean_when_full settings st order (untidied file) plain refl, λ h. (is h, refl))
 
-pub seen_untidied : (mode : Mode) (honest : Bool) (settings : Settings) (st : Store) (left : List ℕ) (order : Order) → IsSeen mode honest settings st left order (untidied left)
-seen_untidied mode honest settings st left order = seen_left mode honest settings st left left order (λ h. refl)
+pub seen_untidied : (mode : Mode) (honest : Bool) (settings : Settings) (st : Store) (left : List ℕ) (order : Order) → (order ≡ Flush → mode.clean_when_full ≡ false) → IsSeen mode honest settings st left order (untidied left)
+seen_untidied mode honest settings st left order plain = seen_left mode honest settings st left left order plain (λ h. refl)
 
--- it can be seen that something fails which may
-pub seen_failing : (mode : Mode) (honest : Bool) (settings : Settings) (st : Store) (left file : List ℕ) (order : Order) (fault : Fault) → MayFail mode.clean_when_full settings (st, file) order fault
-    → (IsTrue honest → file ≡ left) → IsSeen mode honest settings st left order (failing (Some fault) file)
-seen_failing mode honest settings st left file order fault may is = (no_tidying_asked mode, may, λ h. (is h, is h))
+-- it can be seen that something fails which may, if a flush does for want of memory
+pub seen_failing : (mode : Mode) (honest : Bool) (settings : Settings) (st : Store) (left file : List ℕ) (order : Order) (fault : Fault) → (order ≡ Flush → fault ≡ NoMemory)
+    → MayFail mode.clean_when_full settings (readied order settings (failing (Some fault) file) (st, file)) order fault → (IsTrue honest → file ≡ left)
+    → IsSeen mode honest settings st left order (failing (Some fault) file)
+seen_failing mode honest settings st left file order fault memory may is =
+    (no_tidying_asked mode, may, failing_cleans honest mode.clean_when_full settings st order fault memory file no_tidying, λ h. (is h, refl))
 
 -- an order before which nothing is tidied does what its step does
-pub untidied_before : (order : Order) (settings : Settings) (fails : Option Fault) (file : List ℕ) (at : Stored) → tidied_before order settings (failing fails file) at ≡ at
-untidied_before Flush settings fails file at = refl
-untidied_before (Tidy most) settings fails file at = refl
-untidied_before _ settings fails file at = refl
+pub untidied_before : (order : Order) (settings : Settings) (fails : Option Fault) (file : List ℕ) (st : Store) → readied order settings (failing fails file) (st, file) ≡ (st, file)
+untidied_before Flush settings fails file st = refl
+untidied_before (Tidy most) settings fails file st = refl
+untidied_before _ settings fails file st = refl
 
 pub after_order-untidied : (settings : Settings) (st : Store) (file : List ℕ) (order : Order) → after_order settings st (untidied file) order ≡ left_by_step settings (st, file) (step_in order)
 unfolding after_order
-after_order-untidied settings st file order = ap (λ (at : Stored). left_by_step settings at (step_in order)) (untidied_before order settings None file (st, file))
+after_order-untidied settings st file order = ap (λ (at : Stored). left_by_step settings at (step_in order)) (untidied_before order settings None file st)
 
 pub after_order-failing : (settings : Settings) (st : Store) (file : List ℕ) (order : Order) (fault : Fault) → after_order settings st (failing (Some fault) file) order ≡ (st, file)
 unfolding after_order
-after_order-failing settings st file order fault = untidied_before order settings (Some fault) file (st, file)
+after_order-failing settings st file order fault = untidied_before order settings (Some fault) file st
 
 pub refusal_of-failing : (settings : Settings) (st : Store) (at : Seen) (order : Order) (fault : Fault) → at.fails ≡ Some fault → refusal_of settings st at order ≡ Some fault
 unfolding refusal_of
 refusal_of-failing settings st at order fault fails =
-    ap (λ (r : Option Fault). option_or r (own_refusal settings (tidied_before order settings at (st, at.bytes)) order)) fails
+    ap (λ (r : Option Fault). option_or r (own_refusal settings (readied order settings at (st, at.bytes)) order)) fails
 
 -- the refusal of a step is that of its order
 own_refusal-step : (settings : Settings) (order : Order) (at : Stored) (y : Step Global) → step_in order ≡ Some y → own_refusal settings at order ≡ refusal_of_step settings at (step_in order)
@@ -310,7 +250,7 @@ refusal_of-untidied : (settings : Settings) (st : Store) (file : List ℕ) (orde
     → refusal_of settings st (untidied file) order ≡ refusal_of_step settings (st, file) (step_in order)
 unfolding refusal_of
 refusal_of-untidied settings st file order y is =
-    ap (λ (at : Stored). own_refusal settings at order) (untidied_before order settings None file (st, file)) ∙ own_refusal-step settings order (st, file) y is
+    ap (λ (at : Stored). own_refusal settings at order) (untidied_before order settings None file st) ∙ own_refusal-step settings order (st, file) y is
 
 -- a step finds no memory
 pub memory_fails : (cleans : Bool) (settings : Settings) (at : Stored) (order : Order) (y : Step Global) → step_in order ≡ Some y → MayFail cleans settings at order NoMemory
@@ -389,6 +329,14 @@ module _ (settings : Settings) (st : Store) where
       let m = flush_commit settings st (x ∷ xs) in
       ap (λ (s : Store). contents s.tree) (commit-leaves (is_spent m.slot) (is_full_for_flush settings m.slot.head m.slot.tail) (store_after (flushed st.tree) m.slot) (file_after settings f m) p e)
 
+  text-head : (f : List ℕ) (text : _) (p : Store × List ℕ) → after_text settings st f text ≡ Ok p → p.0.head ≡ st.head
+  text-head f [] p e =
+      let same : (let q : Store × List ℕ = (st, f) in q ≡ p) = cc in
+      sym (ap (λ (q : Store × List ℕ). q.0.head) same)
+  text-head f (x ∷ xs) p e =
+      let m = flush_commit settings st (x ∷ xs) in
+      ap (λ (s : Store). s.head) (commit-leaves (is_spent m.slot) (is_full_for_flush settings m.slot.head m.slot.tail) (store_after (flushed st.tree) m.slot) (file_after settings f m) p e)
+
 -- an upgrade that isn't refused finds a log of version 1
 upgrade-goes : (version : Version) (r : Result (Store × List ℕ) Fault) (p : Store × List ℕ) → unless_upgraded version r ≡ Ok p → r ≡ Ok p
 upgrade-goes One r p e = e
@@ -398,6 +346,18 @@ upgrade-leaves : (settings : Settings) (st : Store) (f : List ℕ) (p : Store ×
 upgrade-leaves settings st f p e =
     let two : Store = of_version_two st in
     text-leaves settings two f (upgrade_text st.tree) p (upgrade-goes st.version (after_text settings two f (upgrade_text st.tree)) p e)
+
+-- ---- which segment is the first one
+
+-- a flush leaves it
+pub flush_head : (settings : Settings) (st : Store) (file : List ℕ) (p : Answer Global × (Store × List ℕ)) → after_step (batching settings) settings st file Step.Flush ≡ Ok p → p.1.0.head ≡ st.head
+flush_head settings st file p done = text-head settings st file (flush_text st.version st.tree) p.1 (answered_by of_flush (after_flush settings st file) p done).1
+
+-- and a clean leaves the next one as such
+pub clean_head : (settings : Settings) (st : Store) (file : List ℕ) (answer : Answer Global) (now : Store) (bytes : List ℕ)
+    → after_step (batching settings) settings st file Step.Clean ≡ Ok (answer, (now, bytes)) → now.head ≡ suc st.head
+clean_head settings st file answer now bytes done =
+    (cleaned-store settings st now file bytes (answered_by of_clean (after_clean settings st file) (answer, (now, bytes)) done).1).1
 
 -- ---- what a step does
 
@@ -457,7 +417,7 @@ module _ (settings : Settings) (st : Store) where
   map_of hold keep file _ y p is done = absurd (cc)
 
 -- a step is played on a store whose disk had the bytes `seen`, for an order
-module _ (mode : Mode) (honest : Bool) (settings : Settings) (st : Store) (seen : List ℕ) (order : Order) (x : code_step.Step) (is : step_in order ≡ Some (step_of x)) where
+module _ (mode : Mode) (honest : Bool) (settings : Settings) (st : Store) (seen : List ℕ) (order : Order) (x : code_step.Step) (is : step_in order ≡ Some (step_of x)) (plain : order ≡ Flush → mode.clean_when_full ≡ false) where
   right_by : (file : List ℕ) (fault : Fault) → after_step (batching settings) settings st file (step_of x) ≡ Err fault → refusal_of settings st (untidied file) order ≡ Some fault
   right_by file fault e = refusal_of-untidied settings st file order (step_of x) is ∙ ap (refusal_of_step settings (st, file)) is ∙ ap refused_by e
 
@@ -486,12 +446,13 @@ module _ (mode : Mode) (honest : Bool) (settings : Settings) (st : Store) (seen 
   module _ (text : Option (List ℕ)) (now : Store) (bytes : List ℕ) (same : now ≡ st) (unwritten : IsTrue honest → bytes ≡ seen) where
     pub RunsOrder-memory : (fault : Fault) → fault ≡ NoMemory → RunsOrder mode honest settings st seen order text text (Err (errors.Fault fault)) now bytes
     RunsOrder-memory fault memory =
-        let may : MayFail mode.clean_when_full settings (st, seen) order fault =
-        subst (MayFail mode.clean_when_full settings (st, seen) order) (sym memory) (memory_fails mode.clean_when_full settings (st, seen) order (step_of x) is) in
+        let at : Stored = readied order settings (failing (Some fault) seen) (st, seen) in
+        let may : MayFail mode.clean_when_full settings at order fault =
+        subst (MayFail mode.clean_when_full settings at order) (sym memory) (memory_fails mode.clean_when_full settings at order (step_of x) is) in
         let some = refusal_of-failing settings st (failing (Some fault) seen) order fault refl in (
           failing (Some fault) seen,
-          seen_failing mode honest settings st seen seen order fault may (λ h. refl),
-          refused settings st (failing (Some fault) seen) order mode.stream text text fault refl some,
+          seen_failing mode honest settings st seen seen order fault (λ flush. memory) may (λ h. refl),
+          refused settings st (failing (Some fault) seen) order mode.stream text text (none_in_front st (failing (Some fault) seen) order refl) fault refl some,
           λ other. LeavesStored-unmoved honest settings st st (failing (Some fault) seen) order fault some seen (after_order-failing settings st seen order fault) refl now bytes same unwritten,
         )
 
@@ -503,8 +464,8 @@ module _ (mode : Mode) (honest : Bool) (settings : Settings) (st : Store) (seen 
         let after : after_order settings st (untidied file) order ≡ (st, file) =
         after_order-untidied settings st file order ∙ ap (left_by_step settings (st, file)) is ∙ ap (left_by (st, file)) e in (
           untidied file,
-          seen_left mode honest settings st seen file order of_seen,
-          refused settings st (untidied file) order mode.stream text text fault refl some,
+          seen_left mode honest settings st seen file order plain of_seen,
+          refused settings st (untidied file) order mode.stream text text (none_in_front st (untidied file) order refl) fault refl some,
           λ other. LeavesStored-unmoved honest settings st st (untidied file) order fault some file after refl now bytes same (λ h. unwritten h ∙ sym (of_seen h)),
         )
 
@@ -516,7 +477,7 @@ module _ (mode : Mode) (honest : Bool) (settings : Settings) (st : Store) (seen 
   pub RunsOrder-device : (text : Option (List ℕ)) (now : Store) (bytes : List ℕ) → RunsOrder mode honest settings st seen order text text (Err errors.Device) now bytes
   RunsOrder-device text now bytes = (
     untidied seen,
-    seen_untidied mode honest settings st seen order,
+    seen_untidied mode honest settings st seen order plain,
     cut_off settings st (untidied seen) order mode.stream text text refl,
     λ other. absurd (other refl),
   )
@@ -572,8 +533,8 @@ module _ (mode : Mode) (honest : Bool) (settings : Settings) (st : Store) (seen 
       one_answered old new end said said_is p =
           let printed = subst (λ (l : List (List ℕ)). PrintsOwn mode.stream old new l (Ok tt) end) (answers_of said said_is) (PrintsOwn-writes mode.stream old new (flat_map shown_answer (map answer_of said)) end p) in (
             untidied done.file,
-            seen_left mode honest settings st seen done.file order done.shown,
-            all_printed settings st (untidied done.file) order mode.stream old new end none printed,
+            seen_left mode honest settings st seen done.file order plain done.shown,
+            bare_printed settings st (untidied done.file) order mode.stream old new (none_in_front st (untidied done.file) order refl) end none printed,
             λ other. leaves,
           )
 
@@ -630,53 +591,3 @@ refused_leaves honest settings st seen x said now bytes place fault had_failed h
     let none_played = subst (λ (n : ℕ). IsPlayed honest settings st seen (map step_of (take n (x ∷ []))) said now) first played in
     let left = λ (h : IsTrue honest). subst (λ (n : ℕ). bytes ≡ (let p : Played Global = plays (batching settings) settings st seen (map step_of (take n (x ∷ []))) in p.bytes)) first (shown h other) in
     (none_played.1, counted other, left)
-
--- ---- a clean by what was read of the log
-
-module _ {D : Type 0} (view : D → View) (failures : D → ℕ) (before after : State D) where
-  abbrev seen_before : List ℕ
-  seen_before = (view before.disk).seen
-
-  -- it is done, and its line is written
-  pub RunsOrder-cleaned : CleansKeep before.settings before.store → (head : ℕ) → IsDoneClean view failures before after head → (mode : Mode) (old new : Option (List ℕ))
-      (end : Result (Unit {0}) SessionError) → Writes old new (shown_cleaned head ∷ []) end
-      → RunsOrder mode (view before.disk).is_honest before.settings before.store seen_before Clean old new end after.store (view after.disk).seen
-  RunsOrder-cleaned keep head clean mode old new end p =
-      let (bytes, done) = clean.step in
-      let outcome : Answer Global × Stored = (Answer.Cleaned head, (after.store, bytes)) in
-      one_answered mode (view before.disk).is_honest before.settings before.store seen_before Clean called.Clean refl (given.Cleaned head) after.store bytes done
-      (map_of_clean before.settings before.store keep done.file outcome done.done) after.store refl (view after.disk).seen
-      (λ h. sym (ap (λ (q : Played Global). q.bytes) (alone_is before.settings before.store seen_before Step.Clean _ (clean.bytes h)))) old new end (given.Cleaned head ∷ []) refl p
-
-  -- a clean keeps the map
-  pub cleaned_holds : CleansKeep before.settings before.store → (head : ℕ) → IsDoneClean view failures before after head → contents after.store.tree ≡ contents before.store.tree
-  cleaned_holds keep head clean =
-      let (bytes, done) = clean.step in
-      let outcome : Answer Global × Stored = (Answer.Cleaned head, (after.store, bytes)) in
-      map_of_clean before.settings before.store keep done.file outcome done.done
-
-  -- it is refused, and nothing is written
-  pub RunsOrder-uncleaned : (fault : Fault) → IsRefusedClean view failures before after fault → (early : SessionError) → IsEndingOf fault early → (mode : Mode) (text : Option (List ℕ))
-      → RunsOrder mode (view before.disk).is_honest before.settings before.store seen_before Clean text text (Err early) after.store (view after.disk).seen
-  RunsOrder-uncleaned fault refused_so early (inl device) mode text =
-      subst (λ (e : SessionError). RunsOrder mode (view before.disk).is_honest before.settings before.store seen_before Clean text text (Err e) after.store (view after.disk).seen) (sym device.1)
-      (RunsOrder-device mode (view before.disk).is_honest before.settings before.store seen_before Clean called.Clean refl text after.store (view after.disk).seen)
-  RunsOrder-uncleaned fault refused_so early (inr other) mode text =
-      let (file, shown, why) = refused_so.why in
-      subst (λ (e : SessionError). RunsOrder mode (view before.disk).is_honest before.settings before.store seen_before Clean text text (Err e) after.store (view after.disk).seen) (sym other.1)
-      (RunsOrder-why mode (view before.disk).is_honest before.settings before.store seen_before Clean called.Clean refl text after.store (view after.disk).seen refused_so.store
-      (λ h. (refused_so.same h other.0).seen) file shown fault
-      (late_by mode (view before.disk).is_honest before.settings before.store seen_before Clean called.Clean refl file (failures before.disk) (failures after.disk) called.Clean fault other.0 refl why))
-
-  -- it leaves all as it was, but where a call of the disk failed
-  pub uncleaned_leaves : (fault : Fault) → IsRefusedClean view failures before after fault → fault ≢ Device → IsUntouched view before after
-  uncleaned_leaves fault refused_so other = (refused_so.store, (refused_so.counted other).0, λ h. (refused_so.same h other).seen)
-
--- what orders can end by before anything of them is done
-pub Runs-ended : (on stream : Bool) (settings : Settings) (st : Store) (shown : Reads) (orders : List Order) (old new : Option (List ℕ)) (early : SessionError) → PrintsCut stream old new early
-    → Runs on stream settings st shown orders old new (Err early)
-unfolding Runs
-Runs-ended on stream settings st shown orders old new early (inl (off, e, none)) =
-    inr (inl (off, ap (λ (x : SessionError). Err x) e, ([], (answered on settings st shown (contents st.tree) orders, refl), none)))
-Runs-ended on stream settings st shown orders old new early (inr (e, (last, ends, a))) =
-    inr (inr (ap (λ (x : SessionError). Err x) e, ([], last, (flat (answered on settings st shown (contents st.tree) orders), refl), ends, a)))

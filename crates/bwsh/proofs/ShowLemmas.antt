@@ -20,9 +20,6 @@ use Rattle.bwsh.proofs.Prints.{flat-append, front-longer, front-more}
 pub Adds-none : (a : Option (List ℕ)) (held : List ℕ) → Adds a held a held []
 Adds-none a held = ([], Appends-nil a, append-nil held)
 
-pub IsBegun-none : (a : Option (List ℕ)) (text : List ℕ) → IsBegun a a text
-IsBegun-none a text = ([], (text, refl), Appends-nil a)
-
 pub IsBegun-longer : (a b : Option (List ℕ)) (text more : List ℕ) → IsBegun a b text → IsBegun a b (text ++ more)
 IsBegun-longer a b text more (front, begins, appended) = (front, front-longer text more front begins, appended)
 
@@ -129,10 +126,6 @@ module _ {O : Type 0} (contents : O → Option (List ℕ)) where
       → xs ≡ ys → Puts contents old out now last xs r → Puts contents old out now last ys r
   Puts-as old out now last xs ys r same p = subst (λ (l : List ℕ). Puts contents old out now last l r) same p
 
-  -- nothing was added
-  pub Puts-none : (old : Buffer) (out : O) (ys : List ℕ) → Puts contents old out old out ys (Err Device)
-  Puts-none old out ys = (refl, IsBegun-none (contents out) (old.text.items ++ ys))
-
 -- ---- what is written at once
 
 -- one text
@@ -141,10 +134,6 @@ pub Writes-one : (old new : Option (List ℕ)) (text bytes : List ℕ) (r : Resu
 Writes-one old new text bytes (Ok x) is a b d = inl (refl, subst (Appends old new) (is ∙ sym (append-nil text)) a)
 Writes-one old new text bytes (Err e) is a b d =
     inr (ap (λ (x : SessionError). Err x) d, subst (IsBegun old new) (is ∙ sym (append-nil text)) b)
-
--- nothing of it
-pub Writes-none : (old : Option (List ℕ)) (lines : List (List ℕ)) → Writes old old lines (Err Device)
-Writes-none old lines = inr (refl, IsBegun-none old (flat lines))
 
 -- lines after others
 pub Writes-then : (old mid new : Option (List ℕ)) (first lines : List (List ℕ)) (r : Result (Unit {0}) SessionError) → Appends old mid (flat first)

@@ -1,6 +1,6 @@
 -- Lemmas on stores that are tidied before their flushes.
 use Rattle.std.proofs.Common.{◌≡◌, ◌≢◌, ◌⊎◌, inl, inr, ℕ, List, [], ◌∷◌, ◌++◌, map, Option, Some, None, Result, Ok, Err, refl, sym, ap, ◌∙◌, subst, append_assoc}
-use Rattle.std.specs.Prelude.{Bool, true, false, not, ◌&&◌, if◌then◌else◌, nat_eq, is_err, IfSome, IsTrue}
+use Rattle.std.specs.Prelude.{Bool, true, false, ◌&&◌, if◌then◌else◌, nat_eq, is_err, IfSome, IsTrue}
 use Rattle.std.specs.List.{flat_map}
 use Rattle.std.specs.declared.alloc.Global.{Global}
 use Rattle.std.specs.Option.{option_or}
@@ -23,9 +23,9 @@ use Rattle.recovery.specs.StoreOfDisk.{and_then, frames_in, unless_found}
 use Rattle.cleaner.specs.AfterClean.{after_carried, after_clean, after_clean_of, clean_commit}
 use Rattle.cleaner.specs.CleanText.{clean_text}
 use Rattle.engine.specs.Batches.{tree_in_turn}
+use Rattle.engine.specs.Cleaning.{CleanRow, reads_in}
 use Rattle.engine.specs.Compacted.{IsCompacted, compacted}
 use Rattle.engine.specs.Room.{is_bloated, is_two_thirds_full}
-use Rattle.engine.specs.State.{State}
 use Rattle.engine.specs.Tidied.{IsTidied}
 use Rattle.bwsh.specs.declared.order.Order.{Order}
 use Rattle.bwsh.specs.declared.order.Order.TheVariants.{Batch, Flush, Clean}
@@ -33,10 +33,10 @@ use Rattle.bwsh.specs.declared.options.asked.Mode.{Mode}
 use Rattle.bwsh.specs.declared.session.SessionError.{SessionError}
 use Rattle.bwsh.specs.declared.session.SessionError.TheVariants as errors
 use Rattle.bwsh.specs.BatchFile.{commands_of}
-use Rattle.bwsh.specs.Session.{Batches, IsAsked, IsByBatches, LeavesStored, MayFail, Reads, RunsOrder, Seen, Stored, Tidying, TidiesTo, answer_lines, after_order, by_batches, compacted_if, compacting, if_it_holds, is_same_map, later, left_by, left_by_step, left_unless, map_after, map_unless, no_tidying, own_lines, own_refusal, refusal_of, refusal_of_step, refused_by, step_in, tidied, tidied_tree, tree_of_batches}
-use Rattle.bwsh.specs.Shown.{shown_cleaned, shown_flushed, shown_reply}
+use Rattle.bwsh.specs.Session.{Batches, IsAsked, IsByBatches, MayFail, Reads, RunsOrder, Seen, Stored, Tidying, TidiesTo, answer_lines, after_order, by_batches, cleaned, cleaned_by, front_lines, compacted_if, compacting, if_it_holds, is_same_map, later, left_by, left_by_step, left_unless, map_after, no_tidying, own_lines, own_refusal, readied, refusal_of, step_in, tidied, tidied_tree, tree_of_batches}
+use Rattle.bwsh.specs.Shown.{shown_flushed, shown_reply}
 use Rattle.bwsh.proofs.Prints.{front-whole}
-use Rattle.bwsh.proofs.RunLemmas.{LeavesStored-alike, LeavesStored-unmoved, Runs-alike, all_printed, answering, committed_unless, of_clean, own_all, own_printed, refusal_of-failing, refused, unrefused_by}
+use Rattle.bwsh.proofs.RunLemmas.{LeavesStored-alike, LeavesStored-unmoved, Runs-alike, all_printed, answering, committed_unless, of_clean, own_all, failing_cleans, no_cleans, none_in_front, own_printed, refusal_of-failing, refused, unrefused_by}
 
 -- ---- maps
 
@@ -157,7 +157,7 @@ replies-anywhere settings st shown m [] commands rest =
     (answer_lines settings (after_order settings st (shown 0) (Batch commands)).0 (later shown) (map_after_all m commands) rest, refl)
 replies-anywhere settings st shown m (order ∷ front) commands rest =
     let now : Store = (after_order settings st (shown 0) order).0 in
-    let own : List (List ℕ) = own_lines settings st (shown 0) m order in
+    let own : List (List ℕ) = front_lines st (shown 0) order ++ own_lines settings st (shown 0) m order in
     let further : List (Command Global) = flat_map commands_of front in
     let (last, is) = replies-anywhere settings now (later shown) (map_after m order) front commands rest in
     let same : map_after_all (map_after m order) further ≡ map_after_all m (commands_of order ++ further) =
@@ -211,31 +211,20 @@ TidiesTo-compacted mode settings st mid now room (batches, unasked, are) (inr (f
       leaves = compacted_then settings st mid now batches are bloated is;
     }
 
--- the same of a store on its disk
-pub TidiesTo-after : {D : Type 0} (mode : Mode) (x y z : State D) → mode.clean_when_full ≡ true → y.settings ≡ x.settings → IsByBatches mode x.settings x.store y.store
-    → (z ≡ y) ⊎ (IsTrue (is_two_thirds_full y.settings y.store) × IsTrue (is_bloated y.settings y.store.tree) × IsCompacted y.settings y.store z.store) → TidiesTo mode x.settings x.store z.store
-TidiesTo-after mode x y z room settings by (inl same) = TidiesTo-compacted mode x.settings x.store y.store z.store room by (inl (ap (λ (s : State _). s.store) same))
-TidiesTo-after mode x y z room settings by (inr (full, bloated, is)) =
-    TidiesTo-compacted mode x.settings x.store y.store z.store room by
-    (subst (λ (t : Settings). (z.store ≡ y.store) ⊎ (IsTrue (is_two_thirds_full t y.store) × IsTrue (is_bloated t y.store.tree) × IsCompacted t y.store z.store)) settings (inr (full, bloated, is)))
-
 module _ (settings : Settings) (batches : Tidying) (under st : Store) (are : IsTidiedBy settings batches under st) where
   -- the tidied store holds the same
   pub held_by : contents st.tree ≡ contents under.tree
   held_by = ap (λ (at : Stored). contents at.0.tree) (sym (are [])) ∙ holds-tidied settings batches (under, [])
 
-  -- it has the same log, and the tree that the batches leave
-  under_its_tree : st ≡ with_tree under st.tree
-  under_its_tree =
-      let is : tidied settings batches (under, []) ≡ (st, []) = are [] in
-      ap (λ (at : Stored). at.0) (sym is) ∙ (log-tidied settings batches (under, [])).0 ∙ ap (λ (at : Stored). with_tree under at.0.tree) is
+  module _ (seen : Seen) (plain : seen.tidying ≡ no_tidying) (bare : seen.rows ≡ []) where
+    -- with no rows, nothing is cleaned
+    no_rows : (t : Tidying) (x : Store) → (cleaned_by settings (reads_in seen.rows) (tidied settings t (x, seen.bytes))).0 ≡ (tidied settings t (x, seen.bytes)).0
+    no_rows t x = ap (λ (r : List CleanRow). (cleaned_by settings (reads_in r) (tidied settings t (x, seen.bytes))).0) bare
 
-  tree_by : tidied_tree settings batches under.tree ≡ st.tree
-  tree_by = ap (λ (at : Stored). at.0.tree) (sym (tidied-is settings batches (under, [])) ∙ are [])
-
-  module _ (seen : Seen) (plain : seen.tidying ≡ no_tidying) where
-    at_hand : tidied settings batches (under, seen.bytes) ≡ tidied settings seen.tidying (st, seen.bytes)
-    at_hand = are seen.bytes ∙ ap (λ (b : Tidying). tidied settings b (st, seen.bytes)) (sym plain)
+    at_hand : readied Flush settings (record seen { tidying = batches }) (under, seen.bytes) ≡ readied Flush settings seen (st, seen.bytes)
+    at_hand =
+        ap (λ (x : Store). (let at : Stored = (x, seen.last) in at))
+        (no_rows batches under ∙ ap (λ (at : Stored). at.0) (are seen.bytes ∙ ap (λ (b : Tidying). tidied settings b (st, seen.bytes)) (sym plain)) ∙ sym (no_rows seen.tidying st))
 
     -- a flush of the tidied store leaves what one leaves before which the store is tidied, and is refused for the same reason
     after_flush_of : after_order settings under (record seen { tidying = batches }) Flush ≡ after_order settings st seen Flush
@@ -250,41 +239,39 @@ module _ (settings : Settings) (batches : Tidying) (under st : Store) (are : IsT
 fails_too : (cleans : Bool) (settings : Settings) (at other : Stored) (o : Option Fault) → IfSome o (MayFail false settings at Flush) → IfSome o (MayFail cleans settings other Flush)
 fails_too cleans settings at other None may = tt
 fails_too cleans settings at other (Some fault) (inl memory) = inl memory
-fails_too cleans settings at other (Some fault) (inr (on, frees, right)) = absurd (cc)
+fails_too cleans settings at other (Some fault) (inr (on, frees, full, right)) = absurd (cc)
 
-pub RunsOrder-tidied : (mode : Mode) (honest : Bool) (settings : Settings) (batches : Tidying) → IsAsked mode batches → (under st : Store) → IsTidiedBy settings batches under st
+pub RunsOrder-tidied : (mode : Mode) → mode.clean_when_full ≡ false → (honest : Bool) (settings : Settings) (batches : Tidying) → IsAsked mode batches → (under st : Store) → IsTidiedBy settings batches under st
     → (left : List ℕ) (old new : Option (List ℕ)) (end : Result (Unit {0}) SessionError) (now : Store) (bytes : List ℕ)
-    → RunsOrder (untidy mode) honest settings st left Flush old new end now bytes
-    → (one : RunsOrder mode honest settings under left Flush old new end now bytes) × (one.0.tidying ≡ batches)
-RunsOrder-tidied mode honest settings batches unasked under st are left old new end now bytes (seen, is, runs, leaves) =
+    → RunsOrder (untidy mode) honest settings st left Flush old new end now bytes → RunsOrder mode honest settings under left Flush old new end now bytes
+RunsOrder-tidied mode off honest settings batches unasked under st are left old new end now bytes (seen, is, runs, leaves) =
     let plain : seen.tidying ≡ no_tidying = plain_of mode seen.tidying is.0 in
+    let bare : seen.rows ≡ [] = is.2 in
     let too : Seen = record seen { tidying = batches } in
-    let after = after_flush_of settings batches under st are seen plain in
-    let refused_so = refusal_flush_of settings batches under st are seen plain in (
+    let after = after_flush_of settings batches under st are seen plain bare in
+    let refused_so = refusal_flush_of settings batches under st are seen plain bare in (
+      too,
       (
-        too,
-        (unasked, fails_too mode.clean_when_full settings (st, seen.bytes) (under, seen.bytes) seen.fails is.1, is.2),
-        Runs-alike settings under st too seen Flush refused_so (ap (λ (at : Stored). shown_flushed at.0.sequence ∷ []) after) mode.stream old new end runs,
-        λ other. LeavesStored-alike honest settings under st too seen Flush refused_so after (sym (held_by settings batches under st are)) now bytes (leaves other),
+        unasked,
+        fails_too mode.clean_when_full settings (readied Flush settings seen (st, seen.bytes)) (readied Flush settings too (under, seen.bytes)) seen.fails is.1,
+        no_cleans honest mode.clean_when_full settings under Flush too (λ _. off) bare,
+        λ h. (
+          (is.3 h).0,
+          (is.3 h).1
+              ∙ ap (λ (rows : List CleanRow). (cleaned_by settings (reads_in rows) (tidied settings seen.tidying (st, seen.bytes))).1) bare
+              ∙ sym (ap (λ (rows : List CleanRow). (cleaned_by settings (reads_in rows) (tidied settings batches (under, seen.bytes))).1) bare),
+        ),
       ),
-      refl,
+      Runs-alike settings under st too seen Flush refused_so (none_in_front under too Flush bare ∙ sym (none_in_front st seen Flush bare))
+          (ap (λ (at : Stored). shown_flushed at.0.sequence ∷ []) after) mode.stream old new end runs,
+      λ other. LeavesStored-alike honest settings under st too seen Flush refused_so after (sym (held_by settings batches under st are)) now bytes (leaves other),
     )
-
--- the same of a store that has the settings of the first, and of a disk that is as honest and shows the same
-pub flush_tidied : (mode : Mode) (b honest : Bool) → b ≡ honest → (s settings : Settings) → s ≡ settings → (shows seen : List ℕ) → shows ≡ seen → (first st : Store)
-    → TidiesTo mode settings first st → (old new : Option (List ℕ)) (end : Result (Unit {0}) SessionError) (now : Store) (bytes : List ℕ)
-    → RunsOrder (untidy mode) b s st shows Flush old new end now bytes → RunsOrder mode honest settings first seen Flush old new end now bytes
-flush_tidied mode b honest b_is s settings s_is shows seen shows_is first st by old new end now bytes one =
-    let of_honest = subst (λ (c : Bool). RunsOrder (untidy mode) c s st shows Flush old new end now bytes) b_is one in
-    let of_settings = subst (λ (t : Settings). RunsOrder (untidy mode) honest t st shows Flush old new end now bytes) s_is of_honest in
-    let own = subst (λ (f : List ℕ). RunsOrder (untidy mode) honest settings st f Flush old new end now bytes) shows_is of_settings in
-    (RunsOrder-tidied mode honest settings by.tidying by.asked first st by.leaves seen old new end now bytes own).0
 
 -- ---- a flush that fails
 
 -- these bytes are read, the store is tidied so, and this fails
 abbrev pub failing_flush : Tidying → List ℕ → Fault → Seen
-failing_flush batches file fault = record { bytes = file; ahead = file; tidying = batches; merged = []; fails = Some fault; told = [] }
+failing_flush batches file fault = record { bytes = file; tidying = batches; rows = []; last = file; merged = []; fails = Some fault; told = [] }
 
 pub after_flush-failing : (settings : Settings) (st : Store) (batches : Tidying) (file : List ℕ) (fault : Fault)
     → after_order settings st (failing_flush batches file fault) Flush ≡ tidied settings batches (st, file)
@@ -299,7 +286,7 @@ pub RunsOrder-late : (mode : Mode) (honest : Bool) (settings : Settings) (st : S
     → RunsOrder mode honest settings st left Flush old new end now bytes
 RunsOrder-late mode honest settings st left old new done end now bytes one (inl e) = rw e one
 RunsOrder-late mode honest settings st left old new done end now bytes (seen, is, runs, leaves) (inr (off, e)) =
-    let lines : List (List ℕ) = own_lines settings st seen (contents st.tree) Flush in
+    let lines : List (List ℕ) = front_lines st seen Flush ++ own_lines settings st seen (contents st.tree) Flush in
     let none = unrefused_by settings st seen Flush mode.stream old new done runs in
     let all = own_all mode.stream old new lines done (own_printed settings st seen Flush mode.stream old new (Ok done) none runs) in (
       seen,
@@ -322,15 +309,15 @@ refused_if r (inl e) failed =
     let no : false ≡ true = subst (λ (x : Result (Unit {0}) SessionError). is_err x ≡ true) e failed in absurd (cc)
 
 -- memory is refused when the store is tidied: the flush is refused, and the store stays as it was tidied
-pub RunsOrder-untidied : (mode : Mode) (honest : Bool) (settings : Settings) (st : Store) (left : List ℕ) (old : Option (List ℕ)) (fault : Fault) → MayFail mode.clean_when_full settings (st, left) Flush fault
-    → (now : Store) → TidiesTo mode settings st now → (bytes : List ℕ) → (IsTrue honest → bytes ≡ left) → RunsOrder mode honest settings st left Flush old old (Err (errors.Fault fault)) now bytes
-RunsOrder-untidied mode honest settings st left old fault may now by bytes same =
-    let at = failing_flush by.tidying left fault in (
+pub RunsOrder-untidied : (mode : Mode) (honest : Bool) (settings : Settings) (st : Store) (left : List ℕ) (old : Option (List ℕ)) (now : Store) → TidiesTo mode settings st now → (bytes : List ℕ)
+    → (IsTrue honest → bytes ≡ left) → RunsOrder mode honest settings st left Flush old old (Err (errors.Fault NoMemory)) now bytes
+RunsOrder-untidied mode honest settings st left old now by bytes same =
+    let at = failing_flush by.tidying left NoMemory in (
       at,
-      (by.asked, may, λ h. (refl, refl)),
-      refused settings st at Flush mode.stream old old fault refl (refusal_of-failing settings st at Flush fault refl),
+      (by.asked, inl refl, failing_cleans honest mode.clean_when_full settings st Flush NoMemory (λ flush. refl) left by.tidying, λ h. (refl, refl)),
+      refused settings st at Flush mode.stream old old refl NoMemory refl (refusal_of-failing settings st at Flush NoMemory refl),
       λ other.
-          LeavesStored-unmoved honest settings st now at Flush fault (refusal_of-failing settings st at Flush fault refl) left (after_flush-failing settings st by.tidying left fault ∙ by.leaves left)
+          LeavesStored-unmoved honest settings st now at Flush NoMemory (refusal_of-failing settings st at Flush NoMemory refl) left (after_flush-failing settings st by.tidying left NoMemory ∙ by.leaves left)
           (held_by settings by.tidying st now by.leaves) now bytes refl same,
     )
 
@@ -375,10 +362,6 @@ module _ (settings : Settings) (st : Store) (tree : Tree) (file : List ℕ) wher
   left-any_tree (Ok p) = refl
   left-any_tree (Err fault) = refl
 
-  refused-any_tree : (r : Result Stored Fault) → refused_by (answering of_clean (retreed_by tree r)) ≡ refused_by (answering of_clean r)
-  refused-any_tree (Ok p) = refl
-  refused-any_tree (Err fault) = refl
-
 step_clean-any_tree : (settings : Settings) (at : Stored) (tree : Tree) → left_by_step settings (retreed tree at) (step_in Clean) ≡ retreed tree (left_by_step settings at (step_in Clean))
 step_clean-any_tree settings at tree =
     ap (λ (r : Result Stored Fault). left_by (with_tree at.0 tree, at.1) (answering of_clean r)) (clean-any_tree settings at.0 tree at.1)
@@ -386,6 +369,15 @@ step_clean-any_tree settings at tree =
 
 step_clean-tree : (settings : Settings) (at : Stored) → (left_by_step settings at (step_in Clean)).0.tree ≡ at.0.tree
 step_clean-tree settings at = ap (λ (q : Stored). q.0.tree) (step_clean-any_tree settings at at.0.tree)
+
+-- so do several
+cleaned-tree : (settings : Settings) (reads : List (List ℕ)) (at : Stored) → (cleaned_by settings reads at).0.tree ≡ at.0.tree
+cleaned-tree settings [] at = refl
+cleaned-tree settings (file ∷ reads) at = cleaned-tree settings reads (left_by_step settings (at.0, file) (step_in Clean)) ∙ step_clean-tree settings (at.0, file)
+
+-- what is held stays in a flush that tidies and cleans
+pub holds-cleaned : (settings : Settings) (seen : Seen) (at : Stored) → contents (cleaned settings seen at).0.tree ≡ contents at.0.tree
+holds-cleaned settings seen at = ap contents (cleaned-tree settings (reads_in seen.rows) (tidied settings seen.tidying at)) ∙ holds-tidied settings seen.tidying at
 
 -- so it makes no difference whether the store is tidied before or after it
 pub tidied-cleaned : (settings : Settings) (batches : Tidying) (at : Stored)
@@ -396,83 +388,3 @@ tidied-cleaned settings batches at =
     ∙ ap (λ (t : Tree). retreed (tidied_tree settings batches t) left) (step_clean-tree settings at)
     ∙ sym (step_clean-any_tree settings at (tidied_tree settings batches at.0.tree))
     ∙ ap (λ (q : Stored). left_by_step settings q (step_in Clean)) (sym (tidied-is settings batches at))
-
-retreed_unless : (tree : Tree) (r : Option Fault) (at done : Stored) → left_unless r (retreed tree at) (retreed tree done) ≡ retreed tree (left_unless r at done)
-retreed_unless tree None at done = refl
-retreed_unless tree (Some fault) at done = refl
-
-module _ (settings : Settings) (st : Store) (seen : Seen) where
-  after_clean-any_tree : (tree : Tree) → after_order settings (with_tree st tree) seen Clean ≡ retreed tree (after_order settings st seen Clean)
-  unfolding after_order
-  after_clean-any_tree tree =
-      let at : Stored = (st, seen.bytes) in
-      ap (λ (done : Stored). left_unless seen.fails (retreed tree at) done) (step_clean-any_tree settings at tree)
-      ∙ retreed_unless tree seen.fails at (left_by_step settings at (step_in Clean))
-
-  refusal_clean-any_tree : (tree : Tree) → refusal_of settings (with_tree st tree) seen Clean ≡ refusal_of settings st seen Clean
-  unfolding refusal_of
-  refusal_clean-any_tree tree =
-      ap (λ (r : Result Stored Fault). option_or seen.fails (refused_by (answering of_clean r))) (clean-any_tree settings st tree seen.bytes)
-      ∙ ap (λ (r : Option Fault). option_or seen.fails r) (refused-any_tree settings st tree seen.bytes (after_clean settings st seen.bytes))
-
-  keeps_tree : (after_order settings st seen Clean).0.tree ≡ st.tree
-  keeps_tree = ap (λ (at : Stored). at.0.tree) (after_clean-any_tree st.tree)
-
-  -- it is refused by its right as a step is, or it finds no memory
-  pub clean_refused : (cleans : Bool) (fault : Fault) → IfSome seen.fails (MayFail cleans settings (st, seen.bytes) Clean) → refusal_of settings st seen Clean ≡ Some fault
-      → (fault ≡ NoMemory) ⊎ (refusal_of_step settings (st, seen.bytes) (step_in Clean) ≡ Some fault)
-  unfolding refusal_of
-  clean_refused cleans fault may some = by seen.fails may some
-    where
-      by : (o : Option Fault) → IfSome o (MayFail cleans settings (st, seen.bytes) Clean) → option_or o (refusal_of_step settings (st, seen.bytes) (step_in Clean)) ≡ Some fault
-          → (fault ≡ NoMemory) ⊎ (refusal_of_step settings (st, seen.bytes) (step_in Clean) ≡ Some fault)
-      by None m e = inr e
-      by (Some other) memory e = let same : other ≡ fault = cc in inl (sym same ∙ memory)
-
--- a clean leaves the map, whether it is refused or not
-map_unless-clean : (r : Option Fault) (m : Rows) → map_unless r m Clean ≡ m
-map_unless-clean None m = refl
-map_unless-clean (Some fault) m = refl
-
--- what a clean of the tidied store prints and leaves, one of the store does, which is tidied then
-module _ (mode : Mode) (honest : Bool) (settings : Settings) (batches : Tidying) (under st : Store) (are : IsTidiedBy settings batches under st) (left : List ℕ) (old new : Option (List ℕ))
-    (end : Result (Unit {0}) SessionError) (now : Store) (bytes : List ℕ) where
-  -- with the log of the store, and the tree of the tidied one
-  abbrev with_its_tree : Store
-  with_its_tree = with_tree under st.tree
-
-  leaves_under : (seen : Seen) → LeavesStored honest settings with_its_tree seen Clean now bytes → LeavesStored honest settings under seen Clean (after_order settings under seen Clean).0 bytes
-  leaves_under seen leaves = record {
-    store = refl;
-    bytes = λ h. leaves.bytes h ∙ ap (λ (at : Stored). at.1) (after_clean-any_tree settings under seen st.tree);
-    holds = ap contents (keeps_tree settings under seen) ∙ sym (map_unless-clean (refusal_of settings under seen Clean) (contents under.tree));
-  }
-
-  tidied_under : (seen : Seen) → LeavesStored honest settings with_its_tree seen Clean now bytes → IsTidiedBy settings batches (after_order settings under seen Clean).0 now
-  tidied_under seen leaves file =
-      let cleaned : Store = (after_order settings under seen Clean).0 in
-      let now_is : now ≡ with_tree cleaned st.tree = leaves.store ∙ ap (λ (at : Stored). at.0) (after_clean-any_tree settings under seen st.tree) in
-      tidied-is settings batches (cleaned, file)
-      ∙ ap (λ (t : Tree). retreed (tidied_tree settings batches t) (cleaned, file)) (keeps_tree settings under seen)
-      ∙ ap (λ (t : Tree). retreed t (cleaned, file)) (tree_by settings batches under st are)
-      ∙ ap (λ (s : Store). (let at : Stored = (s, file) in at)) (sym now_is)
-
-  by_its_tree : RunsOrder mode honest settings with_its_tree left Clean old new end now bytes
-      → (cleaned : Store) × RunsOrder mode honest settings under left Clean old new end cleaned bytes × (end ≢ Err errors.Device → IsTidiedBy settings batches cleaned now)
-  by_its_tree (seen, is, runs, leaves) =
-      let refused_so = sym (refusal_clean-any_tree settings under seen st.tree) in
-      let lines = ap (λ (at : Stored). shown_cleaned at.0.head ∷ []) (sym (after_clean-any_tree settings under seen st.tree)) in (
-        (after_order settings under seen Clean).0,
-        (
-          seen,
-          is,
-          Runs-alike settings under with_its_tree seen seen Clean refused_so lines mode.stream old new end runs,
-          λ other. leaves_under seen (leaves other),
-        ),
-        λ other. tidied_under seen (leaves other),
-      )
-
-  pub clean_under : RunsOrder mode honest settings st left Clean old new end now bytes
-      → (cleaned : Store) × RunsOrder mode honest settings under left Clean old new end cleaned bytes × (end ≢ Err errors.Device → IsTidiedBy settings batches cleaned now)
-  clean_under one =
-      by_its_tree (subst (λ (s : Store). RunsOrder mode honest settings s left Clean old new end now bytes) (under_its_tree settings batches under st are) one)

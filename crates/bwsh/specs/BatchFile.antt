@@ -129,11 +129,6 @@ abbrev pub line_writes : Line → Bool
 line_writes (line_variants.Order order) = writes order
 line_writes _ = false
 
--- the order is a flush
-abbrev pub is_flush : Order → Bool
-is_flush Flush = true
-is_flush _ = false
-
 -- the order is a batch
 abbrev pub IsBatch : Order → Type 0
 IsBatch (Batch commands) = ⊤
@@ -143,11 +138,6 @@ IsBatch _ = ⊥
 abbrev pub IsNoClean : Order → Type 0
 IsNoClean Clean = ⊥
 IsNoClean _ = ⊤
-
--- the same as a test
-abbrev pub cleans_nothing : Order → Bool
-cleans_nothing Clean = false
-cleans_nothing _ = true
 
 -- the line orders nothing but batches
 abbrev pub IsForBatches : Line → Type 0

@@ -1,5 +1,5 @@
 -- What a session starts on, what it runs and answers, and how it ends.
-use Rattle.std.specs.Prelude.{◌≡◌, ◌≢◌, ◌⊎◌, ◌+◌, ◌-◌, ◌&&◌, ◌||◌, nat_eq, ℕ, zero, suc, max, ◌/◌, Bool, not, true, false, IsTrue, ⊤, List, [], ◌∷◌, ◌++◌, map, take, is_some, codes, replicate, if◌then◌else◌, unwrap_or, Option, Some, None, IfSome, Result, Ok, Err, IfOk, IfErr, OnOk}
+use Rattle.std.specs.Prelude.{◌≡◌, ◌≢◌, ◌⊎◌, ◌+◌, ◌-◌, ◌&&◌, ℕ, zero, suc, Bool, true, false, IsTrue, ⊤, List, [], ◌∷◌, ◌++◌, map, take, is_none, is_some, codes, replicate, if◌then◌else◌, unwrap_or, Option, Some, None, IfSome, Result, Ok, Err, IfOk, IfErr, OnOk}
 use Rattle.std.specs.Bool.{MatchBool}
 use Rattle.std.specs.Option.{option_map, option_or}
 use Rattle.std.specs.Str.{bytes_eq}
@@ -22,17 +22,15 @@ use Rattle.mapping.specs.Levels.{contents}
 use Rattle.scan.specs.Back.{rows_back}
 use Rattle.scan.specs.Prefix.{with_prefix}
 use Rattle.verify.specs.Report.{report}
-use Rattle.cleaner.specs.PagesRead.{PagesRead}
 use Rattle.flush_log.specs.Disk.{View}
-use Rattle.flush_log.specs.FlushText.{flush_text}
 use Rattle.flush_log.specs.NewStore.{disk_of_new}
 use Rattle.flush_log.specs.Segments.{disk_size, last_segment}
 use Rattle.recovery.specs.StoreOfDisk.{first_store, store_of_disk}
 use Rattle.engine.specs.Batches.{tree_in_turn}
 use Rattle.engine.specs.Compacted.{compacted}
 use Rattle.engine.specs.Copies.{IsFilledFault, IsPutFault}
-use Rattle.engine.specs.Cleans.{IsReadFor}
-use Rattle.engine.specs.Room.{is_bloated, is_overfull, is_tight, is_worth, live_known}
+use Rattle.engine.specs.Cleaning.{CleanRow, AreRows, IsCalm, NoneFollow, count_of, reads_in}
+use Rattle.engine.specs.Room.{is_bloated}
 use Rattle.engine.specs.State.{State}
 use Rattle.engine.specs.Steps.{Step, Stepped, batching, after_step}
 use Rattle.engine.specs.Tidied.{counted_pages, IsTidyFault}
@@ -45,7 +43,7 @@ use Rattle.bwsh.specs.declared.session.SessionError.{SessionError}
 use Rattle.bwsh.specs.declared.session.SessionError.TheVariants.{Words, Bad, Device}
 use Rattle.bwsh.specs.declared.session.SessionError.TheVariants as errors
 use Rattle.bwsh.specs.declared.show.StoreNumbers.{StoreNumbers}
-use Rattle.bwsh.specs.BatchFile.{AreRead, IsNoClean, IsReadError, first_bad, orders_in, parse_text}
+use Rattle.bwsh.specs.BatchFile.{AreRead, IsReadError, first_bad, orders_in, parse_text}
 use Rattle.bwsh.specs.Line.{why_text}
 use Rattle.bwsh.specs.Options.{Text, Request, AsksFor, AsksForReports, AsksForText, AsksToExplain, AreRefused, copy_of}
 use Rattle.bwsh.specs.Output.{BeginsWith, IsBegun}
@@ -163,21 +161,22 @@ compacting = record { batches = []; compacts = true }
 abbrev pub no_tidying : Tidying
 no_tidying = record { batches = []; compacts = false }
 
--- What is seen at an order: what a read of the disk gives that the order makes, what a reading of the log gives that decides on cleans before
--- it, and how the store is tidied before it, if it is a flush. At a clean this is how it is tidied before the flush for which the clean makes
--- room. Then by which batches the store is tidied, if the order asks for that; for which fault it fails, if it does, that isn't the store's own:
--- it finds no memory, or the file of a copy fails; and what is told of its refusal, if it is refused.
+-- What is seen at an order: what a read of the disk gives that the order makes; how the store is tidied before it, if it is a flush; the rows of cleans
+-- that are done in front of it, then, the last one first, each with what it reads; and what a read of the disk gives after them. Then by which batches
+-- the store is tidied, if the order asks for that; for which fault it fails, if it does, that isn't the store's own: it finds no memory, a clean is
+-- refused, or the file of a copy fails; and what is told of its refusal, if it is refused.
 pub record Seen : Type 0 where
   pub bytes : Bytes
-  pub ahead : Bytes
   pub tidying : Tidying
+  pub rows : List CleanRow
+  pub last : Bytes
   pub merged : Batches
   pub fails : Option Fault
   pub told : Bytes
 
--- these bytes, where nothing is tidied and nothing fails
+-- these bytes, where nothing is tidied or cleaned and nothing fails
 abbrev pub untidied : Bytes → Seen
-untidied file = record { bytes = file; ahead = file; tidying = no_tidying; merged = []; fails = None; told = [] }
+untidied file = record { bytes = file; tidying = no_tidying; rows = []; last = file; merged = []; fails = None; told = [] }
 
 -- what is seen at each order, counted from 0
 abbrev pub Reads : Type 0
@@ -241,13 +240,22 @@ tidied_tree settings tidying t = compacted_if tidying.compacts settings (tree_of
 abbrev pub tidied : Settings → Tidying → Stored → Stored
 tidied settings tidying at = (with_tree at.0 (tidied_tree settings tidying at.0.tree), at.1)
 
--- what it leaves before an order: before a flush the store is tidied, and by an order that asks for it
-abbrev pub tidied_before : Order → Settings → Seen → Stored → Stored
-tidied_before Flush settings seen at = tidied settings seen.tidying at
-tidied_before (Tidy most) settings seen at = tidied settings (by_batches seen.merged) at
-tidied_before _ settings seen at = at
+-- what cleans that read these bytes, one after the other, leave of what is stored
+abbrev pub cleaned_by : Settings → List Bytes → Stored → Stored
+cleaned_by settings [] at = at
+cleaned_by settings (file ∷ reads) at = cleaned_by settings reads (left_by_step settings (at.0, file) (Some Step.Clean))
 
--- why a store that was tidied for the order refuses it by its right, if it does; a batch that lost a line is refused for want of memory
+-- what is tidied and then cleaned, as is seen at a flush
+abbrev pub cleaned : Settings → Seen → Stored → Stored
+cleaned settings seen at = cleaned_by settings (reads_in seen.rows) (tidied settings seen.tidying at)
+
+-- what an order finds: before a flush the store is tidied and cleaned, and by an order that asks for it the store is tidied
+abbrev pub readied : Order → Settings → Seen → Stored → Stored
+readied Flush settings seen at = ((cleaned settings seen at).0, seen.last)
+readied (Tidy most) settings seen at = tidied settings (by_batches seen.merged) at
+readied _ settings seen at = at
+
+-- why a store that was readied for the order refuses it by its right, if it does; a batch that lost a line is refused for want of memory
 abbrev pub own_refusal : Settings → Stored → Order → Option Fault
 own_refusal settings at Lost = Some NoMemory
 own_refusal settings at order = refusal_of_step settings at (step_in order)
@@ -257,15 +265,15 @@ abbrev pub left_unless : Option Fault → Stored → Stored → Stored
 left_unless None at done = done
 left_unless (Some fault) at done = at
 
--- what an order leaves of a store at which this is seen; one that is refused leaves the store as it was tidied for it
+-- what an order leaves of a store at which this is seen; one that is refused leaves the store as it was readied for it
 unfoldable pub after_order : Settings → Store → Seen → Order → Stored
 after_order settings st seen order =
-    left_unless seen.fails (tidied_before order settings seen (st, seen.bytes))
-    (left_by_step settings (tidied_before order settings seen (st, seen.bytes)) (step_in order))
+    left_unless seen.fails (readied order settings seen (st, seen.bytes))
+    (left_by_step settings (readied order settings seen (st, seen.bytes)) (step_in order))
 
 -- why the order is refused, where this is seen, if it is
 unfoldable pub refusal_of : Settings → Store → Seen → Order → Option Fault
-refusal_of settings st seen order = option_or seen.fails (own_refusal settings (tidied_before order settings seen (st, seen.bytes)) order)
+refusal_of settings st seen order = option_or seen.fails (own_refusal settings (readied order settings seen (st, seen.bytes)) order)
 
 -- the map that an order leaves
 abbrev pub map_after : Pairs Bytes → Order → Pairs Bytes
@@ -308,12 +316,22 @@ own_lines settings st seen m (Back lo hi limit) = shown_rows (rows_back lo hi li
 own_lines settings st seen m (Prefix bytes limit) = shown_rows (take limit (with_prefix bytes m)) ∷ []
 own_lines settings st seen m Help = help_lines ∷ []
 
+-- the lines of so many cleans of a log whose first segment has this number: of each the number of the first segment that it leaves
+abbrev pub head_lines : ℕ → ℕ → List Bytes
+head_lines head zero = []
+head_lines head (suc count) = shown_cleaned (suc head) ∷ head_lines (suc head) count
+
+-- the lines of the cleans in front of a flush; they are printed even if it is refused
+abbrev pub front_lines : Store → Seen → Order → List Bytes
+front_lines st seen Flush = head_lines st.head (count_of seen.rows)
+front_lines st seen _ = []
+
 -- the lines that orders answer one after the other, of a store at which this is seen at each; each leaves its store and its
 -- map to the next
 abbrev pub answer_lines : Settings → Store → Reads → Pairs Bytes → List Order → List Bytes
 answer_lines settings st shown m [] = []
 answer_lines settings st shown m (order ∷ rest) =
-    own_lines settings st (shown 0) m order
+    front_lines st (shown 0) order ++ own_lines settings st (shown 0) m order
     ++ answer_lines settings (after_order settings st (shown 0) order).0 (later shown) (map_after m order) rest
 
 -- the text of these lines
@@ -333,17 +351,25 @@ accepted settings st shown (order ∷ rest) =
     if is_some (refusal_of settings st (shown 0) order) then []
     else order ∷ accepted settings (after_order settings st (shown 0) order).0 (later shown) rest
 
--- what answers an order that is refused so, or isn't, and those after it: where a session goes on after a refusal it is one line
-abbrev pub answer_then : Bool → Option Fault → Bytes → List Bytes → List Bytes → List Bytes
-answer_then on None told own rest = own ++ rest
-answer_then true (Some fault) told own rest = fault_line told ∷ rest
-answer_then false (Some fault) told own rest = []
+-- the lines of the cleans in front of the order that is refused, if one is
+abbrev pub front_of_refused : Settings → Store → Reads → List Order → List Bytes
+front_of_refused settings st shown [] = []
+front_of_refused settings st shown (order ∷ rest) =
+    if is_some (refusal_of settings st (shown 0) order) then front_lines st (shown 0) order
+    else front_of_refused settings (after_order settings st (shown 0) order).0 (later shown) rest
+
+-- What answers an order that is refused so, or isn't, and those after it, with the lines of the cleans in front of it: where a session goes on after a
+-- refusal it is one line more.
+abbrev pub answer_then : Bool → Option Fault → Bytes → List Bytes → List Bytes → List Bytes → List Bytes
+answer_then on None told front own rest = front ++ own ++ rest
+answer_then true (Some fault) told front own rest = front ++ fault_line told ∷ rest
+answer_then false (Some fault) told front own rest = front
 
 -- what answers these orders, of a session that goes on after a refusal or ends at the first one
 abbrev pub answered : Bool → Settings → Store → Reads → Pairs Bytes → List Order → List Bytes
 answered on settings st shown m [] = []
 answered on settings st shown m (order ∷ rest) =
-    answer_then on (refusal_of settings st (shown 0) order) (shown 0).told (own_lines settings st (shown 0) m order)
+    answer_then on (refusal_of settings st (shown 0) order) (shown 0).told (front_lines st (shown 0) order) (own_lines settings st (shown 0) m order)
     (answered on settings (after_order settings st (shown 0) order).0 (later shown) (map_unless (refusal_of settings st (shown 0) order) m order) rest)
 
 -- the map that these orders leave, whichever are refused
@@ -357,109 +383,21 @@ abbrev pub map_kept_from : Start → Reads → List Order → Pairs Bytes
 map_kept_from (Ok p) shown orders = map_kept p.0 p.1.0 shown (contents p.1.0.tree) orders
 map_kept_from (Err fault) shown orders = []
 
--- it is refused since the log is full
-abbrev pub is_full : Option Fault → Bool
-is_full (Some Full) = true
-is_full _ = false
-
 -- a clean that is refused so makes no room for a flush: the log is full for it, too, or there is nothing to clean
 abbrev pub makes_no_room : Option Fault → Bool
 makes_no_room (Some Full) = true
 makes_no_room (Some NothingToClean) = true
 makes_no_room _ = false
 
--- a store, at which this is seen, can be cleaned; where a clean is refused, it makes no room, or the flush for which it is run fails as it does
-abbrev pub can_clean : Settings → Store → Seen → Bool
-can_clean settings st seen = not (is_some (refusal_of settings st seen Clean))
-
--- how many cleans are run in a row before a flush is tried again, in a log of this many segments: an eighth of them, and at least one
-abbrev pub row_of_cleans : ℕ → ℕ
-row_of_cleans segments = max 1 (segments / 8)
-
--- cleans are worth a row of them, where a sound log has these live bytes
-abbrev pub are_worth : Settings → Store → Option ℕ → Bool
-are_worth settings st None = false
-are_worth settings st (Some live) = is_worth settings st live
-
--- no cleans make room for a flush, where a sound log has these live bytes
-abbrev pub is_hopeless : Settings → Store → Option ℕ → Bool
-is_hopeless settings st None = false
-is_hopeless settings st (Some live) = is_overfull settings st live
-
--- the list has nothing
-abbrev pub is_nil : {X : Type 0} → List X → Bool
-is_nil [] = true
-is_nil (x ∷ xs) = false
-
--- a flush of the store would write something
-abbrev pub is_unwritten : Store → Bool
-is_unwritten st = not (is_nil (flush_text st.version st.tree))
-
--- cleans may make room for the flush, as far as the live bytes of the log say
-abbrev pub may_help : Settings → Store → Option ℕ → Bool
-may_help settings st live = not (is_hopeless settings st live)
-
--- A row of cleans is run at once, before the flush of a tidied store that has this number of cleans left in front of it: none was run yet, few
--- segments are free, the flush writes something, the row is worth it by the live bytes of the log, and cleans may help.
-abbrev pub is_early : ℕ → Settings → Store → Option ℕ → Bool
-is_early most settings st live = nat_eq most settings.segments && is_tight settings st && is_unwritten st && are_worth settings st live && may_help settings st live
-
--- the store that is tidied as is seen at a flush
-abbrev pub prepared : Settings → Store → Seen → Store
-prepared settings st seen = (tidied settings seen.tidying (st, seen.bytes)).0
-
--- what there is for a clean in front of a flush that is tried next, which has this number of cleans left in front of it
-abbrev pub has_reason : ℕ → Settings → Store → Seen → Bool
-has_reason most settings st seen =
-    is_early most settings (prepared settings st seen) (live_known settings (prepared settings st seen) seen.ahead)
-    || (is_full (refusal_of settings st seen Flush) && may_help settings (prepared settings st seen) (live_known settings (prepared settings st seen) seen.ahead))
-
--- A flush of a store, at which this is seen, with at most the first number of cleans in front of it, takes one, where the second number is how
--- many are still to be run before the flush is tried. There is room to be made; and where the flush is tried now, there is a reason for it: a row
--- is run at once, or the log is full for the flush of the tidied store and cleans can help.
-abbrev pub wants_clean : ℕ → ℕ → Settings → Store → Seen → Bool
-wants_clean most zero settings st seen = can_clean settings st seen && has_reason most settings st seen
-wants_clean most (suc row) settings st seen = can_clean settings st seen
-
--- how many are to be run after that one
-abbrev pub row_after : ℕ → Settings → ℕ
-row_after zero settings = row_of_cleans settings.segments - 1
-row_after (suc row) settings = row
-
--- A flush with as many cleans in front of it as it takes, and then what is run on what they leave. It takes at most the first number, and the second
--- says how many of them are to be run before the flush is tried.
-abbrev pub flush_with_room : ℕ → ℕ → Settings → Store → Reads → (Store → Reads → List Order) → List Order
-flush_with_room zero row settings st shown next = Flush ∷ next (after_order settings st (shown 0) Flush).0 (later shown)
-flush_with_room (suc most) row settings st shown next =
-    if wants_clean (suc most) row settings st (shown 0)
-    then Clean ∷ flush_with_room most (row_after row settings) settings (after_order settings st (shown 0) Clean).0 (later shown) next
-    else Flush ∷ next (after_order settings st (shown 0) Flush).0 (later shown)
-
--- orders with the cleans among them that make room for their flushes: in front of each as many as it takes, at most one a segment
-abbrev pub with_cleans : Settings → Store → Reads → List Order → List Order
-with_cleans settings st shown [] = []
-with_cleans settings st shown (Flush ∷ rest) = flush_with_room settings.segments 0 settings st shown (λ now reads. with_cleans settings now reads rest)
-with_cleans settings st shown (order ∷ rest) = order ∷ with_cleans settings (after_order settings st (shown 0) order).0 (later shown) rest
-
--- what is run of orders: themselves; or, where a flush makes itself room, with these cleans among them
-abbrev pub run_of : Bool → Settings → Store → Reads → List Order → List Order
-run_of false settings st shown orders = orders
-run_of true settings st shown orders = with_cleans settings st shown orders
-
--- the same from this start
-abbrev pub run_from : Bool → Start → Reads → List Order → List Order
-run_from cleans (Ok p) shown orders = run_of cleans p.0 p.1.0 shown orders
-run_from cleans (Err fault) shown orders = orders
-
--- these bytes are read at an order and ahead of it
-abbrev pub IsLeft : Bytes → Seen → Type 0
-IsLeft file seen = (seen.bytes ≡ file) × (seen.ahead ≡ file)
+-- these bytes are read at an order of this store, and after the cleans in front of it what they leave
+abbrev pub IsLeft : Settings → Store → Bytes → Seen → Type 0
+IsLeft settings st file seen = (seen.bytes ≡ file) × (seen.last ≡ (cleaned settings seen (st, seen.bytes)).1)
 
 -- the disk shows what was left, before each of these orders: these bytes before the first
 abbrev pub AreLeft : Settings → Store → Bytes → Reads → List Order → Type 0
 AreLeft settings st file shown [] = ⊤
 AreLeft settings st file shown (order ∷ rest) =
-    IsLeft file (shown 0) × AreLeft settings (after_order settings st (shown 0) order).0 (after_order settings st (shown 0) order).1 (later shown) rest
+    IsLeft settings st file (shown 0) × AreLeft settings (after_order settings st (shown 0) order).0 (after_order settings st (shown 0) order).1 (later shown) rest
 
 -- the same from this start
 abbrev pub AreLeftFrom : Start → Reads → List Order → Type 0
@@ -474,20 +412,15 @@ AreUntidied shown = (i : ℕ) → (shown i).tidying ≡ no_tidying
 abbrev pub IsAsked : Mode → Tidying → Type 0
 IsAsked mode tidying = (mode.tidy ≡ 0 → tidying.batches ≡ []) × (mode.clean_when_full ≡ false → tidying.compacts ≡ false)
 
--- stores are tidied in the same way, and fail in the same way
+-- stores are tidied and cleaned in the same way, and fail in the same way
 abbrev pub AreSeenAlike : Reads → Reads → Type 0
 AreSeenAlike shown other =
-    (i : ℕ) → ((shown i).tidying ≡ (other i).tidying) × ((shown i).merged ≡ (other i).merged)
+    (i : ℕ) → ((shown i).tidying ≡ (other i).tidying) × ((shown i).rows ≡ (other i).rows) × ((shown i).merged ≡ (other i).merged)
     × ((shown i).fails ≡ (other i).fails) × ((shown i).told ≡ (other i).told)
 
--- a flush and the cleans that make room for it are of a store that is tidied once: at a clean the same is seen of it as at the next order
-abbrev pub AreTidiedOnce : Reads → List Order → Type 0
-AreTidiedOnce shown [] = ⊤
-AreTidiedOnce shown (order ∷ rest) = (IsNoClean order ⊎ ((shown 0).tidying ≡ (later shown 0).tidying)) × AreTidiedOnce (later shown) rest
-
--- a store is tidied only as it is asked for, and once for each flush
-abbrev pub TidiesBy : Mode → Reads → List Order → Type 0
-TidiesBy mode shown orders = ((i : ℕ) → IsAsked mode (shown i).tidying) × AreTidiedOnce shown orders
+-- a store is tidied only as it is asked for
+abbrev pub TidiesBy : Mode → Reads → Type 0
+TidiesBy mode shown = (i : ℕ) → IsAsked mode (shown i).tidying
 
 -- a store becomes another one, which was tidied so, in such ways
 pub record TidiesTo (mode : Mode) (settings : Settings) (old now : Store) : Type 0 where
@@ -507,13 +440,15 @@ IsCopyRefusal settings m fault = IsPutFault settings m fault ⊎ IsFilledFault s
 abbrev pub copy_settings : Settings → Option ℕ → Settings
 copy_settings settings segments = record settings { segments = unwrap_or segments settings.segments }
 
--- why an order of what is stored can fail, where flushes make themselves room or don't: it finds no memory; or it is a flush, and a clean in front of it is
--- refused so; or it is a copy, which is refused, or whose file fails; or the store can't be tidied. A bad line and the lines of help need nothing.
+-- why an order of what was readied for it can fail, where flushes make themselves room or don't: it finds no memory; or it is a flush that finds the log
+-- full, and one more clean in front of it is refused so; or it is a copy, which is refused, or whose file fails; or the store can't be tidied. A bad line
+-- and the lines of help need nothing.
 abbrev pub MayFail : Bool → Settings → Stored → Order → Fault → Type 0
 MayFail cleans settings at (BadLine line why) fault = ⊥
 MayFail cleans settings at Help fault = ⊥
 MayFail cleans settings at Flush fault =
-    (fault ≡ NoMemory) ⊎ ((cleans ≡ true) × (makes_no_room (Some fault) ≡ false) × (refusal_of_step settings at (Some Step.Clean) ≡ Some fault))
+    (fault ≡ NoMemory)
+    ⊎ ((cleans ≡ true) × (makes_no_room (Some fault) ≡ false) × (refusal_of_step settings at (Some Step.Flush) ≡ Some Full) × (refusal_of_step settings at (Some Step.Clean) ≡ Some fault))
 MayFail cleans settings at (Copy path segments) fault =
     (fault ≡ NoMemory) ⊎ (fault ≡ faults.Device) ⊎ IsCopyRefusal (copy_settings settings segments) (contents at.0.tree) fault
     ⊎ ((field : Field) × (first_bad_field (copy_settings settings segments) ≡ Some field) × (fault ≡ BadSettings field))
@@ -524,17 +459,48 @@ MayFail cleans settings at order fault = fault ≡ NoMemory
 abbrev pub AreFailing : Bool → Settings → Store → Reads → List Order → Type 0
 AreFailing cleans settings st shown [] = ⊤
 AreFailing cleans settings st shown (order ∷ rest) =
-    IfSome (shown 0).fails (MayFail cleans settings (st, (shown 0).bytes) order) × AreFailing cleans settings (after_order settings st (shown 0) order).0 (later shown) rest
+    IfSome (shown 0).fails (MayFail cleans settings (readied order settings (shown 0) (st, (shown 0).bytes)) order) × AreFailing cleans settings (after_order settings st (shown 0) order).0 (later shown) rest
 
 -- the same from this start
 abbrev pub AreFailingFrom : Bool → Start → Reads → List Order → Type 0
 AreFailingFrom cleans (Ok p) shown orders = AreFailing cleans p.0 p.1.0 shown orders
 AreFailingFrom cleans (Err fault) shown orders = ⊤
 
+-- it fails for want of memory
+abbrev pub finds_no_memory : Option Fault → Bool
+finds_no_memory (Some NoMemory) = true
+finds_no_memory _ = false
+
+-- Rows of cleans of this tidied store lead to this cleaned one, as `flush_cleaning` does them. Only if the flush finds no memory, the last row may be
+-- cut short. Else, with no row none is early; and if the flush does not fail, it finds the log full only if no more cleans may follow, or could help.
+abbrev pub AreRight : Bool → Settings → Store → Store → Seen → Type 0
+AreRight honest settings st now seen =
+    AreRows honest (finds_no_memory seen.fails) settings st seen.bytes seen.rows now seen.last
+    × (finds_no_memory seen.fails ≡ false → seen.rows ≡ [] → IsCalm honest settings st seen.bytes)
+    × (seen.fails ≡ None → refusal_of_step settings (now, seen.last) (Some Step.Flush) ≡ Some Full → NoneFollow honest settings seen.rows now seen.last)
+
+-- these cleans can be seen in front of an order: none, except in front of a flush, where flushes make themselves room
+abbrev pub AreCleansOf : Bool → Bool → Settings → Store → Order → Seen → Type 0
+AreCleansOf honest true settings st Flush seen =
+    AreRight honest settings (tidied settings seen.tidying (st, seen.bytes)).0 (cleaned settings seen (st, seen.bytes)).0 seen
+AreCleansOf honest cleans settings st order seen = seen.rows ≡ []
+
+-- in front of each of these orders
+abbrev pub AreCleaning : Bool → Bool → Settings → Store → Reads → List Order → Type 0
+AreCleaning honest cleans settings st shown [] = ⊤
+AreCleaning honest cleans settings st shown (order ∷ rest) =
+    AreCleansOf honest cleans settings st order (shown 0) × AreCleaning honest cleans settings (after_order settings st (shown 0) order).0 (later shown) rest
+
+-- the same from this start
+abbrev pub AreCleaningFrom : Bool → Bool → Start → Reads → List Order → Type 0
+AreCleaningFrom honest cleans (Ok p) shown orders = AreCleaning honest cleans p.0 p.1.0 shown orders
+AreCleaningFrom honest cleans (Err fault) shown orders = ⊤
+
 -- this can be seen at each of these orders, where the words give this: the disk shows in memory what was left, in a file anything
 abbrev pub IsShown : Request → Start → Reads → List Order → Type 0
 IsShown request start shown orders =
-    TidiesBy request.mode shown orders × AreFailingFrom request.mode.clean_when_full start shown orders × (request.disk ≡ None → AreLeftFrom start shown orders)
+    TidiesBy request.mode shown × AreFailingFrom request.mode.clean_when_full start shown orders
+    × AreCleaningFrom (is_none request.disk) request.mode.clean_when_full start shown orders × (request.disk ≡ None → AreLeftFrom start shown orders)
 
 -- an end for this reason, or with all done
 abbrev pub stopped_by : Option SessionError → Result (Unit {0}) SessionError
@@ -556,10 +522,9 @@ abbrev pub lines_from : Bool → Start → Reads → List Order → List Bytes
 lines_from on (Err fault) shown orders = []
 lines_from on (Ok p) shown orders = answered on p.0 p.1.0 shown (contents p.1.0.tree) orders
 
--- the orders of a session of lines that say this and that starts so, with the numbers, where the words ask for them, and the cleans among them that
--- make room for flushes, where they ask for these
-abbrev pub session_orders : Request → Start → Reads → List Line → List Order
-session_orders request start shown parsed = run_from request.mode.clean_when_full start shown (orders_in request.mode.stream request.mode.stat parsed)
+-- the orders of a session of lines that say this, with the numbers, where the words ask for them
+abbrev pub session_orders : Request → List Line → List Order
+session_orders request parsed = orders_in request.mode.stream request.mode.stat parsed
 
 -- known bytes grow by a beginning of what is reported of this end, where a clause can say what that is, and of this after it
 abbrev pub IsReportedWith : Bytes → Result (Unit {0}) SessionError → Option Bytes → Option Bytes → Type 0
@@ -635,25 +600,25 @@ PrintsOwn on old new lines right end =
 -- so it is for this order of a store of these settings, at which this is seen, in a stream or not: a refusal is an end
 unfoldable pub RunsAlone : Bool → Settings → Store → Seen → Order → Option Bytes → Option Bytes → Result (Unit {0}) SessionError → Type 0
 RunsAlone on settings st seen order old new end =
-    PrintsOwn on old new (answer_then false (refusal_of settings st seen order) seen.told (own_lines settings st seen (contents st.tree) order) [])
+    PrintsOwn on old new (answer_then false (refusal_of settings st seen order) seen.told (front_lines st seen order) (own_lines settings st seen (contents st.tree) order) [])
     (stopped_by (option_map (λ fault. errors.Fault fault) (refusal_of settings st seen order))) end
 
 -- this can be seen at each of these orders, in such ways: the disk shows, if it is honest, what was left, and these bytes before the first
 abbrev pub AreSeen : Mode → Bool → Settings → Store → Bytes → Reads → List Order → Type 0
 AreSeen mode honest settings st left shown orders =
-    TidiesBy mode shown orders × AreFailing mode.clean_when_full settings st shown orders × (IsTrue honest → AreLeft settings st left shown orders)
+    TidiesBy mode shown × AreFailing mode.clean_when_full settings st shown orders × AreCleaning honest mode.clean_when_full settings st shown orders
+    × (IsTrue honest → AreLeft settings st left shown orders)
 
 -- where they end so with all done, this is the map that they leave
 abbrev pub LeavesMap : Settings → Store → Reads → List Order → Result (Unit {0}) SessionError → Pairs Bytes → Type 0
 LeavesMap settings st shown orders end held = OnOk end (held ≡ map_kept settings st shown (contents st.tree) orders)
 
--- so it is in such ways, in which flushes make themselves room or don't, where some such reads are seen at each order that is run; and where all is
+-- so it is in such ways, where some such reads are seen at each order that is run; and where all is
 -- done, this map is left
 abbrev pub RunsOn : Mode → Bool → Settings → Store → Bytes → List Order → Option Bytes → Option Bytes → Result (Unit {0}) SessionError → Pairs Bytes → Type 0
 RunsOn mode honest settings st left orders old new end held =
-    (shown : Reads) × AreSeen mode honest settings st left shown (run_of mode.clean_when_full settings st shown orders)
-    × Runs mode.stream mode.stream settings st shown (run_of mode.clean_when_full settings st shown orders) old new end
-    × LeavesMap settings st shown (run_of mode.clean_when_full settings st shown orders) end held
+    (shown : Reads) × AreSeen mode honest settings st left shown orders × Runs mode.stream mode.stream settings st shown orders old new end
+    × LeavesMap settings st shown orders end held
 
 -- what these orders print after the line that answers a refusal of which this is told, and how they end, is right but for memory and devices
 unfoldable pub RunsAfter : Bytes → Bool → Settings → Store → Reads → List Order → Option Bytes → Option Bytes → Result (Unit {0}) SessionError → Type 0
@@ -663,9 +628,8 @@ RunsAfter told on settings st shown orders old new end =
 -- the same of that line and of what comes after it
 abbrev pub RunsTold : Bytes → Mode → Bool → Settings → Store → Bytes → List Order → Option Bytes → Option Bytes → Result (Unit {0}) SessionError → Pairs Bytes → Type 0
 RunsTold told mode honest settings st left orders old new end held =
-    (shown : Reads) × AreSeen mode honest settings st left shown (run_of mode.clean_when_full settings st shown orders)
-    × RunsAfter told mode.stream settings st shown (run_of mode.clean_when_full settings st shown orders) old new end
-    × LeavesMap settings st shown (run_of mode.clean_when_full settings st shown orders) end held
+    (shown : Reads) × AreSeen mode honest settings st left shown orders × RunsAfter told mode.stream settings st shown orders old new end
+    × LeavesMap settings st shown orders end held
 
 -- the same, where it ends with all done and this store is left
 abbrev pub RunsAll : Mode → Bool → Settings → Store → Bytes → List Order → Option Bytes → Option Bytes → Result (Unit {0}) SessionError → Store → Type 0
@@ -680,7 +644,8 @@ pub record LeavesStored (honest : Bool) (settings : Settings) (st : Store) (seen
 -- this can be seen at an order of a store, in such ways: the disk shows, if it is honest, these bytes
 abbrev pub IsSeen : Mode → Bool → Settings → Store → Bytes → Order → Seen → Type 0
 IsSeen mode honest settings st left order seen =
-    IsAsked mode seen.tidying × IfSome seen.fails (MayFail mode.clean_when_full settings (st, seen.bytes) order) × (IsTrue honest → IsLeft left seen)
+    IsAsked mode seen.tidying × IfSome seen.fails (MayFail mode.clean_when_full settings (readied order settings seen (st, seen.bytes)) order)
+    × AreCleansOf honest mode.clean_when_full settings st order seen × (IsTrue honest → IsLeft settings st left seen)
 
 -- What one order prints, and how it ends, is right but for devices, where something is seen that can be, in such ways: a refusal is an end. Unless a
 -- device fails it leaves this store, and on an honest disk the bytes that come last.
@@ -721,79 +686,19 @@ abbrev pub RunsAsk : Mode → Bool → Settings → Store → Bytes → List Ord
 RunsAsk mode honest settings st left orders old new (Ok done) now bytes = GoesOn mode honest settings st left orders old new now bytes
 RunsAsk mode honest settings st left orders old new (Err early) now bytes = (mode.stream ≡ true → early ≡ Device) × Stops mode honest settings st left orders old new early
 
--- what is run of a flush, with at most this many cleans in front of it, of which this many are to be run before it is tried, and of these orders
-abbrev pub with_room : ℕ → ℕ → Settings → Store → Reads → List Order → List Order
-with_room most row settings st shown rest = flush_with_room most row settings st shown (λ now reads. with_cleans settings now reads rest)
-
--- what is printed of that, and how it ends, is right but for memory and devices, where some such reads are seen at each order that is run, and
--- the store is tidied so before the flush; and where all is done, this map is left
-abbrev pub RunsRoom : ℕ → ℕ → Tidying → Mode → Bool → Settings → Store → Bytes → List Order → Option Bytes → Option Bytes → Result (Unit {0}) SessionError → Pairs Bytes → Type 0
-RunsRoom most row tidying mode honest settings st left rest old new end held =
-    (shown : Reads) × ((shown 0).tidying ≡ tidying) × AreSeen mode honest settings st left shown (with_room most row settings st shown rest)
-    × Runs mode.stream mode.stream settings st shown (with_room most row settings st shown rest) old new end
-    × LeavesMap settings st shown (with_room most row settings st shown rest) end held
-
--- what follows a refusal there: the line of the fault is printed, and what others print; or all stop, and the device's line may be printed
-abbrev pub RunsRoomRefused : Bool → ℕ → ℕ → Tidying → Mode → Bool → Settings → Store → Bytes → Option Bytes → Option Bytes → SessionError → Store → Bytes → Type 0
-RunsRoomRefused true most row tidying mode honest settings st left old new (errors.Fault fault) now bytes =
-    (told : Bytes) (rest : List Order) (last : Option Bytes) (end : Result (Unit {0}) SessionError) (held : Pairs Bytes) → RunsTold told mode honest settings now bytes rest new last end held
-    → RunsRoom most row tidying mode honest settings st left rest old last end held
-RunsRoomRefused true most row tidying mode honest settings st left old new Device now bytes =
-    (more : Bytes) (printed : Option Bytes) → BeginsWith (device_line true) more → Appends new printed more
-    → (rest : List Order) (held : Pairs Bytes) → RunsRoom most row tidying mode honest settings st left rest old printed (Err Device) held
-RunsRoomRefused true most row tidying mode honest settings st left old new early now bytes = ⊥
-RunsRoomRefused false most row tidying mode honest settings st left old new early now bytes =
-    (rest : List Order) (held : Pairs Bytes) → RunsRoom most row tidying mode honest settings st left rest old new (Err early) held
-
--- What cleans in front of a flush print, and how they end, is right, of which there are at most this many, with this many of them to be run before
--- the flush is tried: it goes on with a store that is tidied to this one and, on an honest disk, these bytes, and it is tried next, with at most so
--- many cleans as are returned; or the cleans stop early, and so does the flush.
-abbrev pub RunsCleans : ℕ → ℕ → Tidying → Mode → Bool → Settings → Store → Bytes → Option Bytes → Option Bytes → Result ℕ SessionError → Store → Bytes → Type 0
-RunsCleans most row tidying mode honest settings st left old new (Ok more) now bytes =
-    (cleaned : Store) × ((file : Bytes) → tidied settings tidying (cleaned, file) ≡ (now, file))
-    × ((rest : List Order) (last : Option Bytes) (end : Result (Unit {0}) SessionError) (held : Pairs Bytes) → RunsRoom more 0 tidying mode honest settings cleaned bytes rest new last end held
-    → RunsRoom most row tidying mode honest settings st left rest old last end held)
-RunsCleans most row tidying mode honest settings st left old new (Err early) now bytes =
-    RunsRoomRefused mode.stream most row tidying mode honest settings st left old new early now bytes
-
--- these bytes decide on cleans in front of a flush of a store that was tidied for it: they have these live bytes, if the log is sound, and the disk
--- shows them, if it is honest
-abbrev pub IsKnown : {D : Type 0} → (D → View) → State D → Option ℕ → Type 0
-IsKnown view x live = (ahead : Bytes) × (IsTrue (view x.disk).is_honest → ahead ≡ (view x.disk).seen) × (live_known x.settings x.store ahead ≡ live)
-
--- by what is read of the log of a tidied store no row of cleans is run at once before its flush, which has this number of cleans left in front of it
-abbrev pub IsCalm : {D : Type 0} → (D → View) → State D → ℕ → Type 0
-IsCalm view x most = (live : Option ℕ) × IsKnown view x live × (is_early most x.settings x.store live ≡ false)
-
--- by what is read of it no cleans can make room for the flush
-abbrev pub IsUndue : {D : Type 0} → (D → View) → State D → Type 0
-IsUndue view x = (live : Option ℕ) × IsKnown view x live × (may_help x.settings x.store live ≡ false)
-
--- the log is full for a flush of the store that is tidied so, whatever is read, unless the flush fails
-abbrev pub IsFullFor : Settings → Store → Tidying → Type 0
-IsFullFor settings st tidying = (at : Seen) → at.tidying ≡ tidying → at.fails ≡ None → refusal_of settings st at Flush ≡ Some Full
-
--- what is done in front of a flush that is tried next, of which the log is full: some cleans; or none, where no cleans could make room
-abbrev pub RunsAhead : ℕ → Tidying → Mode → Bool → Settings → Store → Bytes → Option Bytes → Option Bytes → Result (Option ℕ) SessionError → Store → Bytes → Type 0
-RunsAhead most tidying mode honest settings st left old new (Ok None) now bytes = ⊤
-RunsAhead most tidying mode honest settings st left old new (Ok (Some more)) now bytes = RunsCleans most 0 tidying mode honest settings st left old new (Ok more) now bytes
-RunsAhead most tidying mode honest settings st left old new (Err early) now bytes = RunsCleans most 0 tidying mode honest settings st left old new (Err early) now bytes
-
--- what was read of the log of this store serves its cleans, and says how many bytes live there
-abbrev pub IsReadAhead : {D : Type 0} → (D → View) → State D → PagesRead → Type 0
-IsReadAhead view x reading = IsReadFor view x reading × IsKnown view x (Some reading.live)
-
 -- the same relations, of a store before and after a call, and of what holds the output
 abbrev pub OrderRuns : {D : Type 0} → {O : Type 0} → (D → View) → (O → Option Bytes) → Mode → Order → State D → O → Result (Unit {0}) SessionError → State D → O → Type 0
 OrderRuns view contents mode order x old end y new =
     RunsOrder mode (view x.disk).is_honest x.settings x.store (view x.disk).seen order (contents old) (contents new) end y.store (view y.disk).seen
 
-abbrev pub OrdersRunFrom : {D : Type 0} → {O : Type 0} → (D → View) → (O → Option Bytes) → Mode → Store → List Order → State D → O → Result (Unit {0}) SessionError → State D → O → Type 0
-OrdersRunFrom view contents mode st orders x old end y new =
-    RunsFirst mode (view x.disk).is_honest x.settings st (view x.disk).seen orders (contents old) (contents new) end y.store (view y.disk).seen
+-- and of an order of another store, which was tidied to this one
+abbrev pub OrderRunsFrom : {D : Type 0} → {O : Type 0} → (D → View) → (O → Option Bytes) → Mode → Store → Order → State D → O → Result (Unit {0}) SessionError → State D → O → Type 0
+OrderRunsFrom view contents mode st order x old end y new =
+    RunsOrder mode (view x.disk).is_honest x.settings st (view x.disk).seen order (contents old) (contents new) end y.store (view y.disk).seen
 
 abbrev pub OrdersRun : {D : Type 0} → {O : Type 0} → (D → View) → (O → Option Bytes) → Mode → List Order → State D → O → Result (Unit {0}) SessionError → State D → O → Type 0
-OrdersRun view contents mode orders x old end y new = OrdersRunFrom view contents mode x.store orders x old end y new
+OrdersRun view contents mode orders x old end y new =
+    RunsFirst mode (view x.disk).is_honest x.settings x.store (view x.disk).seen orders (contents old) (contents new) end y.store (view y.disk).seen
 
 abbrev pub OrdersAnswered : {D : Type 0} → {O : Type 0} → (D → View) → (O → Option Bytes) → Mode → List Order → State D → O → Result (Unit {0}) SessionError → State D → O → Type 0
 OrdersAnswered view contents mode orders x old end y new =
@@ -802,14 +707,6 @@ OrdersAnswered view contents mode orders x old end y new =
 abbrev pub OrdersAll : {D : Type 0} → {O : Type 0} → (D → View) → (O → Option Bytes) → Mode → List Order → State D → O → Result (Unit {0}) SessionError → State D → O → Type 0
 OrdersAll view contents mode orders x old end y new =
     RunsAll mode (view x.disk).is_honest x.settings x.store (view x.disk).seen orders (contents old) (contents new) end y.store
-
-abbrev pub CleansRun : {D : Type 0} → {O : Type 0} → (D → View) → (O → Option Bytes) → Mode → ℕ → ℕ → Tidying → Store → State D → O → Result ℕ SessionError → State D → O → Type 0
-CleansRun view contents mode most row tidying under x old end y new =
-    RunsCleans most row tidying mode (view x.disk).is_honest x.settings under (view x.disk).seen (contents old) (contents new) end y.store (view y.disk).seen
-
-abbrev pub AheadRuns : {D : Type 0} → {O : Type 0} → (D → View) → (O → Option Bytes) → Mode → ℕ → Tidying → Store → State D → O → Result (Option ℕ) SessionError → State D → O → Type 0
-AheadRuns view contents mode most tidying under x old end y new =
-    RunsAhead most tidying mode (view x.disk).is_honest x.settings under (view x.disk).seen (contents old) (contents new) end y.store (view y.disk).seen
 
 -- a call leaves the disk of a store, its settings, and whether it has failed
 abbrev pub IsOnDisk : {D : Type 0} → State D → State D → Type 0
@@ -837,10 +734,10 @@ IsHolding disk file = IsTrue disk.is_honest → disk.seen ≡ file
 -- be at each order that is run; and then there is a copy under some settings, if there is to be one
 unfoldable pub RunsFrom : Request → Start → List Line → Option Bytes → Option Bytes → Result (Unit {0}) SessionError → Type 0
 RunsFrom request start parsed old new end =
-    (shown : Reads) × IsShown request start shown (session_orders request start shown parsed)
-    × PrintsCopied (copy_of request) (map_kept_from start shown (session_orders request start shown parsed)) request.mode.stream old new
-    (lines_from request.mode.stream start shown (session_orders request start shown parsed))
-    (end_from request.mode.stream start shown (session_orders request start shown parsed)) end
+    (shown : Reads) × IsShown request start shown (session_orders request parsed)
+    × PrintsCopied (copy_of request) (map_kept_from start shown (session_orders request parsed)) request.mode.stream old new
+    (lines_from request.mode.stream start shown (session_orders request parsed))
+    (end_from request.mode.stream start shown (session_orders request parsed)) end
 
 -- the same for a right start, or why there is none, with nothing printed: a copy that is refused, or no memory, or a device
 unfoldable pub RunsRequest : Request → List Line → Option Bytes → Option Bytes → Result (Unit {0}) SessionError → Type 0

@@ -19,7 +19,7 @@ use crate::options::STREAM_LINES;
 use crate::order::Order;
 use crate::output::{Buffer, flush, write_bytes};
 use crate::progress::Observer;
-use crate::running::{run_flush, run_flush_with_room, run_step};
+use crate::running::{run_flush, run_step};
 use crate::session::SessionError;
 use crate::show::{NumberLine, StoreNumbers, print_error, print_numbers, print_refusal};
 use engine::{Disk, LockFile, Report, Rows, RowsBack, Step, Store};
@@ -97,14 +97,14 @@ fn count_back(rows: RowsBack<'_>) -> usize
 
 // Adds the lines of rows that come from the greatest key down.
 fn put_back<O: Write>(
-    rows: RowsBack<'_>,
+    rows: &mut RowsBack<'_>,
     buffer: &mut Buffer,
     out: &mut O,
 ) -> Result<(), SessionError>
     ensures { Puts O.contents buffer.old out.old buffer.new out.new
-        (flat_map shown_row rows.entry) result }
+        (flat_map shown_row rows.old) result }
 {
-    for (key, value) in rows {
+    while let Some((key, value)) = rows.next() {
         buffer.put_row(key, value, out)?;
     }
     Ok(())
@@ -126,16 +126,18 @@ fn print_back<R, P: Observer, D: Disk, O: Write>(
     let mut buffer = Buffer::new(at.calls.alloc);
     let count = count_back(store.range_back(lo, hi, limit));
     buffer.put_numbers(NumberLine::Rows(count), out)?;
-    put_back(store.range_back(lo, hi, limit), &mut buffer, out)?;
+    // The rows are dropped before the result is tested, which makes the proof short.
+    let put = put_back(&mut store.range_back(lo, hi, limit), &mut buffer, out);
+    put?;
     buffer.write(out)
 }
 
 // Returns how many rows there are, but at most `most`.
-fn count_first(rows: Rows<'_>, most: u32) -> u32
-    ensures { result ≡ min most (length rows.entry) }
+fn count_first(rows: &mut Rows<'_>, most: u32) -> u32
+    ensures { result ≡ min most (length rows.old) }
 {
     let mut count = 0;
-    for _row in rows {
+    while let Some(_row) = rows.next() {
         if count == most {
             return most;
         }
@@ -146,16 +148,16 @@ fn count_first(rows: Rows<'_>, most: u32) -> u32
 
 // Adds the lines of the first rows, at most `limit` of them.
 fn put_first<O: Write>(
-    rows: Rows<'_>,
+    rows: &mut Rows<'_>,
     limit: u32,
     buffer: &mut Buffer,
     out: &mut O,
 ) -> Result<(), SessionError>
     ensures { Puts O.contents buffer.old out.old buffer.new out.new
-        (flat_map shown_row (take limit rows.entry)) result }
+        (flat_map shown_row (take limit rows.old)) result }
 {
     let mut left = limit;
-    for (key, value) in rows {
+    while let Some((key, value)) = rows.next() {
         if left == 0 {
             return Ok(());
         }
@@ -178,9 +180,11 @@ fn print_prefix<R, P: Observer, D: Disk, O: Write>(
         result }
 {
     let mut buffer = Buffer::new(at.calls.alloc);
-    let count = count_first(store.prefix(bytes), limit);
+    let count = count_first(&mut store.prefix(bytes), limit);
     buffer.put_numbers(NumberLine::Rows(count as usize), out)?;
-    put_first(store.prefix(bytes), limit, &mut buffer, out)?;
+    // The rows are dropped before the result is tested, which makes the proof short.
+    let put = put_first(&mut store.prefix(bytes), limit, &mut buffer, out);
+    put?;
     buffer.write(out)
 }
 
@@ -311,7 +315,6 @@ where
             report_line(at, order, &SessionError::Bad { line, why }, out)
         }
         Order::Lost => Err(SessionError::Fault(Fault::NoMemory)),
-        Order::Flush if at.calls.mode.clean_when_full => run_flush_with_room(&at.calls, store, out),
         Order::Flush => run_flush(&at.calls, store, out),
         Order::Clean => run_step(&at.calls, store, Step::Clean, out),
         Order::Upgrade => run_step(&at.calls, store, Step::Upgrade, out),

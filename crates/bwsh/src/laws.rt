@@ -1,5 +1,5 @@
 //! Laws about the definitions in `specs/`. Each is the contract of a function with an empty body.
-ghost use Rattle.std.specs.Prelude.{◌≡◌, ◌<◌, ◌≤◌, ◌+◌, ◌-◌, ℕ, Bool, false, true, List, [], ◌∷◌, ◌++◌, filter, length, map, take, Option, Some, None, Result, Ok, Err};
+ghost use Rattle.std.specs.Prelude.{◌≡◌, ◌<◌, ◌≤◌, ◌+◌, ◌-◌, ℕ, Bool, false, true, List, [], ◌∷◌, ◌++◌, length, map, take, Option, Some, None, Result, Ok, Err};
 ghost use Rattle.std.specs.List.{All, flat_map};
 ghost use Rattle.std.specs.declared.alloc.Global.{Global};
 ghost use Rattle.crew.specs.Crew.{is_crew};
@@ -16,6 +16,8 @@ ghost use Rattle.mapping.specs.Tree.{Store, with_tree};
 ghost use Rattle.scan.specs.Back.{rows_back};
 ghost use Rattle.scan.specs.Prefix.{with_prefix};
 ghost use Rattle.verify.specs.Report.{report};
+ghost use Rattle.keys.specs.Lists.{flat};
+ghost use Rattle.engine.specs.Cleaning.{AreRows, CleanRow, count_of};
 ghost use Rattle.engine.specs.Compacted.{IsCompacted};
 ghost use Rattle.engine.specs.Room.{is_bloated};
 ghost use Rattle.engine.specs.Tidied.{IsTidied, counted_pages};
@@ -26,10 +28,10 @@ ghost use Rattle.bwsh.specs.declared.line.Why.{Why};
 ghost use Rattle.bwsh.specs.declared.order.Order.{Order};
 ghost use Rattle.bwsh.specs.declared.order.Order.TheVariants.{Batch, BadLine, Lost, Flush, Clean, Upgrade, Verify, Numbers, Stat, Copy, Tidy, Back, Prefix, Help};
 ghost use Rattle.bwsh.specs.declared.session.SessionError.{SessionError};
-ghost use Rattle.bwsh.specs.BatchFile.{IsBatch, IsForBatches, IsInBatch, IsNoClean, IsWithin, asked, batch_lines, cleans_nothing, commands_of, commands_of_lines, first_bad, is_short, orders_of};
+ghost use Rattle.bwsh.specs.BatchFile.{IsBatch, IsForBatches, IsInBatch, IsNoClean, IsWithin, asked, batch_lines, commands_of, commands_of_lines, first_bad, is_short, orders_of};
 ghost use Rattle.bwsh.specs.BatchFile.Pending.{begun, skipped};
 ghost use Rattle.bwsh.specs.Options.{Request};
-ghost use Rattle.bwsh.specs.Session.{Answers, AreLeft, AreSeenAlike, AreUntidied, Batches, IsEndAfter, IsStart, Reads, Seen, Start, Stored, Tidying, accepted, after_order, answer_lines, answered, bad_line, by_batches, compacting, fault_line, first_refusal, later, left_by_step, numbers_of, orders_end, printed, refusal_of, step_in, tidied, untidied, with_cleans};
+ghost use Rattle.bwsh.specs.Session.{Answers, AreCleansOf, AreLeft, AreRight, AreSeenAlike, AreUntidied, Batches, IsEndAfter, IsStart, Reads, Seen, Start, Stored, Tidying, accepted, after_order, answer_lines, answered, bad_line, by_batches, cleaned, compacting, fault_line, first_refusal, front_lines, front_of_refused, later, left_by_step, numbers_of, orders_end, printed, refusal_of, step_in, tidied, untidied};
 ghost use Rattle.bwsh.specs.Shown.{help_lines, shown_reply, shown_rows, shown_flushed, shown_cleaned, shown_upgraded, shown_report, shown_numbers, shown_settings, shown_tidied, shown_copied};
 ghost use Rattle.bwsh.specs.Token.{token_bytes, shown_token};
 ghost use Rattle.bwsh.specs.Words.{words_of};
@@ -70,8 +72,9 @@ pub fn each_order_prints_its_answer()
     ensures flush { (settings : Settings) → (st : Store) → (shown : Reads) → (m : Pairs Bytes) →
         (rest : List Order) →
         printed settings st shown m (Flush ∷ rest)
-        ≡ shown_flushed (after_order settings st (shown 0) Flush).0.sequence
-        ++ printed settings (after_order settings st (shown 0) Flush).0 (later shown) m rest }
+        ≡ flat (front_lines st (shown 0) Flush)
+        ++ (shown_flushed (after_order settings st (shown 0) Flush).0.sequence
+        ++ printed settings (after_order settings st (shown 0) Flush).0 (later shown) m rest) }
     ensures clean { (settings : Settings) → (st : Store) → (shown : Reads) → (m : Pairs Bytes) →
         (rest : List Order) →
         printed settings st shown m (Clean ∷ rest)
@@ -138,8 +141,9 @@ pub fn the_commands_are_answered_in_order()
 {}
 
 /// If no order is a clean, the answers, the accepted orders and how the session ends do not depend
-/// on the disk's bytes. In the two runs compared, the store is tidied by the same batches, and the
-/// same orders fail for the same reasons, such as an allocation or the file of a copy.
+/// on the disk's bytes. In the two runs compared, the store is tidied by the same batches and cleaned
+/// by the same cleans in front of flushes, and the same orders fail for the same reasons, such as an
+/// allocation or the file of a copy.
 pub fn the_bytes_of_the_disk_do_not_matter()
     ensures lines { (settings : Settings) → (st : Store) → (shown other : Reads) →
         AreSeenAlike shown other →
@@ -158,8 +162,8 @@ pub fn the_bytes_of_the_disk_do_not_matter()
 {}
 
 /// If each read of the disk returns what was last written, the store, the initial contents of the
-/// disk, the batches of tidying, and where orders fail that the store itself does not refuse,
-/// determine the answers, the accepted orders and how the session ends, even with cleans. Such
+/// disk, the batches of tidying, the cleans in front of flushes, and where orders fail that the store
+/// itself does not refuse, determine the answers, the accepted orders and how the session ends. Such
 /// reads exist for each store.
 pub fn what_was_left_decides_the_answers()
     ensures lines { (settings : Settings) → (st : Store) → (file : Bytes) → (shown other : Reads) →
@@ -183,14 +187,29 @@ pub fn what_was_left_decides_the_answers()
         (shown : Reads) × AreUntidied shown × AreLeft settings st file shown orders }
 {}
 
-/// Among the orders, `--clean-when-full` adds cleans in front of flushes, and changes nothing else.
-pub fn cleans_alone_are_put_among_orders()
-    ensures commands { (settings : Settings) → (st : Store) → (shown : Reads) →
-        (orders : List Order) →
-        flat_map commands_of (with_cleans settings st shown orders) ≡ flat_map commands_of orders }
-    ensures others { (settings : Settings) → (st : Store) → (shown : Reads) →
-        (orders : List Order) → All IsNoClean orders →
-        filter cleans_nothing (with_cleans settings st shown orders) ≡ orders }
+/// The cleans in front of a flush change no pairs. Each leaves the next segment as the first one, and
+/// there are at most as many as segments. Without `--clean-when-full` there are none, and no order but
+/// a flush has any.
+pub fn cleans_in_front_of_a_flush_change_no_pairs()
+    ensures holds { (settings : Settings) → (seen : Seen) → (at : Stored) →
+        contents (cleaned settings seen at).0.tree ≡ contents at.0.tree }
+    ensures heads { (honest may_be_cut : Bool) → (settings : Settings) → (st : Store) →
+        (left : Bytes) → (rows : List CleanRow) → (now : Store) → (last : Bytes) →
+        AreRows honest may_be_cut settings st left rows now last →
+        (now.head ≡ st.head + count_of rows) × (count_of rows ≤ settings.segments) }
+    ensures none { (honest cleans : Bool) → (settings : Settings) → (st : Store) →
+        (order : Order) → (order ≡ Flush → cleans ≡ false) → (seen : Seen) →
+        AreCleansOf honest cleans settings st order seen →
+        (seen.rows ≡ []) × (front_lines st seen order ≡ []) }
+{}
+
+/// If each read of the disk returns what was last written, the store and the bytes of the disk decide
+/// the cleans in front of a flush that is done, or that is refused for a reason of its own.
+pub fn what_was_left_decides_the_cleans()
+    ensures { (settings : Settings) → (st now after : Store) → (seen other : Seen) →
+        other.bytes ≡ seen.bytes → seen.fails ≡ None → other.fails ≡ None →
+        AreRight true settings st now seen → AreRight true settings st after other →
+        (other.rows ≡ seen.rows) × (after ≡ now) × (other.last ≡ seen.last) }
 {}
 
 /// Tidying changes no reply, no pair, no byte of the disk and nothing in the log. `Store::tidy`
@@ -224,8 +243,8 @@ pub fn tidying_changes_no_replies()
 
 /// If no line is bad or lost, and in a stream no batch is too long, the orders of a session are
 /// those of its text. A stream in which no order is refused prints all answers. A session without
-/// `--stream` prints the answers of the orders before the first refusal. A bad line after n good
-/// lines has the number n + 1.
+/// `--stream` prints the answers of the orders before the first refusal, and the lines of the cleans
+/// in front of the refused order. A bad line after n good lines has the number n + 1.
 pub fn a_text_is_a_stream_that_was_read_to_its_end()
     ensures orders { (stream : Bool) → (parsed : List Line) → IsWithin parsed →
         is_short stream (orders_of [] parsed) ≡ true →
@@ -236,12 +255,14 @@ pub fn a_text_is_a_stream_that_was_read_to_its_end()
     ensures text { (settings : Settings) → (st : Store) → (shown : Reads) → (m : Pairs Bytes) →
         (orders : List Order) →
         answered false settings st shown m orders
-        ≡ answer_lines settings st shown m (accepted settings st shown orders) }
+        ≡ answer_lines settings st shown m (accepted settings st shown orders)
+        ++ front_of_refused settings st shown orders }
     ensures found { (front : List Line) → first_bad 1 front ≡ None → (why : Why) →
         (rest : List Line) → first_bad 1 (front ++ Bad why ∷ rest) ≡ Some (length front + 1, why) }
 {}
 
-/// In a stream, a refused order is answered by one line and changes no pair, the later orders are
+/// In a stream, a refused order is answered by one line, after those of the cleans in front of it, and
+/// changes no pair, the later orders are
 /// answered from the store that it leaves, and the orders end without an error. A bad line is
 /// answered at once, and so are a line that found no memory and the 65,536th command of a batch,
 /// which are refused. The rest of the batch is skipped up to the line that ends it, and if this line
@@ -253,7 +274,8 @@ pub fn a_stream_goes_on_after_a_refusal()
     ensures answer { (settings : Settings) → (st : Store) → (shown : Reads) → (m : Pairs Bytes) →
         (order : Order) → (rest : List Order) → (fault : Fault) →
         refusal_of settings st (shown 0) order ≡ Some fault →
-        answered true settings st shown m (order ∷ rest) ≡ fault_line (shown 0).told
+        answered true settings st shown m (order ∷ rest)
+        ≡ front_lines st (shown 0) order ++ fault_line (shown 0).told
         ∷ answered true settings (after_order settings st (shown 0) order).0 (later shown) m rest }
     ensures end { (settings : Settings) → (st : Store) → (shown : Reads) → (orders : List Order) →
         orders_end true settings st shown orders ≡ Ok tt }

@@ -528,10 +528,11 @@ where
     // flushes and the like) of all lines. These run on a new store, or, for an existing file, on a
     // store that some bytes encode: no clause says that these are the bytes of the file. A clean
     // depends on what the disk returns, which in memory is what was written last. `--tidy` runs
-    // some batches, which change no pairs, before each flush, and `--clean-when-full` adds cleans
-    // and may compact the tree. Without `--stream`, no order was refused. With it, a refused order
-    // is answered by one line, and changes no pairs; a line for which an allocation failed is such
-    // an order.
+    // some batches, which change no pairs, before each flush. With `--clean-when-full`, a flush may
+    // compact the tree, and does the cleans of `Store::flush_cleaning`, whose lines are printed in
+    // front of its own even if it is refused. Without `--stream`, no order was refused. With it, a
+    // refused order is answered by one line, and changes no pairs; a line for which an allocation
+    // failed is such an order.
     ensures done { result ≡ 0 →
         AsksForText (map string_bytes words.now)
         ⊎ ((request : Request) × AsksFor (map string_bytes words.now) request
@@ -539,12 +540,11 @@ where
         × AreRead (parse_text request.mode.stream text) parsed
         × (request.mode.stream ≡ false → first_bad 1 (parse_text false text) ≡ None)
         × ((start : Start) × IsStart request start × IsOk start
-        × (shown : Reads) × IsShown request start shown (session_orders request start shown parsed)
-        × (end_from request.mode.stream start shown (session_orders request start shown parsed) ≡
+        × (shown : Reads) × IsShown request start shown (session_orders request parsed)
+        × (end_from request.mode.stream start shown (session_orders request parsed) ≡
         Ok tt)
         × Appends (O.contents out.old) (O.contents out.new)
-        (flat (lines_from request.mode.stream start shown (session_orders request start shown
-        parsed)))))) }
+        (flat (lines_from request.mode.stream start shown (session_orders request parsed)))))) }
     ensures bad { result ≡ 3 →
         (AsksToStream (map string_bytes words.now) → ⊥)
         × Appends (O.contents out.old) (O.contents out.new) []
@@ -558,10 +558,9 @@ where
         × IfSome (I.remaining input.old) (λ text. (parsed : List Line)
         × AreRead (parse_text request.mode.stream text) parsed
         × ((start : Start) × IsStart request start
-        × (shown : Reads) × IsShown request start shown (session_orders request start shown parsed)
+        × (shown : Reads) × IsShown request start shown (session_orders request parsed)
         × ((front : Bytes) × (last : Bytes)
-        × BeginsWith (flat (lines_from request.mode.stream start shown (session_orders request
-        start shown parsed))) front
+        × BeginsWith (flat (lines_from request.mode.stream start shown (session_orders request parsed))) front
         × BeginsWith (device_line request.mode.stream) last
         × Appends (O.contents out.old) (O.contents out.new) (front ++ last))))) }
 

@@ -9,6 +9,6 @@ returns-then-count-most c =
 
 pub returns : goal.returns
 returns c =
-    let none = ap (λ (rows : List (List ℕ × List ℕ)). length rows) c.in-None.ensures.steps.0 in
-    let all : c.loop-row.count ≡ length c.args.rows = omega (arith, none) in
+    let none = ap (λ (rows : List (List ℕ × List ℕ)). length rows) c.in_default.ensures.steps.0 in
+    let all : c.loop-row.count ≡ length c.args.rows.now = omega (arith, none) in
     all ∙ sym (min-eq_right (omega (arith, all)))

@@ -1,4 +1,4 @@
-use Rattle.std.proofs.Common.{take}
+use Rattle.std.proofs.Common.{length, take}
 use Rattle.std.specs.List.{flat_map}
 use Rattle.bwsh.specs.Shown.{shown_row}
 use Rattle.bwsh.proofs.ShowLemmas.{AreAdded}
@@ -7,4 +7,7 @@ use Rattle.bwsh.proofs.asks.put_first.Given as goal
 -- the lines of the first rows that are left are still to be added
 abbrev pub invariant-loop-key : goal.invariant-loop-key
 invariant-loop-key g l =
-    AreAdded (g.O.Write.contents l.fn.out) l.fn.buffer.text.items (g.O.Write.contents l.out) l.buffer.text.items (flat_map shown_row (take l.limit l.fn.rows)) (flat_map shown_row (take l.left l.key-iterator))
+    AreAdded (g.O.Write.contents l.fn.out) l.fn.buffer.text.items (g.O.Write.contents l.out) l.buffer.text.items (flat_map shown_row (take l.limit l.fn.rows)) (flat_map shown_row (take l.left l.rows))
+
+abbrev pub decreases-loop-key : goal.decreases-loop-key
+decreases-loop-key g l = length l.rows

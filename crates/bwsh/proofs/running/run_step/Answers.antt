@@ -1,4 +1,4 @@
-use Rattle.std.proofs.Common.{◌∙◌, ap, subst, List}
+use Rattle.std.proofs.Common.{◌∙◌, ap, refl, subst, List}
 use Rattle.std.specs.Prelude.{map}
 use Rattle.std.specs.List.{flat_map}
 use Rattle.mapping.specs.Levels.{contents}
@@ -8,10 +8,11 @@ use Rattle.engine.specs.declared.step.Answer as code_answer
 use Rattle.bwsh.specs.Output.{Writes}
 use Rattle.bwsh.specs.Shown.{shown_answer}
 use Rattle.bwsh.proofs.RunLemmas.{RunsOrder-answered, RunsOrder-refused, answered_holds, err_device, no_device_in, refused_leaves, refused_store, written_ends}
+use Rattle.bwsh.proofs.TidiedLemmas.{untidy}
 use Rattle.bwsh.proofs.running.run_step.Goals as goal
 
 pub returns-in-Ok-clause-runs : goal.returns-in-Ok-clause-runs
-returns-in-Ok-clause-runs g c mode order is =
+returns-in-Ok-clause-runs g c mode order is plain =
     let store = c.args.store.now in
     let disk = g.D.Disk.view store.disk in
     let after = c.play.new.self in
@@ -20,7 +21,7 @@ returns-in-Ok-clause-runs g c mode order is =
     let end = c.print_answers.result in
     let sound = c.play.ensures.sound.0.is in
     let shown = subst (λ (parsed : List code_answer.Answer). Writes old new (flat_map shown_answer (map answer_of parsed)) end) c.deref.ensures.value c.print_answers.ensures in
-    RunsOrder-answered mode disk.is_honest store.settings store.store disk.seen order c.args.step is
+    RunsOrder-answered mode disk.is_honest store.settings store.store disk.seen order c.args.step is plain
     (λ cs. c.the_plan_holds_the_map_after_the_commands.ensures store.settings store.store cs sound.good sound.proper)
     (λ now file bytes done. (c.a_clean_keeps_the_store.ensures.memory store.settings store.store now file bytes done).0)
     c.in-Ok.answers.items after.store (g.D.Disk.view after.disk).seen c.in-Ok.ensures.ok c.in-Ok.ensures.bytes old new end shown
@@ -33,7 +34,7 @@ returns-in-Ok-clause-holds g c order is same =
     let store = c.args.store.now in
     let disk = g.D.Disk.view store.disk in
     let sound = c.play.ensures.sound.0.is in
-    answered_holds c.args.at.now.mode disk.is_honest store.settings store.store disk.seen order c.args.step is
+    answered_holds (untidy c.args.at.now.mode) disk.is_honest store.settings store.store disk.seen order c.args.step is (λ flush. refl)
     (λ cs. c.the_plan_holds_the_map_after_the_commands.ensures store.settings store.store cs sound.good sound.proper)
     (λ now file bytes done. (c.a_clean_keeps_the_store.ensures.memory store.settings store.store now file bytes done).0)
     c.in-Ok.answers.items c.play.new.self.store c.in-Ok.ensures.ok ∙ same
@@ -47,14 +48,14 @@ returns-in-Ok-clause-kept g c =
     written_ends _ old new (flat_map shown_answer (map answer_of c.in-Ok.answers.items)) end shown
 
 pub returns-in-Err-clause-runs : goal.returns-in-Err-clause-runs
-returns-in-Err-clause-runs g c mode order is =
+returns-in-Err-clause-runs g c mode order is plain =
     let store = c.args.store.now in
     let disk = g.D.Disk.view store.disk in
     let after = c.play.new.self in
     let bytes = (g.D.Disk.view after.disk).seen in
     let out = g.O.Write.contents c.args.out.now in
     let (file, shown, refused) = c.in-Err.ensures.refused c.requires.fine c.args.at.now.crew_in_range in
-    RunsOrder-refused mode disk.is_honest store.settings store.store disk.seen order c.args.step is out _ after.store file bytes _ _ c.in-Err.refused.0 c.in-Err.refused.2 c.store_fault.result
+    RunsOrder-refused mode disk.is_honest store.settings store.store disk.seen order c.args.step is plain out _ after.store file bytes _ _ c.in-Err.refused.0 c.in-Err.refused.2 c.store_fault.result
     c.in-Err.ensures.err.0 c.store_fault.ensures c.in-Err.ensures.err.1 shown c.in-Err.ensures.bytes refused
 
 pub returns-in-Err-clause-rest : goal.returns-in-Err-clause-rest
