@@ -403,6 +403,25 @@ def full_at_once(programs: Programs) -> Outcome:
         return Outcome(None if is_right else f"{answers[200]!r}, then {line!r}, {ended}, and {read} bytes read in a log of {length}")
 
 
+def bloated_and_full(programs: Programs) -> Outcome:
+    """A queue of 1,000 pairs fills a log without cleans. A flush that makes itself room compacts the tree, and cleans until this fits, although most of
+    the log lives until then."""
+    with new_folder() as folder:
+        path = Path(folder) / "file"
+        settings = ("--fan=64", "--chain=4", "--max-key=8", "--max-value=100", "--seg-size=16384", "--segments=100")
+        lines = [b"put q%07d %s\n" % (number, b"v" * 100) for number in range(1_000)]
+        for first in range(0, 100_000, 50):
+            lines += [b"put q%07d %s\n" % (first + 1_000 + number, b"v" * 100) for number in range(50)]
+            lines += [b"del q%07d\n" % (first + number) for number in range(50)] + [b"flush\n"]
+        filled = run([programs.store, "--disk", path, "--create", *settings], b"".join(lines))
+        before = run([programs.store, "--disk", path], b"scan % * 4294967295\n")
+        flushed = run([programs.store, "--disk", path, "--clean-when-full"], b"put a 1\nflush\n")
+        after = run([programs.store, "--disk", path], b"del a\nscan % * 4294967295\n")
+        is_right = filled.err == b"fault 10 Full\n" and not flushed.err and b"cleaned " in flushed.out and b"flushed " in flushed.out
+        is_right = is_right and before.out.startswith(b"rows 1000\n") and after.out == b"deleted\n" + before.out
+        return Outcome(None if is_right else f"{filled.err!r}, then {flushed.describe()}, and {len(after.out)} bytes of {len(before.out)}")
+
+
 def live_for_ever(programs: Programs, kind: str) -> Outcome:
     """A queue of 500 pairs, 50 in and 50 out a flush, in 320 KB."""
     words: Command = [programs.store, *LONG_QUEUE, *kind.split(), "--clean-when-full"]
@@ -436,5 +455,6 @@ def cases(programs: Programs) -> list[Case]:
         Case("can't clean what lives", clean_in_vain, (programs,)),
         Case("cleans before the log is full", clean_before_full, (programs,)),
         Case("finds at once that no cleans make room", full_at_once, (programs,)),
+        Case("makes room for a queue that has filled its log", bloated_and_full, (programs,)),
         *(Case(f"keeps a queue with {kind}", live_for_ever, (programs, kind)) for kind in ("--fan=64 --chain=16", "--fan=16 --chain=4", "--fan=64 --chain=4")),
     ]

@@ -21,6 +21,7 @@ from tools.processes import MEGABYTE, PATIENCE, new_folder, resident_memory
 from tools.serving import Chooser, Client, Pairs, Refused, Reply, Server, Word, encode, execute, read_all, serving
 
 MOST_KEY, MOST_VALUE, MOST_ROWS = 255, 1_024, 262_144
+LONGEST_LINE = 65_536  # without its LF
 SEEDS, REQUESTS = 2, 2_000
 FUZZED = 150  # connections
 KILLS, CLIENTS = 6, 16
@@ -115,8 +116,9 @@ def answer_table(server: Server, together: bool) -> Wrong:
 
 def answer_inline(server: Server) -> Wrong:
     with server.client() as client:
-        client.socket.sendall(b"\r\nSET  a 1\r\nGET a\n*0\r\nGET b\r\n")
-        return differing("requests in lines", [client.read() for _ in range(3)], [b"OK", b"1", None])
+        longest = b"x" * (LONGEST_LINE - len(b"ECHO \r"))
+        client.socket.sendall(b"\r\nSET  a 1\r\nGET a\n*0\r\nGET b\r\nECHO " + longest + b"\r\n")
+        return differing("requests in lines", [client.read() for _ in range(4)], [b"OK", b"1", None, longest])
 
 
 def scan_all(client: Client, count: int) -> set[bytes]:
@@ -356,12 +358,17 @@ def cut_everywhere(server: Server) -> Wrong:
 BROKEN = {
     b"*1\r\n:4\r\n": "ERR Protocol error: expected '$'",
     b"*x\r\n": "ERR Protocol error: invalid multibulk length",
+    b"*x": "ERR Protocol error: invalid multibulk length",
+    b"*01": "ERR Protocol error: invalid multibulk length",
+    b"*131073": "ERR Protocol error: invalid multibulk length",
     b"*131073\r\n": "ERR Protocol error: invalid multibulk length",
     b"*1\r\n$-1\r\n": "ERR Protocol error: invalid bulk length",
+    b"*1\r\n$1x": "ERR Protocol error: invalid bulk length",
     b"*1\r\n$4194305\r\n": "ERR Protocol error: invalid bulk length",
     b"*1\r\n$4194304\r\n": "ERR Protocol error: too big request",
     b"*1\r\n$1\r\nab\r\n": "ERR Protocol error: a word is longer than its length",
-    b"x" * 65_537: "ERR Protocol error: too big request",
+    b"x" * (LONGEST_LINE + 1): "ERR Protocol error: too big request",
+    b"x" * (LONGEST_LINE + 1) + b"\n": "ERR Protocol error: too big request",
 }
 
 
