@@ -1,0 +1,213 @@
+//! What the commands of a leaf have changed so far.
+ghost use Rattle.std.specs.Prelude.{◌≡◌, [], None, IfOk, OnOk};
+ghost use Rattle.std.specs.Option.{option_copied};
+ghost use Rattle.keys.specs.Order.{IsRising};
+ghost use Rattle.keys.specs.OrderedMap.{value_at, with_pair};
+ghost use Rattle.keys.specs.Range.{in_range};
+ghost use Rattle.delta_chain.specs.Layers.{IsInOrder};
+ghost use Rattle.page_runs.specs.Replay.{map_by_now};
+
+use crate::changes_from::ChangesFrom;
+use delta_chain::{Chain, Run};
+use keys::{Command, Key, Value};
+use page_search::{Probes, find_lent};
+use std::alloc::{AllocError, Global};
+use std::collections::BTreeMap;
+use std::marker::Model;
+
+pub(crate) type LeafChain = Chain<Value<Global>, Global>;
+
+pub(crate) type LeafRun = Run<Value<Global>, Global>;
+
+type ChangeMap = BTreeMap<Key<Global>, Option<Value<Global>>, Global>;
+
+// Up to this many changes, a key that goes between others moves at most 31 of them, some two kilobytes. That is no
+// slower than a map's search, and the first node of a map has 640 bytes, which most leaves would need for one change.
+const FEW: usize = 32;
+
+/// The touched keys, each with its value now, or none where it is absent now. Contracts see them as a run, which lies
+/// over the page. They are kept in one of two ways: a few, and those of commands whose keys rise, in the run itself, which
+/// takes the least memory, but makes room for a key by moving all those above it; and others in a map, since a run that
+/// is built out of order takes time by the square of its length. Without changes neither takes memory.
+#[derive(Drop)]
+pub(crate) struct Changes {
+    kept: KeptChanges,
+    // How many commands may change a key. There are no more changes, but for those of wipes, which count as one each.
+    writes: usize,
+}
+
+#[derive(Drop)]
+enum KeptChanges {
+    Few(LeafRun),
+    Many(ChangeMap),
+}
+
+impl Model for Changes {
+    ghost use Rattle.std.specs.Prelude.{List, Option};
+    ghost use Rattle.keys.specs.Bytes.{Bytes};
+
+    ghost Value = { List (Bytes × Option Bytes) };
+
+    ghost use Rattle.page_runs.specs.Changes.{changes_kept};
+
+    ghost view = { λ c. changes_kept c.kept };
+}
+
+impl Changes {
+    /// No changes, before the commands at these places; `writes` of them may change a key.
+    pub(crate) fn for_commands(
+        alloc: Global,
+        commands: &[Command<Global>],
+        places: &[usize],
+        writes: usize,
+    ) -> Self
+        ensures { result ≡ [] }
+    {
+        let kept = if writes <= FEW || do_rise(commands, places) {
+            KeptChanges::Few(Run::empty(alloc))
+        } else {
+            KeptChanges::Many(BTreeMap::new(alloc))
+        };
+        Changes { kept, writes }
+    }
+
+    /// The key's value on the page by now: that of the changes where they name it, else that of the page.
+    pub(crate) fn value_now<'a>(
+        &'a self,
+        page: &'a LeafChain,
+        key: &Key<Global>,
+    ) -> Option<&'a Value<Global>>
+        requires { IsInOrder page.now }
+        ensures { option_copied result ≡ value_at key.now (map_by_now page.now self.now) }
+    {
+        // `len` is called only for the proof: it says that the keys rise.
+        match &self.kept {
+            KeptChanges::Few(run) => {
+                let _rising = run.len();
+                if let Some(at) = run.place(key.as_bytes()) {
+                    return run.change(at);
+                }
+            }
+            KeptChanges::Many(map) => {
+                let _rising = map.len();
+                if let Some(change) = map.get(key) {
+                    return change.as_ref();
+                }
+            }
+        }
+        let bytes = key.as_bytes();
+        find_lent(page.lent_for(bytes), bytes, &mut Probes::new())
+    }
+
+    /// The changes of this key and of those above it.
+    pub(crate) fn from_key<'a>(&'a self, low: &'a Key<Global>) -> ChangesFrom<'a>
+        ensures left { result ≡ in_range low.now None self.now }
+        ensures rising { IsRising self.now }
+    {
+        // `len` is called only for the proof: it says that the keys rise.
+        match &self.kept {
+            KeptChanges::Few(run) => {
+                let _rising = run.len();
+                ChangesFrom::of_run(run, run.lower(low.as_bytes()))
+            }
+            KeptChanges::Many(map) => {
+                let _rising = map.len();
+                ChangesFrom::of_map(map.range(low..))
+            }
+        }
+    }
+
+    /// Sets the key's change.
+    pub(crate) fn note(
+        &mut self,
+        alloc: Global,
+        key: &Key<Global>,
+        value: Option<&Value<Global>>,
+    ) -> Result<(), AllocError>
+        ensures { OnOk result (self.new ≡ with_pair self.old key.now (option_copied value.entry)) }
+    {
+        let key = key.copy(alloc)?;
+        let change = match value {
+            Some(value) => Some(value.copy(alloc)?),
+            None => None,
+        };
+        self.set(alloc, key, change)
+    }
+
+    /// The same of a key and a value that it takes.
+    pub(crate) fn set(
+        &mut self,
+        alloc: Global,
+        key: Key<Global>,
+        change: Option<Value<Global>>,
+    ) -> Result<(), AllocError>
+        ensures { OnOk result (self.new ≡ with_pair self.old key change) }
+    {
+        let room = self.writes.min(FEW);
+        match &mut self.kept {
+            KeptChanges::Few(run) => {
+                make_room(alloc, run, room)?;
+                run.set(key, change)
+            }
+            KeptChanges::Many(map) => {
+                map.insert(key, change)?;
+                Ok(())
+            }
+        }
+    }
+
+    /// The changes as a run.
+    pub(crate) fn into_run(self, alloc: Global) -> Result<LeafRun, AllocError>
+        ensures { IfOk result (λ run. run ≡ self) }
+    {
+        let Changes {
+            kept,
+            writes: _writes,
+        } = self;
+        match kept {
+            KeptChanges::Few(run) => Ok(run),
+            KeptChanges::Many(map) => run_of(alloc, map),
+        }
+    }
+}
+
+// Gives an empty run room for this many changes. It keeps that while it stands in front of the page, so it is given no more than it can
+// need, and grows where that is much.
+fn make_room(alloc: Global, run: &mut LeafRun, room: usize) -> Result<(), AllocError>
+    ensures { OnOk result (run.new ≡ run.old) }
+{
+    if run.len() == 0 {
+        *run = Run::with_capacity(alloc, room)?;
+    }
+    Ok(())
+}
+
+fn run_of(alloc: Global, map: ChangeMap) -> Result<LeafRun, AllocError>
+    ensures { IfOk result (λ run. run ≡ map.entries) }
+{
+    let mut run = Run::with_capacity(alloc, map.len())?;
+    for (key, change) in map {
+        run.push_next(key, change)?;
+    }
+    Ok(run)
+}
+
+// Whether no command's key is below that of the one before, and none is a wipe, whose keys may be many and lie anywhere. It decides
+// how the changes are kept, and nothing else.
+fn do_rise(commands: &[Command<Global>], places: &[usize]) -> bool {
+    for at in 1..places.len() {
+        match (commands.get(places[at - 1]), commands.get(places[at])) {
+            (Some(one), Some(next)) if does_rise(one, next) => {}
+            _ => return false,
+        }
+    }
+    true
+}
+
+// Whether the second of two commands goes on at the first one's key or above it.
+fn does_rise(one: &Command<Global>, next: &Command<Global>) -> bool {
+    match next {
+        Command::Wipe(_, _) => false,
+        _ => !one.key().cmp(next.key()).is_gt(),
+    }
+}

@@ -1,0 +1,217 @@
+//! The work on a leaf in a batch: its commands, one after the other.
+ghost use Rattle.std.specs.Prelude.{◌≡◌, []};
+ghost use Rattle.crew.specs.Turn.{IfDone, IfBack};
+ghost use Rattle.index_page.specs.InMemory.{page_shown};
+ghost use Rattle.index_page.specs.Page.PageOfKind.{Leaf};
+ghost use Rattle.page_runs.specs.LeafWork.{IsWorkedLeaf, leaf_held_of, leaf_worked};
+
+use crate::class::Class;
+use crate::leaf_after::{LeafWayBack, put_leaf_run};
+use crate::replay::replay_run;
+use crew::{Turn, Work};
+use index_page::{Page, PageInMemory};
+use keys::{Command, Pid, Pieces, Settings};
+use mapping::empty_leaf;
+use routing::PageRun;
+use std::alloc::Global;
+use std::marker::Model;
+use std::mem;
+
+/// The work on leaves in a batch: a leaf and its run of commands go in; the leaf afterwards, its class and its
+/// answers come out.
+#[derive(Drop)]
+pub struct LeafWork<'a> {
+    /// Where new runs, bases and answers are allocated.
+    pub alloc: Global,
+    /// The store's settings; `fan` and `chain` are read.
+    pub settings: Settings,
+    /// The whole batch.
+    pub commands: &'a [Command<Global>],
+}
+
+/// A leaf, and which commands of the batch it has to work.
+#[derive(Drop)]
+pub struct LeafJob {
+    pub page: Page<Global>,
+    /// The leaf's page id, and where its commands stand in the batch.
+    pub page_run: PageRun,
+}
+
+/// A leaf after its commands, with its class and its answers, and what gives the job back. It stands in a block of its own, so that lists of
+/// many are short. Contracts see it as what the job held and what was made of it.
+#[derive(Drop)]
+pub struct LeafDone {
+    kept: Box<KeptDone, Global>,
+}
+
+// What a `LeafDone` keeps.
+#[derive(Drop)]
+struct KeptDone {
+    page: PageInMemory<Global>,
+    way_back: LeafWayBack,
+    page_run: PageRun,
+    pieces: Pieces<Global>,
+}
+
+impl Model for LeafDone {
+    ghost use Rattle.page_runs.specs.LeafWork.{LeafWorked, leaf_worked, IsWorkedLeaf};
+
+    ghost Value = { LeafWorked };
+
+    ghost view = { λ d. leaf_worked d.kept.value.page d.kept.value.way_back
+        d.kept.value.page_run d.kept.value.pieces };
+
+    ghost invariant = { λ d. IsWorkedLeaf d.kept.value.page d.kept.value.way_back };
+}
+
+impl LeafDone {
+    /// The leaf's class.
+    pub fn class(&self) -> Class
+        ensures { result ≡ self.now.made.worked.class }
+    {
+        self.kept.way_back.class()
+    }
+
+    /// Whether the leaf was replaced: it is a base alone then, and not the leaf before with a run in front.
+    pub fn is_replaced(&self) -> bool
+        ensures { result ≡ self.now.made.worked.replaced }
+    {
+        self.kept.way_back.is_replaced()
+    }
+
+    /// The leaf, as it lies in memory.
+    pub fn page(&self) -> &PageInMemory<Global>
+        ensures { page_shown result.now ≡ Leaf self.now.made.worked.placed.page }
+    {
+        &self.kept.page
+    }
+
+    /// The leaf's page id.
+    pub fn pid(&self) -> Pid
+        ensures { result ≡ self.now.made.worked.placed.pid }
+    {
+        self.kept.page_run.pid()
+    }
+
+    /// The answers, for good: none are left here. It takes no memory, and the job can still be given back.
+    pub fn take_pieces(&mut self) -> Pieces<Global>
+        ensures pieces { result ≡ self.old.made.pieces }
+        ensures rest { self.new ≡ record {
+          held = self.old.held;
+          made = record { worked = self.old.made.worked; pieces = [] };
+        } }
+    {
+        self.kept.pieces.take()
+    }
+
+    /// The leaf and the rest, for good: the job cannot be given back any more.
+    pub fn into_page_and_rest(self) -> (Page<Global>, LeafRest)
+        ensures { result.0 ≡ Leaf self.made.worked.placed.page }
+    {
+        let LeafDone { mut kept } = self;
+        let empty = empty_leaf(*Box::allocator(&kept)).into_memory();
+        let page = mem::replace(&mut kept.page, empty);
+        (Page::of_memory(page), LeafRest(kept))
+    }
+}
+
+/// What is left of a leaf's work once the leaf is taken out of it, for good: where the leaf was replaced, the one before it; the places of
+/// its commands, and its answers if they were not taken. It is there to be dropped, which takes long.
+#[derive(Drop)]
+pub struct LeafRest(Box<KeptDone, Global>);
+
+impl<'a> Work for LeafWork<'a> {
+    ghost use Rattle.page_runs.specs.LeafWork.{LeafHeld, LeafMade, IsLeafHeld, leaf_made, leaf_held_of};
+
+    type Job = LeafJob;
+
+    type Done = LeafDone;
+
+    ghost Held = { LeafHeld };
+
+    ghost Made = { LeafMade };
+
+    ghost accepts = { λ w h. IsLeafHeld w.commands.now h };
+
+    ghost held = { leaf_held_of };
+
+    ghost origin = { λ d. d.held };
+
+    ghost outcome = { λ d. d.made };
+
+    ghost made = { λ w h. leaf_made w.settings w.commands.now h };
+
+    fn work(&self, job: LeafJob) -> Turn<LeafJob, LeafDone> {
+        let LeafJob { page, page_run } = job;
+        let (low, chain) = page.into_leaf();
+        let Ok((run, pieces, bounds)) = replay_run(
+            self.alloc,
+            self.commands,
+            chain.whole(),
+            &page_run,
+        ) else {
+            return Turn::Back(LeafJob {
+                page: Page::late_leaf(low, chain),
+                page_run,
+            });
+        };
+        match put_leaf_run(self.alloc, &self.settings, chain, run, bounds) {
+            Ok((mut chain, way_back)) => {
+                // The replies show which entries came and went, and the chain by itself knows only how
+                // many were named.
+                chain.bound(bounds);
+                boxed(
+                    self.alloc,
+                    KeptDone {
+                        page: PageInMemory::leaf(low, chain),
+                        way_back,
+                        page_run,
+                        pieces,
+                    },
+                )
+            }
+            Err(chain) => Turn::Back(LeafJob {
+                page: Page::late_leaf(low, chain),
+                page_run,
+            }),
+        }
+    }
+
+    fn undo(&self, done: LeafDone) -> LeafJob {
+        job_of(self.alloc, Box::into_inner(done.kept))
+    }
+}
+
+// What was made of a leaf, in a block of its own; or the job as it was, where there is no memory for that.
+fn boxed(alloc: Global, done: KeptDone) -> Turn<LeafJob, LeafDone>
+    requires { IsWorkedLeaf done.page done.way_back }
+    ensures done { IfDone result
+        (λ boxed. boxed ≡ leaf_worked done.page done.way_back done.page_run done.pieces) }
+    ensures back { IfBack result (λ again. leaf_held_of again
+        ≡ (leaf_worked done.page done.way_back done.page_run done.pieces).held) }
+{
+    match Box::new(alloc, done) {
+        Ok(kept) => Turn::Done(LeafDone { kept }),
+        Err(refused) => Turn::Back(job_of(alloc, refused.value)),
+    }
+}
+
+// The job that this was made of.
+fn job_of(alloc: Global, done: KeptDone) -> LeafJob
+    requires { IsWorkedLeaf done.page done.way_back }
+    ensures { leaf_held_of result
+        ≡ (leaf_worked done.page done.way_back done.page_run done.pieces).held }
+{
+    let KeptDone {
+        page,
+        way_back,
+        page_run,
+        pieces: _,
+    } = done;
+    let (low, chain) = page.into_leaf();
+    let chain = way_back.undo(alloc, chain);
+    LeafJob {
+        page: Page::late_leaf(low, chain),
+        page_run,
+    }
+}
