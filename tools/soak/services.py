@@ -274,8 +274,8 @@ class ServiceSoak:
         return self.segments >= 8 and 2 * (4 * pairs // self.fan + 4) * page <= self.segments * used_of_segment
 
     def widen(self) -> bool:
-        """Copies the store into a log that is twice as long, as docs/OPERATING.md advises. A log that is large enough is never full, whatever the
-        service did before."""
+        """Copies the store into a log that is twice as long, as docs/OPERATING.md advises. A log that is large enough should not be full. One difference
+        is known: a session that does not clean can leave a full log with so many pages that no later flush can compact them."""
         if self.is_large():
             raise Difference(f"{self.segments} segments are full, with {len(self.flushed)} pairs and {self.page_count} pages")
         self.segments *= 2
