@@ -1,4 +1,4 @@
--- A draw keeps the rule.
+-- A claim preserves the invariant.
 use Rattle.std.proofs.Common.{◌≡◌, ℕ, ◌+◌, ◌%◌, ◌^◌, ◌<◌, ◌≤◌, min, cond, eqb, ltb, List, [], ◌∷◌, ◌++◌, set, length, length-set, length-append, refl, sym, ap, subst, ◌∙◌, arith, ⊎_elim, mod-eq_of_lt}
 use Rattle.std.specs.Prelude.{slice_index, slice_set}
 use Rattle.std.specs.List.{All}
@@ -38,7 +38,7 @@ module _ {P : Type 0} (all : List P) (last : Slot P) (count : ℕ) where
   fits_more : (w m : ℕ) (v : Hand P) → w ≤ m → Fits all w v → Fits all m v
   fits_more w m v le f = record { same_pieces = f.same_pieces; few_misses = f.few_misses; miss_past_end = λ d. let past = f.miss_past_end d in omega arith; below = all_more w m v.drawn le f.below; spent = f.spent }
 
-  -- the word goes up by one, and with it what one hand drew or missed
+  -- the word is incremented, and with it the claims or misses of one state
   steps : (s : State (Slot P) (Hand P)) (ws : List ℕ) (homes : List (Option (Slot P))) (id : ℕ) (v n : Hand P) → Keeps all last count s → get_elem? s.views id ≡ some v
       → length ws ≡ 1 → slice_index ws 0 ≡ slice_index s.words 0 + 1 → n.passes ≡ v.passes
       → min (slice_index ws 0) (length all) + n.misses ≡ min (slice_index s.words 0) (length all) + v.misses + 1
@@ -63,7 +63,7 @@ module _ {P : Type 0} (all : List P) (last : Slot P) (count : ℕ) where
         home = home;
       }
 
-  -- the word w was below the number of pieces, and the hand drew it
+  -- the word w was below the number of pieces, and the state claimed piece w
   drew : (s : State (Slot P) (Hand P)) (ws : List ℕ) (id : ℕ) (v : Hand P) → Keeps all last count s → get_elem? s.views id ≡ some v → v.pieces ≡ all
       → 0 < v.passes → slice_index s.words 0 < length all → length ws ≡ 1 → slice_index ws 0 ≡ slice_index s.words 0 + 1
       → Keeps all last count record { words = ws; homes = set s.homes (slice_index s.words 0) none; views = set s.views id (hand v.pieces v.passes (v.drawn ++ slice_index s.words 0 ∷ []) v.misses) }

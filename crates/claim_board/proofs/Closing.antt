@@ -1,4 +1,4 @@
--- What is known once one hand stands for all passes.
+-- The consequences of the invariant after all passes were merged into one state.
 use Rattle.std.proofs.Common.{◌≡◌, ℕ, zero, suc, ◌+◌, ◌-◌, ◌<◌, ◌≤◌, min, cond, ltb, List, [], ◌∷◌, ◌++◌, take, drop, set, Bool, true, false, get_or, get_or-set_other, get_or-drop, take_all, drop_of_length-le, length-drop, length, refl, sym, ap, subst, ◌∙◌, arith}
 use Rattle.std.specs.Prelude.{slice_index}
 use mathlib.Core.Option.{some, some-injective, some-ne-none}
@@ -15,12 +15,12 @@ use Rattle.claim_board.specs.declared.rule.Slot.TheVariants.{Piece}
 use Rattle.claim_board.proofs.Totals.{one-le-total}
 use Rattle.claim_board.proofs.Slots.{at_below, piece_at, last_at}
 
--- where h of each is 0, so is the total of f
+-- if h of each is 0, so is the total of f
 none_counts : {V : Type 0} (h f : V → ℕ) (vs : List V) → total h vs ≡ 0 → ((i : ℕ) (v : V) → get_elem? vs i ≡ some v → h v ≡ 0 → f v ≡ 0) → total f vs ≡ 0
 none_counts h f [] e z = refl
 none_counts h f (x ∷ xs) e z = let here = z zero x refl (omega arith) in let rest = none_counts h f xs (omega arith) (λ i v e k. z (suc i) v e k) in omega arith
 
--- where one has all of h, it alone counts
+-- if one has all of h, it alone counts
 alone : {V : Type 0} (h f : V → ℕ) (vs : List V) (i : ℕ) (v : V) → get_elem? vs i ≡ some v → total h vs ≡ h v → ((j : ℕ) (u : V) → get_elem? vs j ≡ some u → h u ≡ 0 → f u ≡ 0) → total f vs ≡ f v
 alone h f [] i v at e z = absurd (some-ne-none v (sym at))
 alone h f (x ∷ xs) zero v at e z =
@@ -67,7 +67,7 @@ module _ {P : Type 0} (all : List P) (last : Slot P) (count : ℕ) where
       let home = e.home (length all) last (omega arith) (last_at all last) in
       some-injective y last (sym at ∙ ap (λ j. get_elem? slots j) end ∙ home)
 
-  -- a slot of a piece that nobody drew has its piece
+  -- the slot of an unclaimed piece has its piece
   pub piece_is : (w : ℕ) (v : Hand P) (slots : List (Slot P)) (k : ℕ) (y : Slot P) → Ends w v slots → k < length all → w ≤ k → get_elem? slots k ≡ some y → (x : P) × (get_elem? all k ≡ some x) × (y ≡ Piece x)
   piece_is w v slots k y e below le at =
       let x = at_below all k below in let many = e.many in
@@ -79,7 +79,7 @@ at_get [] i a d e = absurd (some-ne-none a (sym e))
 at_get (x ∷ xs) zero a d e = some-injective x a e
 at_get (x ∷ xs) (suc i) a d e = at_get xs i a d e
 
--- the list of what is left, one longer
+-- the list of the remaining pieces, with one more
 pub more : {A : Type 0} (all old : List A) (w i : ℕ) (x : A) → w ≤ i → i < length all → get_elem? all i ≡ some x → old ≡ take (i - w) (drop w all) → old ++ x ∷ [] ≡ take (i + 1 - w) (drop w all)
 more all old w i x le lt at e =
     let l = drop w all in
@@ -87,11 +87,11 @@ more all old w i x le lt at e =
     let here : get_or l (i - w) x ≡ x = get_or-drop w all (i - w) x ∙ ap (λ k. get_or all k x) (let k : w + (i - w) ≡ i = omega arith in k) ∙ at_get all i x x at in
     ap (λ o. o ++ x ∷ []) e ∙ ap (λ y. take (i - w) l ++ y ∷ []) (sym here) ∙ sym (take_more l (i - w) x (omega (arith, length-drop w all))) ∙ ap (λ k. take k l) n
 
--- before the first that is left the list stays empty
+-- before the first remaining piece the list stays empty
 pub fewer : {A : Type 0} (all old : List A) (w i : ℕ) → i < w → old ≡ take (i - w) (drop w all) → old ≡ take (i + 1 - w) (drop w all)
 fewer all old w i lt e = let n : i - w ≡ i + 1 - w = omega arith in e ∙ ap (λ k. take k (drop w all)) n
 
--- at the end the list has all that are left
+-- at the end the list has all remaining pieces
 pub rest_is : {A : Type 0} (all : List A) (w i : ℕ) → length all ≤ i → take (i - w) (drop w all) ≡ drop (min w (length all)) all
 rest_is all w i le =
     take_all (i - w) (drop w all) (omega (arith, length-drop w all))
@@ -99,7 +99,7 @@ rest_is all w i le =
     (λ y. let m : w ≡ min w (length all) = omega arith in ap (λ k. drop k all) m)
     (λ no. let m : length all ≡ min w (length all) = omega arith in drop_of_length-le all {i = w} (omega arith) ∙ sym (drop_of_length-le all {i = length all} (omega arith)) ∙ ap (λ k. drop k all) m)
 
--- which slots are filled once those below i, and the last one, were taken
+-- which slots are filled after those below i, and the last one, were taken
 abbrev pub Taken : ℕ → ℕ → List Bool → Type 0
 Taken i count f =
     ((k : ℕ) → i ≤ k → k < count → get_or f k false ≡ true)

@@ -1,4 +1,4 @@
--- One hand comes to stand for all passes.
+-- Merging all passes into one state.
 use Rattle.std.proofs.Common.{◌≡◌, ℕ, ◌+◌, ◌<◌, cond, ltb, List, [], ◌∷◌, ◌++◌, drop, length, length-append, sym, ap, subst, ◌∙◌, arith, IsTrue}
 use Rattle.std.specs.List.{All, Any}
 use Rattle.std.proofs.lemmas.List.Elements.{All-pop}
@@ -19,7 +19,7 @@ module _ {P : Type 0} (board : Board P) where
   abbrev misses_of : Pass P → ℕ
   misses_of pass = pass.seat.me.0.misses
 
-  -- the hand knows what all passes knew but those that are left
+  -- the state has everything that all passes had, except the remaining ones
   pub record Gathered (all : Hand P) (left passes : List (Pass P)) : Type 0 where
     pub mine : All (IsPassOf board) left
     pub some : 0 < all.passes
@@ -63,7 +63,7 @@ module _ {P : Type 0} (board : Board P) where
       let missed = is.spent any.4 in
       let one = one-le-total misses_of passes any.0 pass (at_index passes any.0 pass any.2 (sym any.3)) in omega arith
 
-  -- once no pass is left, what the hand leaves is what closing gives
+  -- after the last pass is merged, the state gives what closing returns
   pub closes : (all : Hand P) (pieces given : List P) (left passes : List (Pass P)) → left ≡ [] → All (IsPassOf board) passes → Gathered all left passes → Leaves pieces all given → Closes pieces passes given
   closes all pieces given left passes none mine g leaves =
       let many : length (drawn_by_all passes) ≡ length all.drawn =

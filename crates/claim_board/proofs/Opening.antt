@@ -1,4 +1,4 @@
--- A new board keeps the rule.
+-- A new board satisfies the invariant.
 use Rattle.std.proofs.Common.{◌≡◌, ℕ, zero, suc, min, cond, ltb, List, [], ◌∷◌, length, refl, sym, subst, arith}
 use mathlib.Core.Option.{some, some-injective, some-ne-none}
 use Rattle.std.proofs.lemmas.Bool.Decides.{nat_tests}

@@ -1,4 +1,4 @@
--- Passes are cut and joined.
+-- Splitting and merging passes preserves the invariant.
 use Rattle.std.proofs.Common.{◌≡◌, ℕ, ◌+◌, ◌-◌, ◌<◌, List, [], ◌∷◌, ◌++◌, set, length, length-append, refl, sym, subst, ◌∙◌, arith, ⊎_elim}
 use Rattle.std.specs.Prelude.{slice_index}
 use Rattle.std.specs.List.{All}
@@ -61,7 +61,7 @@ module _ {P : Type 0} (all : List P) (last : Slot P) (count : ℕ) where
         record { same_pieces = λ _. f.same_pieces part; few_misses = omega arith; miss_past_end = λ d. absurd (omega arith); below = below_none w; spent = λ _. refl },
       ))
 
-  -- a pass stands for another too
+  -- another pass is merged into a pass
   pub joins : (id : ℕ) (v : Hand P) (other : ℕ) (w : Hand P) → 0 < v.passes
       → Joins (Keeps all last count) id v other w (hand v.pieces (v.passes + w.passes) (v.drawn ++ w.drawn) (v.misses + w.misses)) (hand [] 0 [] 0)
   joins id v other w part s k at apart there =

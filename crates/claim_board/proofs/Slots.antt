@@ -1,4 +1,4 @@
--- The slots as they are laid.
+-- The slots of a new board.
 use Rattle.std.proofs.Common.{◌≡◌, ℕ, zero, suc, ◌<◌, List, [], ◌∷◌, ◌++◌, map, length, get_or, drop, reverse, refl, sym, ap, subst, ◌∙◌, append_assoc, arith}
 use mathlib.Core.Option.{some, some-injective, some-ne-none}
 use Rattle.std.proofs.lemmas.List.{reverse-append}
@@ -34,7 +34,7 @@ slice_get_at (x ∷ xs) (suc i) a e = slice_get_at xs i a e
 pub same_taken : {S : Type 0} (l : List (ℕ × S)) (n : ℕ) (x y : S) (ks ms : List (ℕ × S)) → l ≡ (n, x) ∷ ks → l ≡ (n, y) ∷ ms → x ≡ y
 same_taken {S} l n x y ks ms e d = ap (λ k. (get_or {A = ℕ × S} k 0 (n, x)).1) (sym e ∙ d)
 
--- where all slots hold pieces, so does this one
+-- if all slots hold pieces, so does this one
 piece_of : {P : Type 0} (xs ys : List (Slot P)) (s : Slot P) (all : List P) → xs ++ s ∷ ys ≡ map Piece all → (p : P) × (s ≡ Piece p)
 piece_of [] ys s [] e = let lengths = ap length e in absurd (omega arith)
 piece_of [] ys s (a ∷ all) e = (a, ap (λ l. get_or l 0 s) e)
@@ -59,11 +59,11 @@ same_pieces {P} (x ∷ xs) (y ∷ ys) e =
     let same : x ≡ y = cc e in
     let rest = same_pieces xs ys (ap (drop 1) e) in cc
 
--- once no slot is left, all pieces are back
+-- after the last slot, all pieces are back in the list
 pub all_back : {P : Type 0} (slots : List (Slot P)) (pieces all given : List P) → slots ≡ [] → slots ++ map Piece pieces ≡ map Piece all → given ≡ pieces → given ≡ all
 all_back slots pieces all given none e g = subst (λ l. l ≡ all) (sym g) (same_pieces pieces all (subst (λ l. l ++ map Piece pieces ≡ map Piece all) none e))
 
--- the slots are laid once the last one follows the pieces
+-- after the last slot is added, the slots are complete
 pub laid : {P : Type 0} (all old : List P) (last given : Slot P) (pieces pushed : List (Slot P)) → all ≡ old → pieces ≡ map Piece old → pushed ≡ pieces ++ given ∷ [] → last ≡ given → pushed ≡ slots_of all last
 laid all old last given pieces pushed a e p s =
     subst (λ x. pushed ≡ slots_of all x) (sym s) (subst (λ l. pushed ≡ slots_of l given) (sym a) (subst (λ l. pushed ≡ l ++ given ∷ []) e p))

@@ -1,4 +1,4 @@
--- Sums over lists in which one element changes, and how often a number stands in a list.
+-- Sums over lists in which one element changes, and how often a number occurs in a list.
 use Rattle.std.proofs.Common.{◌≡◌, ℕ, zero, suc, ◌+◌, ◌≤◌, List, [], ◌∷◌, ◌++◌, set, length, length-append, ap, sym, refl, arith}
 use Rattle.std.specs.List.{flat_map}
 use mathlib.Core.Option.{some, some-injective, some-ne-none}
@@ -21,7 +21,7 @@ one-le-total f [] i v e = absurd (some-ne-none v (sym e))
 one-le-total f (x ∷ xs) zero v e = let same = ap f (some-injective x v e) in omega arith
 one-le-total f (x ∷ xs) (suc i) v e = let rest = one-le-total f xs i v e in omega arith
 
--- where f is at most h of each, so are the totals
+-- if f is at most h of each, so are the totals
 pub total-le : {V : Type 0} (f h : V → ℕ) (vs : List V) → ((i : ℕ) (v : V) → get_elem? vs i ≡ some v → f v ≤ h v) → total f vs ≤ total h vs
 total-le f h [] le = omega arith
 total-le f h (x ∷ xs) le = let here = le zero x refl in let rest = total-le f h xs (λ i v e. le (suc i) v e) in omega arith
@@ -30,7 +30,7 @@ pub times-append : (x : ℕ) (ys zs : List ℕ) → times x (ys ++ zs) ≡ times
 times-append x [] zs = omega arith
 times-append x (y ∷ ys) zs = let rest = times-append x ys zs in omega arith
 
--- how often x stands in lists, one after the other
+-- how often x occurs in a concatenation of lists
 pub times-flat_map : {V : Type 0} (f : V → List ℕ) (x : ℕ) (vs : List V) → times x (flat_map f vs) ≡ total (λ v. times x (f v)) vs
 times-flat_map f x [] = refl
 times-flat_map f x (v ∷ vs) = let here = times-append x (f v) (flat_map f vs) in let rest = times-flat_map f x vs in omega arith

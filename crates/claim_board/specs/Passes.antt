@@ -1,4 +1,4 @@
--- What a caller sees of a board and its passes.
+-- A board and its passes, from a caller's view.
 use Rattle.std.specs.Prelude.{◌≡◌, ℕ, ◌<◌, ◌≤◌, Bool, true, false, IsTrue, List, [], length, drop}
 use Rattle.std.specs.List.{Any, flat_map}
 use Rattle.claim_board.specs.declared.draw.Board.{Board}
@@ -14,7 +14,7 @@ module _ {P : Type 0} where
   abbrev pub count_of_passes : Board P → ℕ
   count_of_passes board = board.table.shared.key.passes
 
-  -- the numbers that the pass drew, in order
+  -- the numbers of the pieces that the pass claimed, in order
   abbrev pub drawn_by : Pass P → List ℕ
   drawn_by pass = pass.seat.me.0.drawn
 
@@ -22,7 +22,7 @@ module _ {P : Type 0} where
   abbrev pub found_none : Pass P → Bool
   found_none pass = pass.is_spent
 
-  -- it is one of the passes that the board was opened with
+  -- the pass is one of those that the board was opened with
   pub record IsPassOf (board : Board P) (pass : Pass P) : Type 0 where
     pub same_table : pass.seat.table_id ≡ board.table.shared.table_id
     pub same_pieces : pass.seat.me.0.pieces ≡ pieces_of board
@@ -30,20 +30,20 @@ module _ {P : Type 0} where
     pub not_spent : found_none pass ≡ false → pass.seat.me.0.misses ≡ 0
     pub spent : found_none pass ≡ true → 0 < pass.seat.me.0.misses
 
-  -- a pass of the board that has drawn nothing and did not find that no piece was left
+  -- a pass of the board that has claimed nothing yet, and has not found that no piece was left
   abbrev pub IsNewPassOf : Board P → Pass P → Type 0
   IsNewPassOf board pass = IsPassOf board pass × (drawn_by pass ≡ []) × (found_none pass ≡ false)
 
-  -- the numbers that all these passes drew
+  -- the numbers that all these passes claimed
   abbrev pub drawn_by_all : List (Pass P) → List ℕ
   drawn_by_all passes = flat_map drawn_by passes
 
-  -- what closing a board shows, with the pieces that it was opened with, all its passes, and the pieces that nobody drew
+  -- the result of closing a board that was opened with these pieces, with all its passes, where the pieces `left` are returned
   pub record Closes (pieces : List P) (passes : List (Pass P)) (left : List P) : Type 0 where
-    -- the numbers drawn are those below their count, each drawn by one pass, once
+    -- the claimed numbers are those below their count, each claimed by one pass, once
     pub once : HasEachBelowOnce (length (drawn_by_all passes)) (drawn_by_all passes)
     pub within : length (drawn_by_all passes) ≤ length pieces
-    -- the pieces after these are left, in order
+    -- the remaining pieces are returned, in order
     pub left_are : left ≡ drop (length (drawn_by_all passes)) pieces
-    -- no pass finds none unless all are drawn
+    -- a pass finds no piece only if all are claimed
     pub none_left : Any (λ pass. IsTrue (found_none pass)) passes → length (drawn_by_all passes) ≡ length pieces

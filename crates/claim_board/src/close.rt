@@ -10,8 +10,8 @@ use crate::rule::{Hand, HandOver, Slot, StandForBoth};
 use atomic_table::Seat;
 
 impl<P: Drop> Board<P> {
-    /// Ends the board, with all its passes: the pieces that nobody drew, in order, in the list that the board was
-    /// opened with. It takes no memory.
+    /// Closes the board, with all its passes. Returns the pieces that no pass claimed, in order, in the list that the
+    /// board was opened with. Does not allocate.
     pub fn close(self, mut passes: Vec<Pass<P>>) -> Vec<P>
         requires passes { All (IsPassOf self) passes.items }
         requires all { length passes.items ≡ count_of_passes self }
@@ -27,7 +27,7 @@ impl<P: Drop> Board<P> {
         self.give_back(all)
     }
 
-    // Lets one seat stand for another pass too.
+    // Merges another pass into one seat.
     fn gather(&self, all: &mut Seat<Slot<P>, Hand<P>>, pass: Pass<P>)
         requires all { (all.old.table_id ≡ self.now.table.shared.table_id)
             × (0 < all.old.me.0.passes) }
@@ -43,7 +43,7 @@ impl<P: Drop> Board<P> {
         self.table.shared.join_seat::<StandForBoth>(all, whole);
     }
 
-    // Ends the board with a seat that stands for all passes.
+    // Closes the board with a seat into which all passes were merged.
     fn give_back(self, all: Seat<Slot<P>, Hand<P>>) -> Vec<P>
         requires all { (all.table_id ≡ self.table.shared.table_id)
             × (all.me.0.passes ≡ count_of_passes self) }
@@ -65,7 +65,7 @@ impl<P: Drop> Board<P> {
     }
 }
 
-// Appends the piece of a slot, if nobody drew it.
+// Appends the piece of a slot, if no pass claimed it.
 fn put_back<P: Drop>(left: &mut Vec<P>, slot: Slot<P>, is_left: bool)
     requires { vec_len left.old < vec_capacity left.old }
     ensures left { (piece : P) → IsTrue is_left → slot ≡ Piece piece →

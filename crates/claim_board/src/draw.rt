@@ -1,4 +1,4 @@
-//! Drawing from a board.
+//! Claiming pieces from a board.
 ghost use Rattle.std.specs.Prelude.{◌≡◌, ◌↔◌, ◌+◌, ◌<◌, ◌≤◌, [], ◌∷◌, ◌++◌, length, slice_get, Some, IsTrue, IsNone, IfSome, IfNone};
 ghost use Rattle.std.specs.List.{All};
 
@@ -6,7 +6,7 @@ use crate::rule::{About, Draw, EachOnce, Hand, Slot};
 use atomic_table::{Seat, Table};
 use std::alloc::Global;
 
-/// The pieces that nobody drew, and the word that counts the draws. Workers in several threads share it by `&`.
+/// The unclaimed pieces, and the word that counts the claims. Worker threads share a board by `&`.
 #[derive(Drop)]
 pub struct Board<P> {
     pub(crate) table: Table<Slot<P>, Hand<P>, About<P>, EachOnce, Global>,
@@ -14,26 +14,26 @@ pub struct Board<P> {
     ghost slots: { table.shared.table_id.slots ≡ length table.shared.key.pieces.value.items + 1 },
 }
 
-/// The right to draw from one board. Each worker has one of its own.
+/// The right to claim from one board. Each worker has a pass of its own.
 #[derive(Drop)]
 pub struct Pass<P> {
     pub(crate) seat: Seat<Slot<P>, Hand<P>>,
-    /// It found that no piece was left, and steps no more.
+    /// The pass found that no piece was left, and takes no more steps.
     pub(crate) is_spent: bool,
 }
 
 impl<P: Drop> Board<P> {
     ghost use Rattle.claim_board.specs.Passes.{pieces_of, drawn_by, found_none, IsPassOf};
 
-    /// How many pieces the board was opened with.
+    /// Returns how many pieces the board was opened with.
     pub fn piece_count(&self) -> usize
         ensures { result ≡ length (pieces_of self.now) }
     {
         self.table.slot_count() - 1
     }
 
-    /// Draws a piece that nobody drew yet: its number among those that the board was opened with, and the piece.
-    /// `None` says that all are drawn, and the pass gets it again from then on.
+    /// Claims the next piece, and returns its number among the pieces that the board was opened with, and the piece.
+    /// Returns `None` if all pieces are claimed, and from then on always for this pass.
     pub fn claim(&self, pass: &mut Pass<P>) -> Option<(u64, P)>
         requires { IsPassOf self.now pass.old }
         ensures same_board { IsPassOf self.now pass.new }

@@ -1,6 +1,7 @@
-//! A board from which workers draw pieces of work, each piece once. One shared word counts the draws: a draw adds one
-//! to it in a single step, and the number that it found is the piece that it takes. So nobody waits for another:
-//! `claim` has no `Wait`, and a `Mutex` round the board is refused, since locking it needs one.
+//! A board: a shared list of pieces of work, from which each piece is claimed by exactly one worker. One shared word
+//! counts the claims: a claim increments it in a single atomic step, and the old value is the number of the claimed
+//! piece. So no worker waits for another: `claim` has no `Wait` bound, and a `Mutex` around the board would not be
+//! accepted, because locking it needs that bound.
 #![tactic(auto)]
 
 mod close;

@@ -11,7 +11,7 @@ use atomic_table::{Seat, Table};
 use std::snapshot::Snapshot;
 
 impl<P: Drop> Board<P> {
-    /// A board of these pieces, and as many passes as asked for. `Err` gives the pieces back where memory was refused.
+    /// Opens a board of these pieces, with this number of passes. If allocation fails, returns the pieces in `Err`.
     pub fn open(mut pieces: Vec<P>, passes: usize) -> Result<(Board<P>, Vec<Pass<P>>), Vec<P>>
         requires some { 0 < passes }
         requires few_passes { passes ≤ 2 ^ 32 }
@@ -48,7 +48,7 @@ impl<P: Drop> Board<P> {
     }
 }
 
-// Lays the pieces in slots, in the same order. The list keeps its room.
+// Moves the pieces into slots, in the same order. The list keeps its capacity.
 fn lay<P>(pieces: &mut Vec<P>, slots: &mut Vec<Slot<P>>)
     requires { (slots.old.items ≡ [])
         × (vec_len slots.old + vec_len pieces.old < vec_capacity slots.old) }
@@ -63,7 +63,7 @@ fn lay<P>(pieces: &mut Vec<P>, slots: &mut Vec<Slot<P>>)
     }
 }
 
-// The pieces again, in the list that they came in.
+// Moves the pieces back into the list that they came in.
 fn take_back<P: Drop>(mut slots: Vec<Slot<P>>, about: &About<P>) -> Vec<P>
     requires { slots.items ≡ slots_of about.now.pieces.value.items (Kept about.now.list.value) }
     ensures { result.items ≡ about.now.pieces.value.items }
@@ -84,7 +84,7 @@ fn take_back<P: Drop>(mut slots: Vec<Slot<P>>, about: &About<P>) -> Vec<P>
     pieces
 }
 
-// Cuts the first seat, which stands for all passes, into as many.
+// Splits the first seat, which represents all passes, into single passes.
 fn deal<P: Drop>(
     board: &Board<P>,
     mut seat: Seat<Slot<P>, Hand<P>>,

@@ -1,4 +1,4 @@
-//! The rule of a board, which each step on its table keeps.
+//! The invariant of a board, which each step on its table preserves.
 ghost use Rattle.std.specs.Prelude.{◌≡◌, ◌+◌, ◌-◌, ◌^◌, ◌<◌, ◌≤◌, [], ◌++◌, length, vec_len, vec_capacity};
 ghost use Rattle.claim_board.specs.Rule.{Keeps, Draws, hand};
 ghost use Rattle.claim_board.specs.declared.rule.Slot.TheVariants.{Kept};
@@ -7,18 +7,18 @@ use atomic_table::{Join, Play, Split, TableRule};
 use std::collections::LinkedList;
 use std::snapshot::Snapshot;
 
-/// What lies in a slot of the table.
+/// The contents of a slot of the table.
 #[derive(Drop)]
 pub(crate) enum Slot<P> {
-    /// A piece that nobody drew.
+    /// An unclaimed piece.
     Piece(P),
-    /// What a draw leaves in the place of its piece.
+    /// A piece was claimed from here.
     Empty,
-    /// The list that the pieces came in, emptied. It waits in the last slot for those that are left.
+    /// The emptied list that the pieces came in. The last slot keeps it for the pieces that remain.
     Kept(Vec<P>),
 }
 
-/// What one pass, or one that stands for several, knows. It is for the proofs: no value of it is made.
+/// The state of one pass, or of several merged passes. It is for the proofs only: no value of it is made.
 pub(crate) struct Hand<P> {
     pub(crate) pieces: LinkedList<P>,
     pub(crate) passes: usize,
@@ -26,7 +26,7 @@ pub(crate) struct Hand<P> {
     pub(crate) misses: u64,
 }
 
-/// What a board is opened with: its pieces, the list that they came in, emptied, and how many passes it has.
+/// What a board was opened with: its pieces, the emptied list that they came in, and its number of passes.
 #[derive(Drop)]
 pub(crate) struct About<P> {
     pub(crate) pieces: Snapshot<Vec<P>>,
@@ -38,7 +38,7 @@ pub(crate) struct About<P> {
     pub(crate) ghost few: { length pieces.value.items + passes < 2 ^ 63 },
 }
 
-/// The numbers drawn are those below the word, each once.
+/// The claimed numbers are those below the word, each exactly once.
 pub(crate) struct EachOnce;
 
 impl<P> TableRule<Slot<P>, Hand<P>, About<P>> for EachOnce {
@@ -48,14 +48,14 @@ impl<P> TableRule<Slot<P>, Hand<P>, About<P>> for EachOnce {
     ghost first = { λ about. hand about.pieces.value.items about.passes [] 0 };
 }
 
-/// A draw: the word goes up by one.
+/// A claim increments the word.
 pub(crate) struct Draw;
 
 impl<P> Play<Slot<P>, Hand<P>> for Draw {
     ghost then = { λ step before number after. Draws before number after };
 }
 
-/// One pass is cut from a pass that stands for several.
+/// Splits one pass from a merged state.
 pub(crate) struct CutOne;
 
 impl<P> Split<Hand<P>> for CutOne {
@@ -64,7 +64,7 @@ impl<P> Split<Hand<P>> for CutOne {
     ghost right = { λ v. hand v.pieces 1 [] 0 };
 }
 
-/// All that a pass knows goes to a seat that holds no slot.
+/// Moves the whole state of a pass to a seat that holds no slot.
 pub(crate) struct HandOver;
 
 impl<P> Split<Hand<P>> for HandOver {
@@ -73,7 +73,7 @@ impl<P> Split<Hand<P>> for HandOver {
     ghost right = { λ v. v };
 }
 
-/// One pass stands for two.
+/// Merges two passes into one state.
 pub(crate) struct StandForBoth;
 
 impl<P> Join<Hand<P>> for StandForBoth {

@@ -1,4 +1,4 @@
--- What the log says of each pid once the head segment is taken off and what lives in it stands at the end.
+-- The page that the log determines for each pid, after the head segment is removed and its live frames are at the end.
 use Rattle.std.specs.Prelude.{◌≡◌, ℕ, Bool, true, false, nat_eq, List, [], ◌∷◌, ◌++◌, map, fold}
 use Rattle.std.proofs.Common.{refl, sym, ap, ◌∙◌, append-nil}
 use Rattle.std.specs.List.{AllByRecursion, list_any}
@@ -35,12 +35,12 @@ free_or_base (FullIndex spelling low base) e f = absurd (cc)
 free_or_base (DeltaIndex run) e f = absurd (cc)
 free_or_base Free e f = refl
 
--- nothing is carried on of what stands after the head segment
+-- no frame after the head segment is copied
 pub carried_none : (head : ℕ) (fs : List Found) → AllByRecursion (λ f. nat_eq f.segment head ≡ false) fs → carried head fs ≡ []
 carried_none head [] a = refl
 carried_none head (f ∷ fs) a = rw a.0 refl
 
--- and all of a page whose base stands in it
+-- all frames of a page whose base is in the head segment are copied
 carried_all : (head : ℕ) (f : Found) (fs : List Found) → nat_eq f.segment head ≡ true → is_base f.frame.content ≡ true → carried head (f ∷ fs) ≡ frames_in (f ∷ fs)
 carried_all head f fs e h = rw e (rw h refl)
 
@@ -50,7 +50,7 @@ carried_free head f fs e h = rw e (rw h refl)
 missing : (cs : List Content) → list_any is_start cs ≡ false → page_by_log cs ≡ Missing
 missing cs e = ap page_from_start (from_last-none is_start cs e)
 
--- of a pid: what stands in the head segment, and what stands after it
+-- the frames of a pid in the head segment, and those after it
 module _ (head : ℕ) (hs ts : List Found) (within : AllByRecursion (λ f. nat_eq f.segment head ≡ true) hs) (following : AllByRecursion (λ f. nat_eq f.segment head ≡ false) ts)
     (sound : is_broken (page_by_log (contents_in (hs ++ ts))) ≡ false) where
   abbrev part : List Found
@@ -59,7 +59,7 @@ module _ (head : ℕ) (hs ts : List Found) (within : AllByRecursion (λ f. nat_e
   abbrev carried_contents : List Found → List Content
   carried_contents fs = map (λ (f : Frame). f.content) (carried head fs)
 
-  -- what the log says of it, before and after
+  -- the page that the log determines for it, before and after
   abbrev Same : Type 0
   Same = page_by_log (contents_in ts ++ carried_contents part) ≡ page_by_log (contents_in (hs ++ ts))
 

@@ -1,4 +1,4 @@
--- What is kept of the pages, grouped by segment, is what the cleans of these segments carry on; and the images that are made of it.
+-- The retained frames of the pages, grouped by segment, are those that the cleans of these segments copy; and the images made of them.
 use Rattle.std.specs.Prelude.{◌≡◌, ◌≢◌, ◌⊎◌, ℕ, ◌-◌, ◌<◌, ◌≤◌, Bool, true, false, cond, ◌&&◌, nat_eq, nat_lt, List, [], ◌∷◌, ◌++◌, length, map, flat_map, take, drop, Vec, Option, Some, None}
 use Rattle.std.proofs.Common.{refl, sym, ap, ◌∙◌, subst, inl, inr, arith, append_assoc, append-nil}
 use Rattle.std.specs.List.{AllByRecursion}
@@ -51,7 +51,7 @@ module _ (g : Format) (good : first_bad_field g.settings ≡ None) (limit n : �
   none_by true = refl
   none_by false = refl
 
-  -- below the limit, what is kept of a page in a segment is what is carried on of it
+  -- below the limit, the retained frames of a page in a segment are those that are copied
   carried_by : (b : Bool) (f : Found) (fs : List Found) → nat_eq f.segment n ≡ b → cond b (spelled (wanted_of (Before limit) (f ∷ fs))) [] ≡ spelled (carried n (f ∷ fs))
   carried_by true f fs e =
       let wanted : nat_lt f.segment limit ≡ true = ap (λ (m : ℕ). nat_lt m limit) (eqb-true f.segment n e) ∙ lt-ltb n limit below in
@@ -91,7 +91,7 @@ kept-text g limit n pages found good below sorted h =
 
 -- ---- one frame after the other
 
--- of these bytes these are left, and of the frames in front of them this is the image
+-- these bytes remain, and this is the image of the frames before them
 pub record IsImageUpto (g : Format) (bytes : Bytes) (image : List Bytes) (rest : Bytes) : Type 0 where
   pub frames : List Frame
   pub read : AreRead g is_at_tail (length bytes) bytes frames rest
@@ -127,7 +127,7 @@ module _ {A : Type 0} (g : Format) where
   abbrev frames_of : List (Vec ℕ A) → List (List ℕ)
   frames_of pages = flat_map (λ (p : Vec ℕ A). image_in g p.items) pages
 
-  -- of all pages these are left, and the frames of those in front are these images
+  -- these pages remain, and these are the images of the frames of those before
   pub record AreChosen (images : List (List (List ℕ))) (left every : List (Vec ℕ A)) : Type 0 where
     pub frames : frames_of_images images ++ frames_of left ≡ frames_of every
     pub some : AllByRecursion (λ i. i ≢ []) images
@@ -168,7 +168,7 @@ held-frames {A} g o pages is = sym (flat_map-map (image_in g) (λ (p : Vec ℕ A
 pub none-frames : {A B : Type 0} (g : Format) (o : Option (Vec (Vec ℕ A) B)) (images : List (List (List ℕ))) → o ≡ None → images ≡ [] → frames_of_images images ≡ flat_map (image_in g) (held o)
 none-frames g o images is none = ap frames_of_images none ∙ ap (λ q. flat_map (image_in g) (held q)) (sym is)
 
--- images where none is empty: there are none, or their text has a frame
+-- none of the images is empty: there are no images, or there is a frame
 pub some-text : (images : List (List (List ℕ))) (text : List Frame) → AreOfText images text → AllByRecursion (λ i. i ≢ []) images → (images ≡ []) ⊎ (1 ≤ length text)
 some-text [] text of some = inl refl
 some-text ([] ∷ images) text of some = absurd (some.0 refl)

@@ -1,4 +1,4 @@
--- The disk after a clean stands for the store that it stood for, with the head one further.
+-- The disk after a clean encodes the same store as before, with the head one greater.
 use Rattle.std.specs.Prelude.{◌≡◌, ◌≢◌, ℕ, suc, ◌*◌, ◌<◌, ◌≤◌, Bool, true, false, nat_eq, if◌then◌else◌, List, [], ◌∷◌, ◌++◌, Option, Some, None, Result, Ok, Err}
 use Rattle.std.proofs.Common.{refl, sym, ap, ◌∙◌, arith, subst, inl, inr}
 use Rattle.std.proofs.Math.Nat.{mul-le-mul_right}
@@ -115,7 +115,7 @@ module _ (s : Settings) (file : List ℕ) (slot : Slot) (found : List Found) (re
   sound-same : broken_in (frames_in (off.rest ++ found_in_text s slot.tail text)) ≡ None
   sound-same = ap broken_in frames-after ∙ sound-cleaned slot.head (all_in slot.head off.here) off.rest (in_head slot.head off.here) later sound_parts
 
-  -- so the disk stands for the same tree
+  -- so the disk encodes the same tree
   pub clean-read : next.sequence ≤ greatest → next.tail ≤ greatest → is_full_for_clean s slot.head next.tail ≡ false → store_of_disk file' ≡ Ok (s, store_after (tree_by_log slot (frames_in found)) next)
   clean-read number small free =
       let all : List Found = off.rest ++ found_in_text s slot.tail text in
@@ -142,7 +142,7 @@ some-segments : (b : Bool) (r : Result (Store × List ℕ) Fault) (now : Store) 
 some-segments true r now bytes e = absurd (cc)
 some-segments false r now bytes e = (refl, e)
 
--- a clean that isn't refused: what was read, and what was committed
+-- a clean that doesn't fail: what was read, and what was committed
 pub record IsClean (s : Settings) (st : Store) (file : List ℕ) (now : Store) (bytes : List ℕ) : Type 0 where
   pub more : st.head ≢ last_segment s st.tail
   pub found : List Found
@@ -165,7 +165,7 @@ clean-done s st file now bytes e =
       done = commit-done t (is_full_for_clean s st.head t.tail) (store_after st.tree t) now (committed s file (spans s st.tail (clean_text st.head found)) t) bytes done;
     }
 
--- what is left of a store and of its disk, where the disk stands for this tree
+-- the store and its disk afterwards, where the disk encodes this tree
 abbrev pub StandsStill : Settings → Tree → Store → List ℕ → Type 0
 StandsStill s tree now bytes = (store_of_disk bytes ≡ Ok (s, with_tree now tree)) × IsInStep s now bytes
 
@@ -251,7 +251,7 @@ clean-back s st on_disk file is are now bytes h =
     let same : store_after st.tree by.slot ≡ st = same_store st on_disk (tree_by_log by.slot (frames_in by.found)) by.slot are by.store in
     clean_back s file st.tree on_disk by (subst (λ (x : Store). AreInStep x on_disk) (sym same) are) now bytes (ap (λ (x : Store). after_clean s x file) same ∙ h)
 
--- what a clean leaves of the store in memory
+-- the effect of a clean on the store in memory
 pub cleaned-store : (s : Settings) (st now : Store) (file bytes : List ℕ) → after_clean s st file ≡ left now bytes → (now.tree ≡ st.tree) × (now.head ≡ suc st.head) × (now.sequence ≡ suc st.sequence) × (now.version ≡ st.version)
 cleaned-store s st now file bytes h =
     let store = (clean-done s st file now bytes h).done.store in

@@ -1,4 +1,4 @@
--- A crash in a clean leaves what the disk stood for, or all that the clean leaves.
+-- A crash during a clean leaves a disk that encodes the same store as before, or everything that the clean writes.
 use Rattle.std.specs.Prelude.{◌≡◌, ◌⊎◌, ℕ, suc, List, None, Result, Ok}
 use Rattle.std.proofs.Common.{refl, sym, ap, ◌∙◌, subst, inl, inr}
 use Rattle.keys.specs.declared.fault.Fault.{Fault}
@@ -50,7 +50,7 @@ module _ (s : Settings) (file c : List ℕ) (tree : Tree) (on_disk : Store) (by 
       commit-hidden (format_of s slot) file c on_disk by (clean_text slot.head of.found) room
       (subst (λ (fs : List Found). IsUncommitted s (suc slot.sequence) (spans s slot.tail (clean_text slot.head fs)) file c) same hid)
 
--- until a clean is done the disk stands for the store from before
+-- until a clean is done the disk encodes the old store
 pub clean-hidden : (s : Settings) (st now : Store) (found : List Found) (file bytes c : List ℕ) → IsInStep s st file → after_clean s st file ≡ left now bytes → log s file (slot_of st) ≡ Ok found
     → IsUncommitted s (suc st.sequence) (spans s st.tail (clean_text st.head found)) file c → store_of_disk c ≡ store_of_disk file
 clean-hidden s st now found file bytes c (on_disk, is, are) h read hid =

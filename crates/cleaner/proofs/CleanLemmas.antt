@@ -1,4 +1,4 @@
--- The pages of a log are the same once the head segment is taken off and what lives in it stands at the end.
+-- The pages of a log are the same after the head segment is removed and its live frames are at the end.
 use Rattle.std.specs.Prelude.{◌≡◌, ℕ, Bool, true, false, cond, ◌&&◌, nat_eq, List, [], ◌∷◌, ◌++◌, map, flat_map, None}
 use Rattle.std.proofs.Common.{refl, sym, ap, ◌∙◌}
 use Rattle.std.specs.List.{AllByRecursion}
@@ -30,7 +30,7 @@ own : (pid : ℕ) (found : List Found) → AllByRecursion (λ g. nat_eq g.frame.
 own pid [] = tt
 own pid (f ∷ fs) = own_by (nat_eq f.frame.pid pid) pid f (of_pid pid fs) refl (own pid fs)
 
--- ---- what is carried on of a pid
+-- ---- the copied frames of a pid
 
 of_each_by : (b : Bool) (n pid : ℕ) (f : Frame) (fs : List Frame) → nat_eq pid n ≡ b → nat_eq f.pid n ≡ true → contents_of pid fs ≡ cond b (map (λ (g : Frame). g.content) fs) []
     → contents_of pid (f ∷ fs) ≡ cond b (map (λ (g : Frame). g.content) (f ∷ fs)) []
@@ -83,7 +83,7 @@ module _ (head : ℕ) (found : List Found) where
       let none : of_pid pid found ≡ [] = nil_from (of_pid pid found) (sym (contents-found pid found) ∙ none_of (frames_in found) pid (sym (among-pids_of (frames_in found) pid) ∙ e)) in
       sym (ap (λ (fs : List Found). map (λ (f : Frame). f.content) (carried head (from_last starts fs))) none)
 
-  -- of each pid the text has what is carried on of it
+  -- for each pid, the frames of a clean are those that are copied of it
   pub text-of_pid : (pid : ℕ) → contents_of pid (clean_text head found) ≡ due pid
   text-of_pid pid =
       made-under carried_of due own_carried (pids_of (frames_in found)) pid (rising-with_numbers (pids (frames_in found)) [] tt)
@@ -120,7 +120,7 @@ module _ (head : ℕ) (hs ts : List Found) (within : AllByRecursion (λ f. nat_e
   pub sound-cleaned : broken_in after ≡ None
   sound-cleaned = not_broken after (λ pid. ap is_broken (state_same pid) ∙ none_broken (frames_in (hs ++ ts)) pid sound)
 
--- ---- the frames of the text
+-- ---- the frames of the clean
 
 all_in_text : (P : Frame → Type 0) (head : ℕ) (found : List Found) (ns : List ℕ) → AllByRecursion (λ f. P f.frame) found → AllByRecursion P (flat_map (λ pid. carried head (live_frames pid found)) ns)
 all_in_text P head found [] a = tt
@@ -133,6 +133,6 @@ all_in_text P head found (n ∷ ns) a =
     frames_all [] a = tt
     frames_all (f ∷ fs) a = (a.0, frames_all fs a.1)
 
--- what holds of each frame that was found holds of each of the text
+-- a property of each frame found holds for each frame of the clean
 pub all-clean_text : (P : Frame → Type 0) (head : ℕ) (found : List Found) → AllByRecursion (λ f. P f.frame) found → AllByRecursion P (clean_text head found)
 all-clean_text P head found a = all_in_text P head found (pids_of (frames_in found)) a

@@ -1,4 +1,4 @@
--- The cleans of rows 15 and 16, and the store that is read after the second.
+-- The cleans of rows 15 and 16, and the store that is read after the second clean.
 use Rattle.std.specs.Prelude.{◌≡◌, ℕ, List, [], ◌∷◌, ◌++◌, drop, Ok, Err}
 use Prim.Native.String.{String}
 use Rattle.std.proofs.Common.{refl}
@@ -21,7 +21,7 @@ use Rattle.cleaner.specs.CleanText.{clean_text}
 
 -- ---- row 15: every third flush writes a base, so that none of the head segment's lives
 
--- what is found of texts that were written one after the other
+-- the frames found after commits that were written one after the other
 abbrev found_in_all : ℕ → List (List Frame) → List Found
 found_in_all tail [] = []
 found_in_all tail (text ∷ texts) = found_in_text S tail text ++ found_in_all (tail_after S tail text) texts
@@ -83,7 +83,7 @@ row_16_read = refl
 row_16_again : after_clean S (in_memory One 1 464 7) (disk_after One) ≡ Err NothingToClean
 row_16_again = refl
 
--- and so in a log of version 2: the frames from before its upgrade are copied as they stand, and the version stays
+-- and so in a log of version 2: the frames from before its upgrade are copied unchanged, and the version stays
 of_version_two : after_clean S (in_memory Two 0 309 6) (disk_before Two) ≡ Ok (in_memory Two 1 464 7, disk_after Two)
 of_version_two = refl
 

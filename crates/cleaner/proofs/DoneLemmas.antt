@@ -1,4 +1,4 @@
--- What a clean that was planned leaves of a disk.
+-- The effect of a planned clean on a disk.
 use Rattle.std.specs.Prelude.{◌≡◌, ◌≢◌, ◌⊎◌, ℕ, List, Result, Ok, Err, MatchResult, IfOk, IfErr}
 use Rattle.std.proofs.Common.{sym, ap, ◌∙◌, subst, inl, inr}
 use Rattle.keys.specs.declared.fault.Fault.{Fault}
@@ -24,11 +24,11 @@ use Rattle.cleaner.proofs.CleanCrash.{clean-hidden}
 use Rattle.cleaner.proofs.PlanLemmas.{format_for, base_in, own_done}
 
 module _ (s : Settings) (st : Store) (m : CommitPlan) (more : st.head ≢ last_segment s st.tail) where
-  -- what a crash leaves: the store before, or all that the clean leaves
+  -- what a crash leaves: the old store, or everything that the clean writes
   abbrev CleanLeaves : List ℕ → List ℕ → Type 0
   CleanLeaves file c = (store_of_disk c ≡ store_of_disk file) ⊎ ((x : Store) × (after_clean s st file ≡ Ok (x, c)))
 
-  -- the bytes with its text and its slot
+  -- the bytes with its frames and its slot
   abbrev after : (file : List ℕ) → IsClean (format_for s st) (ends_of st) file m → List ℕ
   after file p = file_with s (base_in (format_for s st) (ends_of st) file) (clean_text st.head p.0) file
 
@@ -68,7 +68,7 @@ module _ (s : Settings) (st : Store) where
   pub written-since : (r : Result Slot Fault) (old mid new : View) → Same old mid → IfOk r (λ u. after_clean s st mid.seen ≡ Ok (store_after st.tree u, new.seen)) → IfOk r (λ u. after_clean s st old.seen ≡ Ok (store_after st.tree u, new.seen))
   written-since r old mid new same h = subst (λ (file : List ℕ). IfOk r (λ u. after_clean s st file ≡ Ok (store_after st.tree u, new.seen))) same.seen h
 
-  -- what a crash leaves: the store before, or all that a clean leaves
+  -- what a crash leaves: the old store, or everything that a clean writes
   abbrev Leaves : List ℕ → List ℕ → Type 0
   Leaves file c = (store_of_disk c ≡ store_of_disk file) ⊎ ((x : Store) × (after_clean s st file ≡ Ok (x, c)))
 

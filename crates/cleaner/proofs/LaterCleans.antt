@@ -1,4 +1,4 @@
--- What a clean of a later segment carries on is the same before a clean of the head segment and after it.
+-- A clean of a later segment copies the same frames before and after a clean of the head segment.
 use Rattle.std.specs.Prelude.{◌≡◌, ℕ, Bool, true, false, cond, ◌&&◌, ◌||◌, nat_eq, List, [], ◌∷◌, ◌++◌, map}
 use Rattle.std.proofs.Common.{refl, sym, ap, ◌∙◌, append-nil}
 use Rattle.std.specs.List.{AllByRecursion, list_any}
@@ -25,7 +25,7 @@ use Rattle.cleaner.proofs.NumberLists.{same-made, flat-same}
 abbrev contents : List Frame → List Content
 contents fs = map (λ (f : Frame). f.content) fs
 
--- a frame that stands elsewhere is the first
+-- if the first frame is in another segment, nothing is copied
 carried_first : (n : ℕ) (fs gs : List Found) → list_any starts fs ≡ true → AllByRecursion (λ f. nat_eq f.segment n ≡ false) fs → carried n (fs ++ gs) ≡ []
 carried_first n [] gs e a = absurd (cc)
 carried_first n (f ∷ fs) gs e a = rw a.0 refl
@@ -38,17 +38,17 @@ both false c e = absurd (cc)
 base_starts : (c : Content) → is_base c ≡ true → is_start c ≡ true
 base_starts c e = ap (λ (b : Bool). b || is_free c) e
 
--- Of a pid: what stands in the head segment, what stands after it, and what was written of it at the end. Segment n lies between.
+-- the frames of a pid in the head segment, those after it, and those that were written for it at the end; segment n is between
 module _ (head n : ℕ) (differ : nat_eq head n ≡ false) (hs ms ts : List Found)
     (before : AllByRecursion (λ f. nat_eq f.segment n ≡ false) hs) (behind : AllByRecursion (λ f. nat_eq f.segment n ≡ false) ts) where
   abbrev Same : Type 0
   Same = carried n (from_last starts (ms ++ ts)) ≡ carried n (from_last starts (hs ++ ms))
 
-  -- where a page was written, nothing of it lives in segment n
+  -- if a page was written, nothing of it lives in segment n
   written : list_any starts ts ≡ true → carried n (from_last starts (ms ++ ts)) ≡ []
   written some = ap (carried n) (from_last-following starts ms ts some) ∙ carried_none n (from_last starts ts) (from_last-all starts (λ f. nat_eq f.segment n ≡ false) ts behind)
 
-  -- where nothing was written, the head segment makes no difference
+  -- if nothing was written, the head segment makes no difference
   off_by : (b c : Bool) → list_any starts ms ≡ b → list_any starts hs ≡ c → carried n (from_last starts ms) ≡ carried n (from_last starts (hs ++ ms))
   off_by true c e f = ap (carried n) (sym (from_last-following starts hs ms e))
   off_by false false e f = ap (carried n) (from_last-none starts ms e ∙ sym (from_last-none starts (hs ++ ms) (none-append starts hs ms f e)))
@@ -76,7 +76,7 @@ module _ (head n : ℕ) (differ : nat_eq head n ≡ false) (hs ms ts : List Foun
 
 -- ---- the log
 
--- what was found in the head segment, what was found after it, and the text of a clean at the end
+-- the frames found in the head segment, those after it, and those of a clean at the end
 module _ (head n : ℕ) (differ : nat_eq head n ≡ false) (hs ms ts : List Found)
     (before : AllByRecursion (λ f. nat_eq f.segment n ≡ false) hs) (behind : AllByRecursion (λ f. nat_eq f.segment n ≡ false) ts) (text : frames_in ts ≡ clean_text head (hs ++ ms)) where
   same-carried : (pid : ℕ) → carried n (live_frames pid (ms ++ ts)) ≡ carried n (live_frames pid (hs ++ ms))

@@ -1,4 +1,4 @@
--- How many bytes of a log live, by what is kept of its pages.
+-- The number of live bytes of a log, from the sizes that are retained of its pages.
 use Rattle.std.specs.Prelude.{◌≡◌, ◌⊎◌, ℕ, ◌+◌, ◌-◌, ◌^◌, ◌≤◌, min, sum_by, List, [], ◌∷◌, Option, Some, None, Result, Ok, Err, MatchResult}
 use Rattle.std.proofs.Common.{refl, sym, ap, ◌∙◌, inl, inr, arith}
 use Rattle.std.specs.List.Sorted.{IsStrictlySortedBy}
@@ -23,7 +23,7 @@ use Rattle.recovery.proofs.KeptPages.{KeepEach, first_is, later_are, in-order}
 use Rattle.cleaner.specs.Live.{live_under, live_bytes, if_sound, live_found, live_in}
 use Rattle.cleaner.specs.PagesRead.{PagesRead}
 
--- the bytes of the frames of what is kept of these pages
+-- the sizes of the retained frames of these pages
 abbrev pub sizes : List (ℕ × Kept) → ℕ
 sizes es = sum_by (λ (e : ℕ × Kept). e.1.size) es
 
@@ -40,7 +40,7 @@ all-live live left every none fits same =
     let nothing : sizes left ≡ 0 = ap sizes none in
     omega (arith, nothing, fits, same)
 
--- what is kept of each page has the bytes of its live frames
+-- the retained size of each page is that of its live frames
 live-each : (w : Wanted) (found : List Found) (es : List (ℕ × Kept)) → AreRisingPids (keys_of es) → KeepEach w found es → sizes es ≡ live_under found (keys_of es)
 live-each w found [] r h = refl
 live-each w found ((k, v) ∷ es) r h =
@@ -55,7 +55,7 @@ kept-live w g found sorted live =
     let order = in-order w g.by_pid found sorted live.kept in
     ap (λ (n : ℕ). min n (2 ^ 64 - 1)) (live-each w found g.by_pid.entries order.rise order.each ∙ ap (λ (ns : List ℕ). live_under found ns) order.all)
 
--- ---- a reading, and why it is refused
+-- ---- a reading, and why it fails
 
 module _ (g : Format) (e : LogEnds) (now : List ℕ) (found : List Found) (read : log_between g now e.head e.tail ≡ Ok found) (old new : ℕ) where
   pub new-live : (limit : ℕ) (Such : PagesRead → Type 0) (r : Result PagesRead Fault)

@@ -1,4 +1,4 @@
--- A reading of a log serves the cleans of its first segments in turn: after a clean it is one of the log that the clean leaves.
+-- A reading of a log can be used for the cleans of its first segments in turn: after a clean it is a reading of the cleaned log.
 use Rattle.std.specs.Prelude.{◌≡◌, ◌≢◌, ◌⊎◌, ℕ, suc, ◌+◌, ◌-◌, ◌/◌, ◌<◌, ◌≤◌, true, false, nat_eq, min, IsTrue, List, [], ◌∷◌, ◌++◌, length, map, flat_map, None, Some, Result, Ok, Err, MatchResult, IfOk, IfErr}
 use Rattle.std.proofs.Common.{refl, sym, ap, ◌∙◌, arith, subst}
 use Rattle.std.specs.List.{AllByRecursion}
@@ -56,7 +56,7 @@ later_segment s tail later some less =
     let below = div-mul-le_self (tail - 1) s.seg_size in
     le-div ((tail - 1) / s.seg_size) (later - 1) s.seg_size some (omega (arith, below, less))
 
--- a log that begins below a limit in front of its last segment has more than one
+-- a log that begins below a limit before its last segment has more than one
 pub has-more : (g : Format) (e : LogEnds) (limit : ℕ) → e.head < limit → limit ≤ last_segment g.settings e.tail → e.head ≢ last_segment g.settings e.tail
 has-more g e limit below within same = omega (arith, below, within, same)
 
@@ -67,7 +67,7 @@ first-has head last limit is more = omega (arith, is, more)
 -- ---- what was read
 
 module _ (v : View) (g : Format) (e : LogEnds) (now : List ℕ) (limit : ℕ) (found : List Found) (Wrong : Fault → Type 0) where
-  -- what is kept of the frames that were found
+  -- what is retained of the frames found
   abbrev IsKeptOf : Result PagesRead Fault → Type 0
   IsKeptOf r = MatchResult r (λ r. (broken_in (frames_in found) ≡ None) × (r.limit ≡ limit) × (r.live ≡ live_bytes found) × HasTexts g 0 found r) Wrong
 
@@ -83,7 +83,7 @@ module _ (v : View) (g : Format) (e : LogEnds) (now : List ℕ) (limit : ℕ) (f
   new-limit Such (Ok r) such (sound, same, live, texts) = subst Such (sym same) such
   new-limit Such (Err fault) such h = tt
 
--- why it is refused
+-- why it fails
 pub new-fault : (g : Format) (e : LogEnds) (now : List ℕ) (more : e.head ≢ last_segment g.settings e.tail) (old new : ℕ) (found : List Found) → log_between g now e.head e.tail ≡ Ok found → (st : Store) → ends_of st ≡ e → st.version ≡ g.version
     → (Kept : PagesRead → Type 0) (r : Result PagesRead Fault) → MatchResult r Kept (λ fault. (fault ≡ NoMemory) ⊎ ((f : Finding) × (broken_in (frames_in found) ≡ Some f) × (fault ≡ BadStructure f)))
     → IfErr r (IsCleanFault g.settings st now old new)
@@ -150,7 +150,7 @@ module _ (g : Format) (e : LogEnds) (file : List ℕ) (good : first_bad_field g.
       after-log g file (spans s e.tail text) u whole fits (omega (arith, count)) (suc e.head) u.tail
       ∙ text-back g good file (suc e.head) e.tail off.rest text whole within (log-left g e good are more) off.read_on (omega (arith, free))
 
-  -- the text is that of what was found in two parts
+  -- the frames of a clean, from the frames found in two parts
   text-parts : frames_in (found_in_text s e.tail text) ≡ clean_text e.head (all_in e.head off.here ++ off.rest)
   text-parts = frames-text s e.tail [] text ∙ ap (λ (fs : List Found). clean_text e.head fs) off.all
 
@@ -166,7 +166,7 @@ module _ (g : Format) (e : LogEnds) (file : List ℕ) (good : first_bad_field g.
   some : 0 < s.seg_size
   some = let size = (are_sized s good).least_size in omega (arith, size)
 
-  -- a clean of a later segment, in front of the last one, carries on what it would have carried on before
+  -- a clean of a later segment, before the last one, copies the same frames as before
   same-text : (n : ℕ) → suc e.head ≤ n → n < last_segment s e.tail → clean_text n now ≡ clean_text n found
   same-text n from below =
       let other : nat_eq e.head n ≡ false = ne_eqb e.head n (λ same. omega (arith, same, from)) in
@@ -180,7 +180,7 @@ module _ (g : Format) (e : LogEnds) (file : List ℕ) (good : first_bad_field g.
       let rises = tail-rises g good e.tail text within in
       later_segment s e.tail u.tail some (omega (arith, rises))
 
-  -- so a reading that has the texts of the later segments is one of this log
+  -- so a reading that has the frames for the later segments is one of this log
   pub next-reading : (r : PagesRead) → r.limit ≤ last_segment s e.tail → HasTexts g (suc e.head) found r → IsReading g (ends_in u) after r
   next-reading r below texts = record {
     found = now;

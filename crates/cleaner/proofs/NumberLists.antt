@@ -1,4 +1,4 @@
--- What is made of each of some rising numbers, where some of them make nothing.
+-- Lists that are made number by number from rising numbers; some numbers contribute nothing.
 use Rattle.std.specs.Prelude.{◌≡◌, ℕ, ◌<◌, Bool, true, false, cond, ◌&&◌, ◌||◌, nat_eq, List, [], ◌∷◌, ◌++◌, flat_map}
 use Rattle.std.proofs.Common.{refl, sym, ap, ◌∙◌}
 use Rattle.std.specs.List.{AllByRecursion, filter}

@@ -1,4 +1,4 @@
--- What is known of a clean that is planned, or refused.
+-- Facts about a clean that is planned, or fails.
 use Rattle.std.specs.Prelude.{◌≡◌, ◌≢◌, ◌⊎◌, ℕ, suc, ◌*◌, ◌<◌, ◌≤◌, Bool, true, if◌then◌else◌, List, [], length, take, drop, None, Option, Some, Result, Ok, Err, MatchResult}
 use Rattle.std.proofs.Common.{sym, ap, ◌∙◌, arith, subst, inl, inr}
 use Rattle.std.proofs.Math.Nat.{mul-le-mul_right}
@@ -69,7 +69,7 @@ module _ (g : Format) (e : LogEnds) (st : Store) (ends : ends_of st ≡ e) (vers
 
 -- ---- the slot on the disk
 
--- once its bytes are read, it is what they say
+-- after its bytes are read, the slot is the one that they encode
 pub slot-read : (n : ℕ) (file buf : List ℕ) → 512 ≤ length file → length buf ≡ 64 → slot_in buf ≡ slot_on_disk n (overlay file (slot_place n) buf)
 slot-read n file buf room long =
     let low = slot_low n in
@@ -83,7 +83,7 @@ slot-beside n file buf room long =
     let low = slot_low n in
     agree_less (IsBeside (slot_place n) (length buf)) (λ i. 512 ≤ i) file (overlay file (slot_place n) buf) (λ i high. inr (omega (arith, low, long, high))) (overlay-beside file (slot_place n) buf (omega (arith, low, room, long)))
 
--- ---- why a clean is refused
+-- ---- why a clean fails
 
 module _ (s : Settings) (file : List ℕ) where
   -- more than one segment is in use, so the log is read
@@ -96,7 +96,7 @@ module _ (s : Settings) (file : List ℕ) where
   of_pages : (st : Store) (found : List Found) (o : Option Finding) → broken_in (frames_in found) ≡ o → after_clean_of s st file found ≡ and_then (unless_found o (clean_text st.head found)) (after_carried s st file)
   of_pages st found o e = ap (λ (p : Option Finding). and_then (unless_found p (clean_text st.head found)) (after_carried s st file)) e
 
-  -- what is read and sound is carried on
+  -- frames that are read and fit together are copied
   pub carried-on : (st : Store) (found : List Found) → st.head ≢ last_segment s st.tail → log s file (slot_of st) ≡ Ok found → broken_in (frames_in found) ≡ None
       → after_clean s st file ≡ after_carried s st file (clean_text st.head found)
   carried-on st found more read sound = of_log st (Ok found) more read ∙ of_pages st found None sound
@@ -131,7 +131,7 @@ module _ (g : Format) (e : LogEnds) (good : first_bad_field g.settings ≡ None)
       let from = (split-tail g.settings e.head e.tail (omega (arith, size)) (omega (arith, far))).from in
       elim (cases_lt e.head (last_segment g.settings e.tail)) [ inl k ↦ k | inr k ↦ absurd (more (omega (arith, from, k))) ]
 
-  -- the log without its first segment doesn't end in front of what is left
+  -- the log without its first segment doesn't end before the rest
   pub log-left : e.head ≢ last_segment g.settings e.tail → suc e.head * g.settings.seg_size < e.tail
   log-left more =
       let size = (are_sized g.settings good).least_size in
@@ -143,7 +143,7 @@ module _ (g : Format) (e : LogEnds) (good : first_bad_field g.settings ≡ None)
       let whole : suc e.head * g.settings.seg_size ≤ last_segment g.settings e.tail * g.settings.seg_size = mul-le-mul_right g.settings.seg_size (omega (arith, less)) in
       omega (arith, whole, is, low)
 
--- what its text is added to, by these bytes
+-- the slot to which its frames are added, according to these bytes
 abbrev pub base_in : Format → LogEnds → List ℕ → Slot
 base_in g e file = cleaned_slot g.version e (slot_on_disk e.sequence file)
 
@@ -151,7 +151,7 @@ base_in g e file = cleaned_slot g.version e (slot_on_disk e.sequence file)
 pub images-by : (g : Format) (u : Slot) (text : List Frame) (images : List (List (List ℕ))) → u.version ≡ g.version → AreImages g text images → AreImages (format_of g.settings u) text images
 images-by g u text images same are = subst (λ (v : Version). AreImages (record { settings = g.settings; version = v }) text images) (sym same) are
 
--- ---- a clean that is refused for its tail, or done
+-- ---- a clean that fails for its tail, or succeeds
 
 module _ (s : Settings) (file : List ℕ) (st : Store) where
   -- of a log of this format with these ends
@@ -166,7 +166,7 @@ module _ (s : Settings) (file : List ℕ) (st : Store) where
       ∙ commit-refused u (is_full_for_clean s st.head u.tail) (store_after st.tree u) (committed s file (spans s st.tail text) u) fault
       (ap (λ (b : Bool). admitted u b) (clean-is-flush s st.head u.tail) ∙ h)
 
-  -- what a plan leaves of the store, and of these bytes
+  -- the effect of a plan on the store and on these bytes
   abbrev DoneBy : CommitPlan → Format → LogEnds → Type 0
   DoneBy m f u = u.head ≢ last_segment f.settings u.tail → (p : IsClean f u file m) → after_clean f.settings st file ≡ left (store_after st.tree m.slot) (file_with f.settings (base_in f u file) (clean_text u.head p.0) file)
 
@@ -185,7 +185,7 @@ module _ (g : Format) (e : LogEnds) (file : List ℕ) (st : Store) (ends : ends_
   pub clean-planned : (m : CommitPlan) → DoneBy g.settings file st m g e
   clean-planned m = of-store g e st ends version (DoneBy g.settings file st m) (own_done g.settings file st m)
 
--- the plan of the commit that adds the text to this slot's log is that of the clean, and what holds of the frames that were found holds of them still
+-- the plan of the commit that adds the frames to this slot's log is that of the clean, and the properties of the frames found still hold for them
 pub as-clean : (g : Format) (e : LogEnds) (u : Slot) (file : List ℕ) (found : List Found) (Such : List Found → Type 0) (old new : ℕ) (r : Result CommitPlan Fault) → e.head ≢ last_segment g.settings e.tail → IsRead g e file found → Such found → u ≡ base_in g e file
     → MatchResult r (λ m. IsPlanned g.settings u (clean_text e.head found) m) (λ fault. (fault ≡ NoMemory) ⊎ (next_tail g.settings u (clean_text e.head found) ≡ Err fault))
     → MatchResult r (λ m. (p : IsClean g e file m) × Such p.0) (λ fault. IsRefused g e file fault ⊎ IsLate old new fault)
@@ -202,13 +202,13 @@ module _ (g : Format) (e : LogEnds) (file : List ℕ) (more : e.head ≢ last_se
   clean-fault st same version fault (inl refused) = inl (refused st same version)
   clean-fault st same version fault (inr late) = inr (more-of g e st same version more, late)
 
-  -- what is wrong with what was read
+  -- the fault in what was read
   pub wrong-read : (found : List Found) → log_between g file e.head e.tail ≡ Ok found → (fault : Fault) → (fault ≡ NoMemory) ⊎ ((f : Finding) × (broken_in (frames_in found) ≡ Some f) × (fault ≡ BadStructure f))
       → IsRefused g e file fault ⊎ IsLate old new fault
   wrong-read found read fault (inl memory) = inr (inl memory)
   wrong-read found read fault (inr (f, broken, fits)) = inl (pages-refused g file e more found fault f read broken fits)
 
--- the images of a text that was chosen
+-- the images of the chosen frames
 pub chosen-images : (g : Format) (e : LogEnds) (file : List ℕ) (found : List Found) (images : List (List (List ℕ))) → IsRead g e file found → AreOfText images (clean_text e.head found) → (images ≡ []) ⊎ (1 ≤ length (clean_text e.head found)) → AreImages g (clean_text e.head found) images
 chosen-images g e file found images is of some =
     record { of = of; some = some; within = all-clean_text (λ f. is_frame g f ≡ true) e.head found (log-within g file e.head e.tail found is.read) }
@@ -217,10 +217,10 @@ chosen-images g e file found images is of some =
 pub plan-of : (g : Format) (e : LogEnds) (file seen : List ℕ) (m : CommitPlan) (st : Store) → ends_of st ≡ e → st.version ≡ g.version → file ≡ seen → IsClean g e file m → IsClean (format_for g.settings st) (ends_of st) seen m
 plan-of g e file seen m st same version shown p = to-store g e st same version (λ f u. IsClean f u seen m) (subst (λ (bs : List ℕ). IsClean g e bs m) shown p)
 
--- a call failed, where none had before
+-- a call failed, if none had before
 pub failed_since : (old mid new : ℕ) → mid ≡ old → HasFailed mid new → HasFailed old new
 failed_since old mid new same h = subst (λ (n : ℕ). HasFailed n new) same h
 
--- what is left of the store by this slot, which is that slot
+-- the store after this slot was committed
 pub by_slot : (s : Settings) (st : Store) (file : List ℕ) (u v : Slot) (bytes : List ℕ) → u ≡ v → after_clean s st file ≡ left (store_after st.tree v) bytes → after_clean s st file ≡ left (store_after st.tree u) bytes
 by_slot s st file u v bytes same done = done ∙ ap (λ (w : Slot). left (store_after st.tree w) bytes) (sym same)

@@ -1,4 +1,4 @@
--- A clean: why it is refused, and what it leaves of the store and of its disk.
+-- The result of a clean: the fault, or the store and its disk afterwards.
 use Rattle.std.specs.Prelude.{ℕ, suc, nat_eq, if◌then◌else◌, List, [], take, drop, Result, Ok, Err}
 use Rattle.keys.specs.Bytes.{Bytes}
 use Rattle.keys.specs.declared.settings.Settings.{Settings}
@@ -17,11 +17,11 @@ use Rattle.recovery.specs.LogPages.{broken_in}
 use Rattle.recovery.specs.StoreOfDisk.{unless_found, frames_in}
 use Rattle.cleaner.specs.CleanText.{clean_text}
 
--- the slot for this sequence number, as it stands on the disk
+-- the slot for this sequence number on the disk
 abbrev pub slot_on_disk : ℕ → Bytes → Slot
 slot_on_disk n file = slot_in (take slot_size (drop (slot_place n) file))
 
--- the slot for this text of a store: the root and the height stay those on the disk, the version is the store's, and the head is one further
+-- the slot for these frames of a store: the root and the height stay those on the disk, the version is the store's, and the head is one greater
 abbrev pub clean_slot : Settings → Store → Bytes → List Frame → Slot
 clean_slot s st file text = record {
   sequence = suc st.sequence;
@@ -32,30 +32,30 @@ clean_slot s st file text = record {
   version = st.version;
 }
 
--- the commit of this text
+-- the commit of these frames
 abbrev pub clean_commit : Settings → Store → Bytes → List Frame → Commit
 clean_commit s st file text = record { slot = clean_slot s st file text; spans = spans s st.tail text }
 
--- what a text that is carried on leaves: the tree in memory stays
+-- the result of copying these frames; the tree in memory is unchanged
 abbrev pub after_carried : Settings → Store → Bytes → List Frame → Result (Store × Bytes) Fault
 after_carried s st file text =
     let m : Commit = clean_commit s st file text in
     after_commit m.slot (is_full_for_clean s st.head m.slot.tail) (store_after st.tree m.slot) (file_after s file m)
 
--- what a clean of these frames leaves, unless they say what fits no page
+-- the result of a clean of these frames, or a fault if they do not fit together
 abbrev pub after_clean_of : Settings → Store → Bytes → List Found → Result (Store × Bytes) Fault
 after_clean_of s st file found = and_then (unless_found (broken_in (frames_in found)) (clean_text st.head found)) (after_carried s st file)
 
--- what a clean leaves of a store and of the bytes of its disk, or why it is refused: first where one segment alone is in use
+-- the result of a clean: the store and the bytes of its disk afterwards, or the fault; first of all, the log must not be in one segment
 abbrev pub after_clean : Settings → Store → Bytes → Result (Store × Bytes) Fault
 after_clean s st file =
     if nat_eq st.head (last_segment s st.tail)
     then Err NothingToClean
     else and_then (log s file (slot_of st)) (after_clean_of s st file)
 
--- ---- the calls of the disk
+-- ---- disk calls
 
--- the calls by which a clean of what was found is written: none where a fault was found
+-- the calls by which a clean of the frames found is written: none if a fault was found
 abbrev pub clean_calls_by : Settings → Store → Bytes → Result (List Found) Fault → List Call
 clean_calls_by s st file (Ok found) = calls_for s file (clean_commit s st file (clean_text st.head found))
 clean_calls_by s st file (Err fault) = []

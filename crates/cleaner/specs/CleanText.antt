@@ -1,4 +1,4 @@
--- What a clean writes: the pages that live in the head segment, as they stand in the log, in the order of their pids.
+-- The frames of a clean: those of the pages that live in the head segment, as they are in the log, in the order of their pids.
 use Rattle.std.specs.Prelude.{ℕ, ◌&&◌, nat_eq, if◌then◌else◌, List, [], ◌∷◌, flat_map}
 use Rattle.frame_codec.specs.Frame.{Frame}
 use Rattle.flush_log.specs.Reading.{Found}
@@ -7,11 +7,11 @@ use Rattle.recovery.specs.Gathered.{live_frames}
 use Rattle.recovery.specs.PageByLog.{is_base}
 use Rattle.recovery.specs.StoreOfDisk.{frames_in}
 
--- which of a page's live frames are carried on: all of them, where the first is a base in the head segment
+-- the live frames of a page that are copied: all of them, if the first one is a base in the head segment
 abbrev pub carried : ℕ → List Found → List Frame
 carried head [] = []
 carried head (f ∷ fs) = if nat_eq f.segment head && is_base f.frame.content then frames_in (f ∷ fs) else []
 
--- the text of a clean, of the frames between head and tail
+-- the frames of a clean, from the frames between head and tail
 abbrev pub clean_text : ℕ → List Found → List Frame
 clean_text head found = flat_map (λ pid. carried head (live_frames pid found)) (pids_of (frames_in found))

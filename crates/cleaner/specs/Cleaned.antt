@@ -1,4 +1,4 @@
--- What a clean writes, and why it is refused, where a store and the bytes of its disk don't decide it alone.
+-- The effects and the faults of a clean that a store and the bytes of its disk do not determine alone.
 use Rattle.std.specs.Prelude.{◌≡◌, ◌≢◌, ◌⊎◌, ℕ, suc, List, None, Ok, Err}
 use Rattle.keys.specs.Bytes.{Bytes}
 use Rattle.keys.specs.declared.fault.Fault.{Fault}
@@ -20,26 +20,26 @@ use Rattle.cleaner.specs.CleanText.{clean_text}
 
 -- ---- the call
 
--- a clean of this store, of what these bytes say, would be done
+-- a clean of this store with these bytes would succeed
 abbrev pub WouldClean : Settings → Store → Bytes → Type 0
 WouldClean s st file = (now : Store) × (bytes : Bytes) × (after_clean s st file ≡ Ok (now, bytes))
 
--- Why a clean is refused: by its right; or, where more than one segment is in use, for lack of memory or because a call of the disk failed.
+-- the possible faults of a clean: the one that store and bytes determine; or, if more than one segment is in use, out of memory or a failed disk call
 abbrev pub IsCleanFault : Settings → Store → Bytes → ℕ → ℕ → Fault → Type 0
 IsCleanFault s st file old new fault = (after_clean s st file ≡ Err fault) ⊎ ((st.head ≢ last_segment s st.tail) × IsLate old new fault)
 
--- ---- its parts, of a log of a given format with given ends in given bytes
+-- ---- the steps, for a log of a given format with given ends in given bytes
 
--- a clean of it is refused so, whatever tree is in memory
+-- a clean of the log fails with this fault, whatever tree is in memory
 abbrev pub IsRefused : Format → LogEnds → Bytes → Fault → Type 0
 IsRefused g e file fault = (st : Store) → ends_of st ≡ e → st.version ≡ g.version → after_clean g.settings st file ≡ Err fault
 
--- its log holds these frames, and none of them says what fits no page
+-- the log has these frames, and they fit together
 pub record IsRead (g : Format) (e : LogEnds) (file : Bytes) (found : List Found) : Type 0 where
   pub read : log_between g file e.head e.tail ≡ Ok found
   pub sound : broken_in (frames_in found) ≡ None
 
--- what a clean adds its text to: the log without its first segment, of this version, with the root and the height of a slot on the disk
+-- the slot to which a clean adds its frames: the log without its first segment, in this version, with the root and the height of a slot on the disk
 abbrev pub cleaned_slot : Version → LogEnds → Slot → Slot
 cleaned_slot version e on_disk = record {
   sequence = e.sequence;
@@ -50,7 +50,7 @@ cleaned_slot version e on_disk = record {
   version = version;
 }
 
--- it is the commit of a clean of it, which nothing refuses
+-- it is the commit of a clean of the log, which does not fail
 abbrev pub IsClean : Format → LogEnds → Bytes → CommitPlan → Type 0
 IsClean g e file m = (found : List Found) × IsRead g e file found
     × IsPlanned g.settings (cleaned_slot g.version e (slot_on_disk e.sequence file)) (clean_text e.head found) m

@@ -1,4 +1,4 @@
-//! Makes the text of a clean: the frames of the pages that live in the head segment.
+//! Makes the frames of a clean: those of the pages whose live frames begin in the head segment.
 ghost use Rattle.std.specs.Prelude.{◌≡◌, ◌≢◌, [], flat_map, IfOk};
 ghost use Rattle.std.specs.List.{AllByRecursion};
 ghost use Rattle.flush_log.specs.Images.{frames_in};
@@ -8,7 +8,7 @@ use flush_log::Image;
 use frame_codec::{Format, skim_frame};
 use std::alloc::{AllocError, Global};
 
-// The frames of these bytes, which stand back to back, as an image. It has none where other bytes stand among them.
+// The frames in these bytes as an image; without frames, if the bytes contain anything else.
 fn image_of(alloc: Global, format: &Format, frames: &[u8]) -> Result<Image, AllocError>
     ensures { IfOk result (λ image. image ≡ image_in format.now frames.now) }
 {
@@ -25,7 +25,7 @@ fn image_of(alloc: Global, format: &Format, frames: &[u8]) -> Result<Image, Allo
     Ok(image)
 }
 
-// The images of these pages, in their order; a page without frames has none.
+// The images of these pages, in order; a page without frames has none.
 fn images_in(alloc: Global, format: &Format, pages: Vec<Vec<u8>>) -> Result<Vec<Image>, AllocError>
     ensures frames { IfOk result (λ images. frames_in images.items
         ≡ flat_map (λ page. image_in format.now page.items) pages.items) }
@@ -42,7 +42,7 @@ fn images_in(alloc: Global, format: &Format, pages: Vec<Vec<u8>>) -> Result<Vec<
     Ok(images)
 }
 
-/// Makes the images of these pages, each of which is given by its frames, back to back. The images have the order of the pages, and
+/// Returns the images of these pages, each given by its encoded frames. The images are in the order of the pages, and
 /// none of them is empty.
 pub(crate) fn choose(
     alloc: Global,

@@ -1,4 +1,4 @@
-//! The clean: what lives in the log's first segment is carried to its end, and a crash leaves the store of before or of after.
+//! Cleans a log: copies the live frames of its first segment to its end. A crash leaves the old store or the new one.
 ghost use Rattle.std.specs.Prelude.{◌≡◌, ◌≢◌, ◌⊎◌, ◌≤◌, ◌<◌, ◌+◌, ◌-◌, suc, min, None, Some, Ok, IsTrue, IfOk, IfErr, OnOk, MatchResult};
 ghost use Rattle.keys.specs.Bytes.{Bytes};
 ghost use Rattle.keys.specs.Limits.{first_bad_field};
@@ -45,8 +45,8 @@ fn read_slot_on_disk<D: Disk>(disk: &mut D, sequence: u64) -> Result<Slot, Fault
     Ok(slot_in(&bytes))
 }
 
-// What a clean adds its text to: the log without its first segment, of this version, with the root and the height that a slot on
-// the disk has.
+// The slot to which a clean adds its frames: the log without its first segment, in this version, with the root and the
+// height in the slot on the disk.
 fn cleaned_slot(version: Version, ends: &LogEnds, on_disk: &Slot) -> Slot
     requires { ends.now.head ≤ greatest }
     ensures { result ≡ cleaned_slot version ends.now on_disk.now }
@@ -63,7 +63,7 @@ fn cleaned_slot(version: Version, ends: &LogEnds, on_disk: &Slot) -> Slot
     }
 }
 
-// Plans the clean of a log's first segment by what was read of it. It reads the slot on the disk, and writes nothing.
+// Plans the clean of a log's first segment from what was read of it. Reads the slot on the disk, and writes nothing.
 fn plan<D: Disk>(
     alloc: Global,
     disk: &mut D,
@@ -96,14 +96,16 @@ fn plan<D: Disk>(
     Commit::plan(alloc, &format.settings, &base, images)
 }
 
-/// Reads a log for the cleans of its first `count` segments, which `clean_by` then does one after the other. If fewer segments are in front
-/// of the last one, the reading is for these. `format` and `ends` are those of the store's log. The crew shares the work of skimming the
-/// log, and the result is the same for every crew. The reading holds the frames of the pages that live in these segments, and while the
-/// log is read, a few segments and some bytes for each page are in memory besides.
+/// Reads a log for the cleans of its first `count` segments, which `clean_by` then does one after the other. If there
+/// are fewer segments before the last one, the reading is for these. `format` and `ends` are those of the store's log.
+/// The crew shares the work of skimming the log; the result does not depend on the crew. The reading contains the
+/// frames of the pages that live in these segments. While the log is read, a few segments and some bytes for each page
+/// are also in memory.
 ///
-/// Fails with `Fault::NothingToClean` if the log is in one segment, before any memory is allocated or the disk is called; with
-/// `Fault::BadSegment` or `Fault::BadFrame`, whichever is at the least position of the log; with `Fault::BadStructure` if the frames of a
-/// page fit no page; with `Fault::NoMemory`; and with `Fault::Device` if a read failed. The disk is never written.
+/// Fails with `Fault::NothingToClean` if the log is in one segment, before any allocation or disk call; with
+/// `Fault::BadSegment` or `Fault::BadFrame`, whichever is at the least position of the log; with `Fault::BadStructure`
+/// if the frames of a page do not fit together; with `Fault::NoMemory`; and with `Fault::Device` if a read failed.
+/// Never writes to the disk.
 pub fn read_for_cleans<D: Disk>(
     rt: &(impl Threads + Sync),
     crew: Crew,
@@ -120,14 +122,15 @@ pub fn read_for_cleans<D: Disk>(
     ensures limit { IfOk result (λ reading. (reading.limit
         ≡ ends.now.head + min count (last_segment format.now.settings ends.now.tail - ends.now.head))
         × (ends.now.head < last_segment format.now.settings ends.now.tail)) }
-    // The live bytes, of bytes that were read: none, if it is refused otherwise than before it reads or late.
+    // The live bytes, for the bytes that were read. If it fails with a fault other than `NothingToClean`, `NoMemory`
+    // and `Device`, there are none.
     ensures live { (file : Bytes) × IsReadOf (D.view disk.old) file
         × MatchResult result
         (λ reading. live_in format.now ends.now file ≡ Some reading.live)
         (λ fault. (fault ≡ Fault.NothingToClean)
         ⊎ IsLate (D.failed disk.old) (D.failed disk.new) fault
         ⊎ (live_in format.now ends.now file ≡ None)) }
-    // Why it is refused, as a clean is: of bytes that were read, which on an honest disk are what a read gives.
+    // Why it fails, as a clean fails: for the bytes that were read, which on an honest disk are its contents.
     ensures err { (file : Bytes) × IsReadOf (D.view disk.old) file ×
         ((st : Store) → ends_of st ≡ ends.now → st.version ≡ format.now.version →
         IfErr result (IsCleanFault format.now.settings st file (D.failed disk.old) (D.failed disk.new))) }
@@ -145,12 +148,13 @@ pub fn read_for_cleans<D: Disk>(
     Reading::new(pages, limit)
 }
 
-/// Cleans the log's first segment by a reading of the log. It does what `clean` does, but reads only the slot of the disk. After `Ok` the
-/// reading is one of the log that the clean leaves, whose ends are in the slot that is returned. So the reading serves for the next clean,
-/// if it has the next segment (`Reading::has`). Nothing else may be written to the log before that clean: a flush ends the use of a reading.
+/// Cleans the log's first segment with a reading of the log. Has the effect of `clean`, but reads only the slot of the
+/// disk. After `Ok` the reading is one of the cleaned log, whose ends are in the returned slot, so it can be used for
+/// the next clean if it has the next segment (`Reading::has`). Nothing else may be written to the log before that
+/// clean: after a flush, a reading is no longer valid.
 ///
-/// Fails with `Fault::NoMemory`, `Fault::Spent`, `Fault::Full` and `Fault::Device`, as `clean` does. After an `Err` the reading is
-/// incomplete: drop it.
+/// Fails with `Fault::NoMemory`, `Fault::Spent`, `Fault::Full` and `Fault::Device`, as `clean` does. After an `Err` the
+/// reading is incomplete: drop it.
 pub fn clean_by<D: Disk>(
     alloc: Global,
     disk: &mut D,
@@ -163,7 +167,7 @@ pub fn clean_by<D: Disk>(
     requires ends { AreEnds format.now.settings ends.now }
     requires has { ends.now.head < reading.old.limit }
     requires reading { IsReadingOf (D.view disk.old) format.now ends.now reading.old }
-    // Of bytes that were read, which on an honest disk are what a read gives.
+    // For the bytes that were read, which on an honest disk are its contents.
     ensures read { (file : Bytes) × IsReadOf (D.view disk.old) file ×
         ((st : Store) → ends_of st ≡ ends.now → st.version ≡ format.now.version →
         MatchResult result
@@ -176,14 +180,15 @@ pub fn clean_by<D: Disk>(
         ≡ Ok (store_after st.tree now, (D.view disk.new).seen)) }
     ensures settled { IsTrue (D.view disk.old).is_honest →
         OnOk result (IsSettled (D.view disk.new)) }
-    // On a settled disk that stands for a store with which this one is in step, a crash leaves that store, or all that the clean leaves.
+    // On a synced disk that encodes a store with which this one is in step, a crash leaves that store, or everything
+    // that the clean writes.
     ensures crash { IsSettled (D.view disk.old) → (st : Store) → ends_of st ≡ ends.now →
         st.version ≡ format.now.version → IsInStep format.now.settings st (D.view disk.old).seen →
         LeavesOnly (D.view disk.old) (D.view disk.new)
         (λ c. (store_of_disk c ≡ store_of_disk (D.view disk.old).seen)
         ⊎ ((now : Store) ×
         (after_clean format.now.settings st (D.view disk.old).seen ≡ Ok (now, c)))) }
-    // After an Err nothing was written, but where a call of the disk failed in writing what would have been done.
+    // After an `Err` nothing was written, unless a disk call failed while the clean was being written.
     ensures unwritten { IsTrue (D.view disk.old).is_honest → (st : Store) → ends_of st ≡ ends.now →
         st.version ≡ format.now.version →
         IfErr result (λ fault. Same (D.view disk.old) (D.view disk.new)
@@ -191,7 +196,7 @@ pub fn clean_by<D: Disk>(
     ensures kept { Kept (D.view disk.old) (D.view disk.new) }
     ensures counted { OnOk result (D.failed disk.new ≡ D.failed disk.old) }
     ensures uncounted { CountsNoOther result (D.failed disk.old) (D.failed disk.new) }
-    // The reading serves for the next clean.
+    // The reading can be used for the next clean.
     ensures reading { IfOk result (λ now.
         IsReadingOf (D.view disk.new) format.now (ends_in now) reading.new) }
     ensures limit { reading.new.limit ≡ reading.old.limit }
@@ -203,21 +208,21 @@ pub fn clean_by<D: Disk>(
     Ok(next)
 }
 
-/// Cleans a log: the pages that live in its first segment are written again at its end, as they stand in the log, and then that
-/// segment is free. Returns the slot of the commit: the head is one further, the version stays, and the root and the height are those
-/// that the present slot has on the disk. `format` and `ends` are those of the store's log.
+/// Cleans a log: copies the frames of the pages that live in its first segment to its end, and thereby frees that
+/// segment. Returns the slot of the commit: the head is one greater, the version is the same, and the root and the
+/// height are those in the present slot on the disk. `format` and `ends` are those of the store's log.
 ///
-/// A frame is copied as it is, so a log of the second version can still have whole keys in it after a clean, from before its upgrade.
+/// Frames are copied unchanged, so a log of the second version may still contain whole keys after a clean, from before
+/// its upgrade. The clean changes the log alone: whatever a tree in memory has that the log lacks, the log still lacks.
+/// The crew shares the work of skimming the log; the result and the written bytes do not depend on the crew.
 ///
-/// It works on the log alone, so what a tree in memory has that the log lacks stays so. The crew shares the work of skimming the log; what
-/// is answered and written is the same for every crew.
-///
-/// Where the log is in one segment that is `Fault::NothingToClean`, and neither is memory taken nor the disk called. Else the log is
-/// read, and the first fault counts: that at the least position of the log, `Fault::BadSegment` or `Fault::BadFrame`; of the pages by
-/// their frames, `Fault::BadStructure`; `Fault::Spent`, where a position or the number would be above 2^62; `Fault::Full`, where the
-/// text would need more segments than there are. Besides there are `Fault::NoMemory`, and `Fault::Device` where a call of the disk
-/// failed. After a fault nothing was written, but after `Fault::Device` where the failure was in writing: then the disk holds the store
-/// of before or the one after.
+/// Fails with `Fault::NothingToClean` if the log is in one segment, before any allocation or disk call. Otherwise reads
+/// the log, and fails with the first of these faults that applies: `Fault::BadSegment` or `Fault::BadFrame`, whichever
+/// is at the least position of the log; `Fault::BadStructure` if the frames of a page do not fit together;
+/// `Fault::Spent` if a position or the sequence number would exceed 2^62; `Fault::Full` if the frames need more
+/// segments than there are. It may also fail with `Fault::NoMemory`, or with `Fault::Device` if a disk call fails.
+/// After a fault nothing was written, unless it is `Fault::Device` from a write or a sync: then the disk has the old
+/// store or the new one.
 pub fn clean<D: Disk>(
     rt: &(impl Threads + Sync),
     crew: Crew,
@@ -229,7 +234,7 @@ pub fn clean<D: Disk>(
     requires checked { first_bad_field format.now.settings ≡ None }
     requires within { disk_size format.now.settings ≤ (D.view disk.old).size }
     requires ends { AreEnds format.now.settings ends.now }
-    // Of bytes that were read, which on an honest disk are what a read gives.
+    // For the bytes that were read, which on an honest disk are its contents.
     ensures read { (file : Bytes) × IsReadOf (D.view disk.old) file ×
         ((st : Store) → ends_of st ≡ ends.now → st.version ≡ format.now.version →
         MatchResult result
@@ -242,14 +247,15 @@ pub fn clean<D: Disk>(
         ≡ Ok (store_after st.tree now, (D.view disk.new).seen)) }
     ensures settled { IsTrue (D.view disk.old).is_honest →
         OnOk result (IsSettled (D.view disk.new)) }
-    // On a settled disk that stands for a store with which this one is in step, a crash leaves that store, or all that the clean leaves.
+    // On a synced disk that encodes a store with which this one is in step, a crash leaves that store, or everything
+    // that the clean writes.
     ensures crash { IsSettled (D.view disk.old) → (st : Store) → ends_of st ≡ ends.now →
         st.version ≡ format.now.version → IsInStep format.now.settings st (D.view disk.old).seen →
         LeavesOnly (D.view disk.old) (D.view disk.new)
         (λ c. (store_of_disk c ≡ store_of_disk (D.view disk.old).seen)
         ⊎ ((now : Store) ×
         (after_clean format.now.settings st (D.view disk.old).seen ≡ Ok (now, c)))) }
-    // After an Err nothing was written, but where a call of the disk failed in writing what would have been done.
+    // After an `Err` nothing was written, unless a disk call failed while the clean was being written.
     ensures unwritten { IsTrue (D.view disk.old).is_honest → (st : Store) → ends_of st ≡ ends.now →
         st.version ≡ format.now.version →
         IfErr result (λ fault. Same (D.view disk.old) (D.view disk.new)

@@ -1,4 +1,4 @@
-//! What the definitions of `specs/` mean. Each law is the contract of a function with an empty body.
+//! Laws about the definitions of `specs/`. Each law is the contract of a function with an empty body.
 ghost use Rattle.std.specs.Prelude.{◌≡◌, ◌⊎◌, suc, List, Ok};
 ghost use Rattle.keys.specs.Bytes.{Bytes};
 ghost use Rattle.keys.specs.declared.settings.Settings.{Settings};
@@ -12,9 +12,9 @@ ghost use Rattle.recovery.specs.StoreOfDisk.{store_of_disk};
 ghost use Rattle.cleaner.specs.AfterClean.{after_clean, clean_calls};
 ghost use Rattle.cleaner.specs.CleanText.{clean_text};
 
-/// A clean keeps the store: the disk after it stands for the tree that it stood for, with the head, tail and number that
-/// the clean leaves. The tree in memory stays as it is, with what was not flushed, and in step with the disk, and the log keeps its
-/// version. Whatever the disk does, the store stays one as every store is.
+/// A clean keeps the store: the disk afterwards encodes the same tree as before, with the head, tail and number that
+/// the clean commits. The tree in memory is unchanged, including what was not flushed, and in step with the disk, and
+/// the log keeps its version. Whatever the disk does, the store satisfies the invariant of stores.
 pub fn a_clean_keeps_the_store()
     ensures disk { (s : Settings) (st on_disk now : Store) (file bytes : Bytes) →
         store_of_disk file ≡ Ok (s, on_disk) → AreInStep st on_disk →
@@ -30,8 +30,8 @@ pub fn a_clean_keeps_the_store()
         after_clean s st file ≡ Ok (now, bytes) → IsStore s now }
 {}
 
-/// A crash at any moment of a clean leaves a disk that stands for the store that it stood for, or all that the clean leaves. Until
-/// its commit is done it stands for the first.
+/// A crash at any moment of a clean leaves a disk that encodes the same store as before, or everything that the clean
+/// writes. Until the commit is done, it encodes the old store.
 pub fn a_crash_in_a_clean_leaves_the_store_before_or_after()
     ensures hidden { (s : Settings) (st now : Store) (found : List Found) (file bytes c : Bytes) →
         IsInStep s st file →

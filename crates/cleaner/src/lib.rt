@@ -1,9 +1,10 @@
-//! The cleaning of a log: what lives in its head segment is carried to its end, and then that segment is free. The log is read as a
-//! recovery reads it, but only the frames of the pages that live in its first segments are kept (`Reading`). One reading is enough for
-//! the cleans of all these segments, one after the other: a clean carries on the reading's pages of the head segment, and writes them as
-//! a flush writes its own text. Frames are copied as they stand, and the log keeps its version.
+//! Cleaning a log: the live frames of its head segment are copied to its end, and then that segment is free. The log is
+//! read as by a recovery, but only the frames of the pages that live in its first segments are retained (`Reading`).
+//! One reading is enough for the cleans of all these segments, one after the other: each clean takes the pages of the
+//! head segment from it, and commits their frames as a flush commits its own. Frames are copied unchanged, and the log
+//! keeps its version.
 //!
-//! Laws: a clean keeps the store that the disk stands for; a crash in it leaves the store before or after.
+//! Laws: a clean keeps the store that the disk encodes; a crash during a clean leaves the old store or the new one.
 //! Other crates name items by this root, and laws by the public module `laws`.
 #![tactic(auto)]
 

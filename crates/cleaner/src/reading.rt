@@ -1,4 +1,4 @@
-//! What one reading of a log keeps for the cleans of its first segments.
+//! What one reading of a log retains for the cleans of its first segments.
 ghost use Rattle.std.specs.Prelude.{◌≡◌, ◌≢◌, ◌⊎◌, ◌++◌, ◌-◌, ◌^◌, ℕ, List, None, Some, min, nat_lt, sum_by, OnOk, IfOk, MatchResult};
 ghost use Rattle.std.specs.BTreeMap.{get};
 ghost use Rattle.std.specs.List.Sorted.{IsStrictlySortedBy};
@@ -23,14 +23,14 @@ use std::alloc::{AllocError, Global};
 use std::collections::BTreeMap;
 use std::marker::Model;
 
-/// What one reading of a log found of the pages that live in its first segments. It is enough to clean the segments below a limit, one
-/// after the other. `read_for_cleans` makes it, and `clean_by` takes from it.
+/// The pages that live in the first segments of a log, from one reading of the log. It is enough to clean the segments
+/// below a limit, one after the other. `read_for_cleans` makes it, and `clean_by` consumes it.
 #[derive(Drop)]
 pub struct Reading {
     limit: u64,
-    // How many bytes of the log that was read live.
+    // The number of live bytes in the log when it was read.
     live: u64,
-    // Of each segment the pages that live in it, by rising page id: the frames of each page, back to back.
+    // For each segment the pages that live in it, by rising page id: the encoded frames of each page.
     pages: BTreeMap<u64, Vec<Vec<u8>>, Global>,
 }
 
@@ -43,7 +43,7 @@ impl Model for Reading {
     ghost view = { λ r. record { limit = r.limit; live = r.live; pages = entries_held r.pages.entries } };
 }
 
-// Adds a page to those of its segment, after them. It is left out if no frame of it is kept.
+// Appends a page to those of its segment, unless none of its frames are retained.
 fn add_page(
     alloc: Global,
     pages: &mut BTreeMap<u64, Vec<Vec<u8>>, Global>,
@@ -78,7 +78,7 @@ fn by_segment(
         (λ pages. (n : ℕ) → held (get nat_cmp pages n) ≡ pages_in n by_pid.entries) }
     ensures ordered { IsStrictlySortedBy nat_cmp (keys_of by_pid.entries) }
 {
-    // `len` is called only for the proof: it says that the page ids rise.
+    // `len` is called only for the proof: its contract says that the page ids rise.
     let _rising = by_pid.len();
     let mut pages = BTreeMap::new(alloc);
     for entry in by_pid {
@@ -88,7 +88,7 @@ fn by_segment(
     Ok(pages)
 }
 
-// How many bytes the live frames of these pages have.
+// The total size of these pages' live frames in bytes.
 fn live_bytes(by_pid: &BTreeMap<u64, Kept, Global>) -> u64
     ensures { result ≡ min (sum_by (λ e. e.1.size) by_pid.now.entries) (2 ^ 64 - 1) }
 {
@@ -101,10 +101,10 @@ fn live_bytes(by_pid: &BTreeMap<u64, Kept, Global>) -> u64
 }
 
 impl Reading {
-    /// Keeps what was read of the pages that live in the segments below this limit.
+    /// Retains the pages that live in the segments below this limit.
     ///
-    /// Fails with `Fault::BadStructure`, rule 1, if the frames of a page fit no page, with the least such page id; and with
-    /// `Fault::NoMemory`.
+    /// Fails with `Fault::BadStructure`, rule 1 and the least page id if the frames of a page do not fit together; and
+    /// with `Fault::NoMemory`.
     pub(crate) fn new(pages: Gathering, limit: u64) -> Result<Reading, Fault>
         ensures { (g : Format) (found : List Found) → first_bad_field g.settings ≡ None →
             AreGathered g (Before limit) pages found →
@@ -131,16 +131,16 @@ impl Reading {
         head < self.limit
     }
 
-    /// Returns how many bytes the live frames of the whole log had when it was read: of each page, its frames from the last base on. A
-    /// clean copies frames as they are, so it does not change this number. Headers of segments and unused ends of segments do not count.
-    /// At most `u64::MAX`.
+    /// Returns the number of live bytes in the whole log when it was read: the frames of each page from its last base
+    /// on. A clean copies frames unchanged, so it does not change this number. Headers and unused ends of segments do
+    /// not count. Capped at `u64::MAX`.
     pub fn live(&self) -> u64
         ensures { result ≡ self.now.live }
     {
         self.live
     }
 
-    /// Takes out the pages that live in this segment: none if there are none.
+    /// Takes the pages that live in this segment out of the reading, if there are any.
     pub(crate) fn take(&mut self, segment: u64) -> Option<Vec<Vec<u8>>>
         ensures taken { held result ≡ pages_at segment self.old }
         ensures limit { self.new.limit ≡ self.old.limit }

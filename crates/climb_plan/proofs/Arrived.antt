@@ -1,4 +1,4 @@
--- Once all levels have climbed and the root has shrunk, a tree in memory stands for the planned one.
+-- After all levels have climbed and the root has shrunk, a tree in memory represents the planned tree.
 use Rattle.std.specs.Prelude.{◌≡◌, ℕ, suc, pred, ◌+◌, ◌<◌, Bool, true, false, List, [], ◌∷◌, ◌++◌, flat_map, length, Option, Some, None, IsSome}
 use Rattle.std.proofs.Common.{refl, sym, ap, ◌∙◌, subst, arith, append_assoc}
 use Rattle.std.specs.List.{AllByRecursion}
@@ -51,9 +51,9 @@ kept_pids level ls =
     ∙ ap (λ (ns : List ℕ). pids level ++ ns) (flat_map-append pids (kept_levels ls) (left ls))
     ∙ sym (append_assoc (pids level) (flat_map pids (kept_levels ls)) (flat_map pids (left ls)))
 
--- ---- a page is at home
+-- ---- a page is in the table
 
--- the pid has a page at home
+-- the pid has a page in the table
 abbrev IsAtHome : Mapping PageOfKind → ℕ → Type 0
 IsAtHome t n = (p : PageOfKind) × (place_of t n ≡ Some (Some p))
 
@@ -124,7 +124,7 @@ module _ {A : Type 0} (s : Settings) (t : Tree) (cs : List (Command A)) (fan : 1
     none_by false n e h =
         climbing.others n e h ∙ nothing_listed n start.table.places (ap (λ (ns : List ℕ). is_among n ns) in_use ∙ not_in_use n e)
 
-    -- once all levels have climbed, only their pids have places
+    -- after all levels have climbed, only their pids have places
     pub no_other_place : (n : ℕ) → is_among n whole_pids ≡ false → place_of after.table n ≡ None
     no_other_place n h = none_by (is_among n (all_pids (placed_of leaves_after) (levels_of t).above)) n refl h
 
@@ -169,7 +169,7 @@ module _ {A : Type 0} (s : Settings) (t : Tree) (cs : List (Command A)) (fan : 1
           let page = holds_among (IsAtHome last.table) n planned_pids every (only_planned n o h) in
           some_by o page.0 (sym h ∙ page.1)
 
-      -- no page is away
+      -- no page is checked out
       pub arrived-home : AreAllHome last
       arrived-home = each_listed (λ n o. IsSome o) last.table.places shrinking.rising all_home
 
@@ -189,6 +189,6 @@ module _ {A : Type 0} (s : Settings) (t : Tree) (cs : List (Command A)) (fan : 1
           ∙ outdate-joined gone whole.outdated t.logged
           ∙ outdate-same (gone ++ whole.outdated) (whole.outdated ++ gone) t.logged (λ n. among_turned n gone whole.outdated)
 
-      -- the tree in memory stands for the planned tree
+      -- the tree in memory represents the planned tree
       pub arrived-tree : start.table.logged ≡ t.logged → tree_of last ≡ planned_tree s t cs
       arrived-tree e = same_tree (tree_of last) (planned_tree s t cs) (sym arrived_pages) shrinking.root shrinking.height (arrived_logged e)

@@ -1,4 +1,4 @@
--- Lemmas on tables by rising pid: what is said of a page under each pid is said of each entry.
+-- Lemmas on tables by rising pid: a property of the page under each pid is a property of each entry.
 use Rattle.std.specs.Prelude.{◌≡◌, ℕ, Bool, true, false, cond, nat_eq, List, [], ◌∷◌, Option, Some, None, IsSome}
 use Rattle.std.proofs.Common.{refl, sym, ap, ◌∙◌, subst}
 use Rattle.std.specs.Ordering.{nat_cmp, is_eq}
@@ -43,14 +43,14 @@ module _ {X : Type 0} where
   each_listed P (e ∷ es) r h =
       (h e.0 e.1 (listed_first e es), each_listed P es r.1 (λ n v f. h n v (passed_by (is_eq (nat_cmp n e.0)) (listed_at es n) (listed_at (e ∷ es) n) v (rest_listed n e es r) f)))
 
--- ---- pages at home
+-- ---- pages in the table
 
 module _ {P : Type 0} where
   home_keys_by : (n : ℕ) (o : Option P) (es : List (ℕ × Option P)) → IsSome o → keys_of (home_pages es) ≡ keys_of es → keys_of (home_pages ((n, o) ∷ es)) ≡ n ∷ keys_of es
   home_keys_by n None es h e = absurd (cc)
   home_keys_by n (Some p) es h e = ap (λ (ns : List ℕ). n ∷ ns) e
 
-  -- where all pages are at home, their pids are those in use
+  -- if no page is checked out, the pids of pages are those in use
   pub home_keys : (es : List (ℕ × Option P)) → AllByRecursion (λ e. IsSome e.1) es → keys_of (home_pages es) ≡ keys_of es
   home_keys [] h = refl
   home_keys (e ∷ es) h = home_keys_by e.0 e.1 es h.0 (home_keys es h.1)
@@ -62,7 +62,7 @@ module _ (t : Mapping PageOfKind) (all : AllByRecursion (λ e. IsSome e.1) t.pla
   listed_level : {V : Type 0} (of : Page V → PageOfKind) (ps : List (Placed V)) → AreHome of t ps → AllByRecursion (λ p. page_at (home_pages t.places) p.pid ≡ Some (of p.page)) ps
   listed_level of ps h = all_weaker (λ (p : Placed _). place_of t p.pid ≡ Some (Some (of p.page))) (λ p. page_at (home_pages t.places) p.pid ≡ Some (of p.page)) (is_listed of) ps h
 
-  -- the pages at home are those of levels that are at home, where no other pid has a place
+  -- the pages in the table are those of levels that are in the table, if no other pid has a place
   pub holds-home : (l : Levels) → AreHome Leaf t l.level → AllByRecursion (AreHome Index t) l.above → AreRisingPids (pids_in_use t) → ((n : ℕ) (o : Option PageOfKind) → place_of t n ≡ Some o → is_among n (all_pids l.level l.above) ≡ true)
       → HoldsLevels (home_pages t.places) l
   holds-home l h k r m =

@@ -1,4 +1,4 @@
--- Numbers that are drawn get places that are away.
+-- Allocated pids get places without pages.
 use Rattle.std.specs.Prelude.{◌≡◌, ℕ, zero, suc, ◌+◌, Bool, true, false, cond, ◌||◌, nat_eq, nat_lt, List, [], ◌∷◌, map, Option, Some, None}
 use Rattle.std.proofs.Common.{refl, sym, ap, ◌∙◌, subst, arith, ltb-true, ltb-false, Ordering, Less, Equal, Greater}
 use Rattle.std.specs.List.{range_with_len}
@@ -61,7 +61,7 @@ module _ (t : Mapping PageOfKind) (n k : ℕ) (rest : List ℕ) (v : Mapping Pag
       let apart = or_parts (nat_eq pid k) (is_among pid rest) h in
       o apart.1 ∙ listed-insert_entry t.places k None pid ∙ ap (λ (b : Bool). cond b (Some None) (place_of t pid)) (test_false pid k apart.0)
 
--- n numbers are drawn
+-- n pids are allocated
 pub drawn_places : (n : ℕ) (t : Mapping PageOfKind) → AreRisingPids (pids_in_use t) → AreDrawn t (with_rooms t (fresh_pids (pids_in_use t) n)) n
 drawn_places zero t r = record { away = λ pid h. absurd (cc); others = λ pid h. refl; logged = refl; rising = r; next = λ m. (let e : m ≡ 0 + m = omega arith in ap (λ (x : ℕ). unused (pids_in_use t) x) e) }
 drawn_places (suc n) t r =

@@ -1,4 +1,4 @@
--- The groups of a level that are rewritten, as code has them, can be cut.
+-- The groups of a level that are rewritten, in the code's form, can be split.
 use Rattle.std.specs.Prelude.{◌≡◌, ℕ, Bool, true, false, cond, List, [], ◌∷◌, ◌++◌, map, Option}
 use Rattle.std.proofs.Common.{refl, sym, ap, ◌∙◌, subst, append-nil}
 use Rattle.std.specs.List.{filter, AllByRecursion}

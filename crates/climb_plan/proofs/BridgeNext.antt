@@ -105,7 +105,7 @@ module _ {V : Type 0} (s : Settings) (of : Page V → PageOfKind) (t : TreeInMem
   abbrev pub new_here : ℕ
   new_here = length (fresh_of (changes s used i (changing_groups changing_here)))
 
-  -- the tree once numbers for them were drawn, and these parents taken
+  -- the tree after pids for them were allocated, and these parents checked out
   abbrev pub tree_here : TreeInMemory
   tree_here = next_tree t new_here (parent_pids changing_here)
 
@@ -139,7 +139,7 @@ module _ {V : Type 0} (s : Settings) (of : Page V → PageOfKind) (t : TreeInMem
     parents_old : AllByRecursion (IsNeverUnused used) (pids ps)
     parents_old = (all_apart (IsNeverUnused used) (pids ps) (flat_map pids ups) upper_old).0
 
-    -- each parent has its page, once the numbers were drawn
+    -- each parent has its page, after the pids were allocated
     home_in_rooms : AllByRecursion (λ p. place_of rooms p.pid ≡ Some (Some (Index p.page))) ps
     home_in_rooms = each ps parents_old h.home.0
       where
@@ -161,7 +161,7 @@ module _ {V : Type 0} (s : Settings) (of : Page V → PageOfKind) (t : TreeInMem
         some [] k = tt
         some (q ∷ qs) k = (ap (λ (o : Option (Option PageOfKind)). is_some o) k.0, some qs k.1)
 
-    -- the parents that get a run are away, the others at home
+    -- the parents that get a run are checked out, the others are in the table
     parents_away : AllByRecursion (λ p. place_of tree_here.table p.pid ≡ Some None) (parents_of changing_here)
     parents_away =
         by_pids (λ n. place_of tree_here.table n ≡ Some None) (parents_of changing_here) (subst (λ (ns : List ℕ). AllByRecursion (λ n. place_of tree_here.table n ≡ Some None) ns) (sym (pids-parents_of changing_here)) (each taken (all_among taken)))
@@ -217,7 +217,7 @@ module _ {V : Type 0} (s : Settings) (of : Page V → PageOfKind) (t : TreeInMem
     runs_fit : length (map terms (changing_changes s used i changing_here)) ≡ length (parents_of changing_here)
     runs_fit = length-runs (all_terms_given s used i ps ws)
 
-    -- once the numbers were drawn, the parents can be taken
+    -- after the pids were allocated, the parents can be checked out
     pub can_be_taken : AreParentsHome rooms taken
     can_be_taken =
         subst (λ (ns : List ℕ). AreParentsHome rooms ns) (pids-parents_of changing_here) (parents_can_be_taken rooms (all_terms_given s used i ps ws) (distinct_parts (pids ps) (flat_map pids ups) upper_distinct).0 termed_in_rooms)
@@ -229,13 +229,13 @@ module _ {V : Type 0} (s : Settings) (of : Page V → PageOfKind) (t : TreeInMem
     pub taken_here : map (λ e. e.0) termed_here ≡ taken
     taken_here = term_parents taken (map terms (changing_changes s used i changing_here)) (runs_fit ∙ length-map changing_here (λ (c : Changing V). c.parent) ∙ sym (length-map changing_here (λ (c : Changing V). c.parent.pid)))
 
-    -- what is made of them is what the plan makes of them
+    -- they become what the plan says
     pub made_here : map (λ e. index_made s (parent_held rooms e)) termed_here ≡ worked_parents s (parents_of changing_here) (map terms (changing_changes s used i changing_here))
     made_here =
         let runs : List (List (List ℕ × Option ℕ)) = map terms (changing_changes s used i changing_here) in
         ap (λ (ns : List ℕ). map (λ e. index_made s (parent_held rooms e)) (runs_by_parent ns runs)) (sym (pids-parents_of changing_here)) ∙ termed_made rooms s (parents_of changing_here) runs termed_in_rooms runs_fit
 
-    -- and what is held of them is what they were
+    -- and their inputs are the original pages
     pub held_here : map {B = ℕ × PageOfKind} (λ x. (x.pid, x.page)) (map (parent_held rooms) termed_here) ≡ map {B = ℕ × PageOfKind} (λ q. (q.pid, Index q.page)) (parents_of changing_here)
     held_here =
         let runs : List (List (List ℕ × Option ℕ)) = map terms (changing_changes s used i changing_here) in

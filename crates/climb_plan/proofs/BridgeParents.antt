@@ -1,4 +1,4 @@
--- Parents that are at home, with the runs of their terms, are worked as the plan has it.
+-- Parents in the table, after the runs of their terms, are those of the plan.
 use Rattle.std.specs.Prelude.{◌≡◌, ◌≢◌, ℕ, pred, List, [], ◌∷◌, map, length, Option, Some}
 use Rattle.std.proofs.Common.{refl, sym, ap, ◌∙◌, subst, arith}
 use Rattle.std.specs.List.{AllByRecursion}
@@ -29,7 +29,7 @@ module _ (t : Mapping PageOfKind) where
   page_there : (q : Placed ℕ) (run : List (List ℕ × Option ℕ)) → page_of t q.pid ≡ Some (Index q.page) → (let h : TermHeld = record { page = Index q.page; pid = q.pid; terms = run } in parent_held t (q.pid, run) ≡ h)
   page_there q run e = ap (λ (o : Option PageOfKind). (let h : TermHeld = record { page = page_or_none o; pid = q.pid; terms = run } in h)) e
 
-  -- what is made of them is what the plan makes of them
+  -- they become what the plan says
   pub termed_made : (s : Settings) (qs : List (Placed ℕ)) (runs : List (List (List ℕ × Option ℕ))) → AreHome Index t qs → length runs ≡ length qs → map (λ e. index_made s (parent_held t e)) (runs_by_parent (pids qs) runs) ≡ worked_parents s qs runs
   termed_made s [] runs h e = refl
   termed_made s (q ∷ qs) [] h e = absurd (omega arith)
@@ -37,7 +37,7 @@ module _ (t : Mapping PageOfKind) where
       ap (λ (x : TermHeld). index_made s x ∷ map (λ e. index_made s (parent_held t e)) (runs_by_parent (pids qs) runs)) (page_there q run (ap at_home h.0))
       ∙ ap (λ (ws : List (Worked ℕ)). worked s q run ∷ ws) (termed_made s qs runs h.1 (ap pred e))
 
-  -- and what is held of them is what they were
+  -- and their inputs are the original pages
   pub termed_held : (qs : List (Placed ℕ)) (runs : List (List (List ℕ × Option ℕ))) → AreHome Index t qs → length runs ≡ length qs → map {B = ℕ × PageOfKind} (λ x. (x.pid, x.page)) (map (parent_held t) (runs_by_parent (pids qs) runs)) ≡ map {B = ℕ × PageOfKind} (λ q. (q.pid, Index q.page)) qs
   termed_held [] runs h e = refl
   termed_held (q ∷ qs) [] h e = absurd (omega arith)
@@ -65,6 +65,6 @@ distinct_termed (AreRunsOf.none) d = tt
 distinct_termed (termed {ps = ps} {qs = qs} p run r) d = (their_pids p.pid qs (all_termed (λ q. q.pid ≢ p.pid) r (other_pids p.pid ps d.0)), distinct_termed r d.1)
 distinct_termed (untermed p r) d = distinct_termed r d.1
 
--- parents that get a run can be taken, where all of the level are at home
+-- parents that get a run can be checked out, if all parents of the level are in the table
 pub parents_can_be_taken : {ps qs : List (Placed ℕ)} {all rs : List (List (List ℕ × Option ℕ))} (t : Mapping PageOfKind) → AreRunsOf ps all qs rs → Distinct (pids ps) → AreHome Index t qs → AreParentsHome t (pids qs)
 parents_can_be_taken {ps} {qs} t r d h = (index_at_home t qs h, distinct_termed r d)

@@ -1,4 +1,4 @@
--- What code makes of groups of either kind is what the plan makes of them.
+-- The new pages that the code makes of groups of either kind are those of the plan.
 use Rattle.std.specs.Prelude.{◌≡◌, ℕ, suc, ◌+◌, ◌-◌, ◌<◌, Bool, true, false, List, [], ◌∷◌, ◌++◌, map, drop, length}
 use Rattle.std.proofs.Common.{refl, sym, ap, ◌∙◌, subst, arith, length-append, length-drop}
 use Rattle.std.specs.List.{AllByRecursion, range_with_len}
@@ -106,7 +106,7 @@ module _ {V : Type 0} (of : Page V → PageOfKind) where
         ∙ ap (λ (ps : List (Page V)). map of ps) (sym (pages-replacements used i w.placed bs))
         ∙ of_bare_pages (replacements used i w.placed bs)
 
-    -- they are the pages that stand in the group's place
+    -- they are the pages that replace the group
     pub pieces_here : (used : List ℕ) (i : ℕ) (g : List (Worked V)) → is_rewritten g ≡ true → pieces_made g ≡ kept_pages (remade s used i g)
     pieces_here used i [] e = absurd (cc)
     pieces_here used i (w ∷ ws) e = pieces_by (is_rewritten (w ∷ ws)) used i w ws e

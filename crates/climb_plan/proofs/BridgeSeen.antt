@@ -1,4 +1,4 @@
--- From the pages of either kind that code sees of a level to the definitions of the plan.
+-- From the views of a level's pages, of either kind, in the code to the definitions of the plan.
 use Rattle.std.specs.Prelude.{◌≡◌, ℕ, Bool, true, false, cond, List, [], ◌∷◌, ◌++◌, map, take, drop, length, Some}
 use Rattle.std.proofs.Common.{refl, sym, ap, ◌∙◌}
 use Rattle.std.specs.List.{filter, AllByRecursion}
@@ -18,7 +18,7 @@ use Rattle.climb_plan.specs.Level.{group_counts, IsKind, IsLevel}
 use Rattle.climb_plan.specs.Rewriting.{seen_name, is_thin_seen, is_rewritten_seen, AreSeenIn, rewritten_groups, Rewriting, with_rewriting, rewriting_families, rewriting_counts, groups_of, IsLevelSeen}
 use Rattle.climb_plan.proofs.LevelParts.{level_of}
 
--- ---- groups of what is made of elements are made of their groups
+-- ---- grouping commutes with mapping the elements
 
 module _ {X Y : Type 0} (f : X → Y) where
   abbrev gathered_by : Gathered X → Gathered Y

@@ -1,4 +1,4 @@
--- Tables from which numbers were drawn and pages taken.
+-- Tables from which pids were allocated and pages checked out.
 use Rattle.std.specs.Prelude.{◌≡◌, ◌≢◌, ℕ, ◌+◌, ◌<◌, Bool, true, false, cond, ◌||◌, nat_eq, List, [], ◌∷◌, map, Option, Some, None, is_some}
 use Rattle.std.proofs.Common.{refl, sym, ap, ◌∙◌, subst, arith, Ordering, Less, Equal, Greater}
 use Rattle.std.specs.List.{AllByRecursion, range_with_len}
@@ -68,7 +68,7 @@ taken_by false t n ns pid e h ih =
     left true h = refl
     left false h = h
 
--- those of the pages are away
+-- the places of the pages are empty
 pub taken_away : (t : Mapping PageOfKind) (ns : List ℕ) (pid : ℕ) → is_among pid ns ≡ true → place_of (all_taken t ns) pid ≡ Some None
 taken_away t [] pid h = absurd (cc)
 taken_away t (n ∷ ns) pid h = taken_by (is_among pid ns) t n ns pid refl h (λ u g. taken_away u ns pid g)
@@ -105,9 +105,9 @@ taken_pids t (n ∷ ns) r h =
     let same : pids_in_use (with_place t n None) ≡ pids_in_use t = keys_kept t.places n None r h.0 in
     taken_pids (with_place t n None) ns (subst (λ (ks : List ℕ). AreRisingPids ks) (sym same) r) (still_placed t n ns h.1) ∙ same
 
--- ---- numbers were drawn
+-- ---- pids were allocated
 
--- from one table to the next n numbers were drawn: their places are away, and all else is as it was
+-- from one table to the next n pids were allocated: their places are empty, and everything else is unchanged
 pub record AreDrawn (before after : Mapping PageOfKind) (n : ℕ) : Type 0 where
   pub away : (pid : ℕ) → is_among pid (fresh_pids (pids_in_use before) n) ≡ true → place_of after pid ≡ Some None
   pub others : (pid : ℕ) → is_among pid (fresh_pids (pids_in_use before) n) ≡ false → place_of after pid ≡ place_of before pid
@@ -128,7 +128,7 @@ logs_by : (b : Bool) (t u : Mapping PageOfKind) (n pid : ℕ) → AreDrawn t u n
 logs_by true t u n pid a e h = absurd (let f = a.away pid e in cc)
 logs_by false t u n pid a e h = sym (a.others pid e) ∙ h
 
--- once pages were taken too, the log still has something old at the most of a pid without a place
+-- after pages were taken too, the log state of a pid without a place is still at most `Old`
 pub logs_after : (t u : Mapping PageOfKind) (n : ℕ) (ns : List ℕ) → AreDrawn t u n → IsOldWithoutPlace t → IsOldWithoutPlace (all_taken u ns)
 logs_after t u n ns a h = subst (λ (ls : List (ℕ × Logged)). AllByRecursion (λ l. place_of (all_taken u ns) l.0 ≡ None → l.1 ≡ Old) ls) (sym (taken_logged u ns ∙ a.logged)) (each t.logged h)
   where

@@ -1,4 +1,4 @@
--- The runs that code gives the parents of a level are those that the plan gives them.
+-- The runs that the code gives the parents of a level are those of the plan.
 use Rattle.std.specs.Prelude.{◌≡◌, ℕ, suc, ◌+◌, ◌<◌, ◌≤◌, List, [], ◌∷◌, ◌++◌, map, flat_map, take, drop, length, Option}
 use Rattle.std.proofs.Common.{refl, sym, ap, ◌∙◌, subst, arith, length-append, Less}
 use Rattle.std.specs.List.{AllByRecursion}
@@ -29,7 +29,7 @@ use Rattle.climb_plan.proofs.ParentRuns.{runs_by_parent}
 
 -- ---- parts of lists
 
--- a list with some left out
+-- a list without some of its elements
 data IsPart {X : Type 0} : List X → List X → Type 0 where
   none : IsPart [] []
   kept : {xs ys : List X} → (x : X) → IsPart xs ys → IsPart (x ∷ xs) (x ∷ ys)
@@ -143,7 +143,7 @@ module _ {V : Type 0} where
   length-changes s used i [] = refl
   length-changes s used i (g ∷ gs) = ap (λ (n : ℕ). suc n) (length-changes s used (i + length (drop 1 (remade s used i g))) gs)
 
-  -- what is made of the groups of the first parent, and of those of the others
+  -- the new pages of the first parent's groups, and those of the others
   changes_apart : (s : Settings) (used : List ℕ) (i : ℕ) (c : Changing V) (chs : List (Changing V))
       → changes s used i (c.groups ++ changing_groups chs) ≡ changes s used i c.groups ++ changes s used (i + length (fresh_of (changes s used i c.groups))) (changing_groups chs)
   changes_apart s used i c chs =
@@ -151,7 +151,7 @@ module _ {V : Type 0} where
       sym (flat-changing_changes s used i (c ∷ chs)) ∙ ap (λ (ds : List (Change V)). cs ++ ds) (flat-changing_changes s used (i + length (fresh_of cs)) chs)
 
 module _ {V : Type 0} (of : Page V → PageOfKind) where
-  -- the names that are freed in groups, and what is made of them
+  -- the freed entries of groups, and the entries of their new pages
   abbrev pub freed_in : List (List (Worked V)) → List Names
   freed_in gs = map freed_names (shown_groups of gs)
 

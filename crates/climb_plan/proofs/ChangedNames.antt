@@ -1,4 +1,4 @@
--- Names of pages that are freed or new, list by list, for the proofs of the code that gathers them.
+-- Parents' entries of freed or new pages, list by list, for the proofs of the code that collects them.
 use Rattle.std.specs.Prelude.{◌≡◌, ℕ, suc, ◌+◌, ◌-◌, ◌<◌, ◌⊎◌, List, [], ◌∷◌, ◌++◌, take, drop}
 use Rattle.std.proofs.Common.{refl, sym, ap, ◌∙◌, arith, append_assoc, inl, inr}
 use Rattle.keys.specs.Lists.{flat}

@@ -1,4 +1,4 @@
--- Groups that are cut: their members, lent, and the pages that are made of these, for the proofs of the code that cuts.
+-- Groups that are split: their borrowed members, and the new pages, for the proofs of the code that splits.
 use Rattle.std.specs.Prelude.{◌≡◌, ℕ, zero, suc, ◌<◌, List, [], ◌∷◌, map, length, get_or}
 use Rattle.std.proofs.Common.{refl, sym, ap, ◌∙◌, arith, subst}
 use Rattle.std.specs.List.{AllByRecursion}
@@ -12,7 +12,7 @@ use Rattle.climb_plan.specs.Rewriting.{Remade, joined_groups, cut_group, CanBeCu
 abbrev members_of : List SeenPage → List PageOfKind
 members_of g = map (λ x. x.page) g
 
--- groups with what is made of them are groups that are cut
+-- groups with their new pages are groups after the split
 joined_cut : (s : Settings) (gs : List (List SeenPage)) → joined_groups gs (map (group_made s) (map members_of gs)) ≡ map (cut_group s) gs
 joined_cut s [] = refl
 joined_cut s (g ∷ gs) = ap (λ (rs : List Remade). cut_group s g ∷ rs) (joined_cut s gs)
@@ -31,11 +31,11 @@ module _ {G J : Type 0} (seen : G → List SeenPage) (held : J → List PageOfKi
   joins_at (j ∷ js) a zero d l = a.0
   joins_at (j ∷ js) a (suc k) d l = joins_at js a.1 k d (omega arith)
 
-  -- each job can be worked
+  -- each job is a valid input
   pub each_joins : CanBeCut (map seen groups) → (k : ℕ) (d : J) → k < length jobs → CanJoin (held (get_or jobs k d))
   each_joins c k d l = joins_at jobs (subst (λ (ms : List (List PageOfKind)). AllByRecursion CanJoin ms) (sym (e ∙ each_by groups)) (can_join_members (map seen groups) c)) k d l
 
-  -- what is made of the jobs is what is made of the groups
+  -- the outputs of the jobs are the new pages of the groups
   pub made_is_cut : (s : Settings) (made : List (List PageOfKind)) → made ≡ map (group_made s) (map held jobs) → joined_groups (map seen groups) made ≡ map (cut_group s) (map seen groups)
   made_is_cut s made h =
       ap (joined_groups (map seen groups)) (h ∙ ap (λ (ms : List (List PageOfKind)). map (group_made s) ms) (e ∙ each_by groups))

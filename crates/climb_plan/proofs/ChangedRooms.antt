@@ -1,4 +1,4 @@
--- Numbers that are drawn for the new pieces of groups, one group after the other, and their places, given back again.
+-- Pids that are allocated for the new pages of groups, one group after the other, and the freeing of these pids.
 use Rattle.std.specs.Prelude.{◌≡◌, ◌≢◌, ℕ, zero, suc, Bool, ◌+◌, ◌-◌, ◌<◌, ◌≤◌, true, false, cond, List, [], ◌∷◌, ◌++◌, map, flat_map, take, drop, length, get_or, Option, Some, None}
 use Rattle.std.proofs.Common.{refl, sym, ap, ◌∙◌, arith, append_assoc, append-nil, set}
 use Rattle.std.specs.List.{AllByRecursion, range_with_len}
@@ -31,7 +31,7 @@ module _ {V : Type 0} where
   other_listed k q [] d = refl
   other_listed k q (e ∷ es) d = other_by (is_same_pid k e.0) k q e es (remove_entry (is_same_pid k) es) refl d (other_listed k q es d)
 
--- the places of others stay away
+-- the places of others stay empty
 still_away : (t : Mapping PageOfKind) (k : ℕ) (pids : List ℕ) → AllByRecursion (λ m. m ≢ k) pids → AllByRecursion (λ pid. place_of t pid ≡ Some None) pids → AllByRecursion (λ pid. place_of (freed t k) pid ≡ Some None) pids
 still_away t k [] d a = tt
 still_away t k (pid ∷ pids) d a = (other_listed k pid t.places d.0 ∙ a.0, still_away t k pids d.1 a.1)
@@ -51,11 +51,11 @@ distinct_some : (xs ys : List ℕ) → Distinct (xs ++ ys) → Distinct xs
 distinct_some [] ys d = tt
 distinct_some (x ∷ xs) ys d = (apart_some x xs ys d.0, distinct_some xs ys d.1)
 
--- of places that are away those before some others
+-- of some empty places, those before some others
 pub away_first : (t : Mapping PageOfKind) (xs ys : List ℕ) → AreAway t (xs ++ ys) → AreAway t xs
 away_first t xs ys a = (away_some t xs ys a.0, distinct_some xs ys a.1)
 
--- and the others once those are freed
+-- and the others after those are freed
 away_later : (t : Mapping PageOfKind) (xs ys : List ℕ) → AreAway t (xs ++ ys) → AreAway (freed_all t xs) ys
 away_later t [] ys a = a
 away_later t (x ∷ xs) ys a = away_later (freed t x) xs ys (away_freed t x (xs ++ ys) a)
@@ -68,7 +68,7 @@ freed-append t (x ∷ xs) ys = freed-append (freed t x) xs ys
 abbrev with_table : TreeInMemory → Mapping PageOfKind → TreeInMemory
 with_table t m = record t { table = m }
 
--- places of a tree that were away are freed, before others
+-- empty places of a tree are freed, before others
 module _ (t u : TreeInMemory) (xs ys : List ℕ) (e : u ≡ record t { table = freed_all t.table xs }) where
   pub left_away : AreAway t.table (xs ++ ys) → AreAway u.table ys
   left_away a = rw e (away_later t.table xs ys a)
@@ -84,7 +84,7 @@ fresh_more all i r xs l e f =
     ∙ ap (λ (x : Remade). x.fresh ++ rest) (sym e)
     ∙ ap (λ (pids : List ℕ). pids ++ rest) (sym f)
 
--- ---- numbers that are drawn
+-- ---- pids that are allocated
 
 -- the numbers that follow others
 pub shifted : (used later : List ℕ) (n i j k : ℕ) → j ≡ n + i → ((m : ℕ) → unused later m ≡ unused used (n + m)) → map (unused later) (range_with_len i k) ≡ map (unused used) (range_with_len j k)
@@ -99,7 +99,7 @@ range-append f i (suc n) j k e =
     let x : suc n + k ≡ suc (n + k) = omega arith in
     ap (λ (m : ℕ). map f (range_with_len i m)) x ∙ ap (λ (ms : List ℕ). f i ∷ ms) (range-append f (i + 1) n j k (omega arith))
 
--- the numbers that are drawn first, and then others, are drawn at once
+-- allocating some pids and then others equals allocating them at once
 fresh-append : (used later : List ℕ) (n k : ℕ) → ((m : ℕ) → unused later m ≡ unused used (n + m)) → fresh_pids used (n + k) ≡ fresh_pids used n ++ fresh_pids later k
 fresh-append used later n k h = range-append (unused used) 0 n n k (omega arith) ∙ ap (λ (ms : List ℕ). fresh_pids used n ++ ms) (sym (shifted used later n 0 n k (omega arith) h))
 
@@ -108,7 +108,7 @@ module _ {P : Type 0} where
   rooms-append t [] ys = refl
   rooms-append t (x ∷ xs) ys = rooms-append (with_rooms t (x ∷ [])) xs ys
 
--- a tree with rooms for n drawn pids, and then for some more
+-- a tree with rooms for n allocated pids, and then for some more
 module _ (t u : TreeInMemory) (n : ℕ) (e : u ≡ record t { table = with_rooms t.table (fresh_pids (pids_in_use t.table) n) }) where
   -- the pids that are free then
   pub next_drawn : ((m : ℕ) → unused (pids_in_use (with_rooms t.table (fresh_pids (pids_in_use t.table) n))) m ≡ unused (pids_in_use t.table) (n + m)) → (m : ℕ) → unused (pids_in_use u.table) m ≡ unused (pids_in_use t.table) (n + m)
@@ -175,7 +175,7 @@ module _ (used : List ℕ) (start all : List Remade) (at : ℕ) (r : Remade) (l 
   count : length before ≡ at
   count = length-with_numbers used 0 (take at start) ∙ length-take-le at start (omega arith)
 
-  -- the one at the place is as it was
+  -- the one at the place is unchanged
   untouched : r ≡ get_or start at r
   untouched = e ∙ ap (λ (rs : List Remade). get_or rs at r) split ∙ get_or_at before here (drop (at + 1) start) r at count
 
@@ -194,7 +194,7 @@ module _ (used : List ℕ) (start all : List Remade) (at : ℕ) (r : Remade) (l 
   pub one_counted : numbers (take (at + 1) start) ≡ numbers (take at start) + (length r.pieces - 1)
   one_counted = ap numbers (take_more start at r l ∙ ap (λ (x : Remade). take at start ++ x ∷ []) (sym untouched)) ∙ numbers-push (take at start) r
 
--- ---- all that was drawn
+-- ---- all allocated pids
 
 each_away : (t : Mapping PageOfKind) (pids all : List ℕ) → ((pid : ℕ) → is_among pid all ≡ true → place_of t pid ≡ Some None) → AllByRecursion (λ pid. is_among pid all ≡ true) pids → AllByRecursion (λ pid. place_of t pid ≡ Some None) pids
 each_away t [] all h a = tt
@@ -225,7 +225,7 @@ module _ (used : List ℕ) (start all : List Remade) (n : ℕ) (l : n ≤ length
       ∙ ap (with_numbers used 0) (take_all n start m)
       ∙ renumbered others used i 0 i start (omega arith) h
 
--- the places of pids that were drawn are away
+-- the places of allocated pids are empty
 pub drawn_away : (t : Mapping PageOfKind) (used pids : List ℕ) (n : ℕ) → pids ≡ fresh_pids used n → ((pid : ℕ) → is_among pid (fresh_pids used n) ≡ true → place_of t pid ≡ Some None) → AreAway t pids
 drawn_away t used pids n e h = rw e (each_away t (fresh_pids used n) (fresh_pids used n) h (all_among (fresh_pids used n)), distinct_range used 0 n)
 

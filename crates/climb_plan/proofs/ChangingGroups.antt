@@ -1,4 +1,4 @@
--- Lemmas on the groups of a level that are rewritten: what is freed and what is fresh comes of them alone.
+-- Lemmas on the groups of a level that are rewritten: only they have freed and fresh pages.
 use Rattle.std.specs.Prelude.{◌≡◌, ℕ, ◌+◌, Bool, true, false, cond, List, [], ◌∷◌, ◌++◌, flat_map, take, drop, length}
 use Rattle.std.proofs.Common.{refl, sym, ap, ◌∙◌, subst, arith, append-nil, length-append}
 use Rattle.std.specs.List.{filter}
@@ -15,7 +15,7 @@ use Rattle.split_plan.proofs.ChangeLemmas.{remade_by}
 use Rattle.climb_plan.specs.Climb.{families}
 use Rattle.climb_plan.specs.Changing.{Changing, groups_to_rewrite, with_changing, changing_families, changing_groups, changing_changes, all_freed}
 
--- ---- families in which nothing calls
+-- ---- families in which no page needs restructuring
 
 module _ {V : Type 0} where
   -- ---- groups that are not rewritten
@@ -67,7 +67,7 @@ module _ {V : Type 0} where
 -- ---- all groups of a level as one list
 
 module _ {X A : Type 0} where
-  -- what lists of lists give is what they give as one list
+  -- mapping lists of lists equals mapping their concatenation
   pub flat_map-flat : (f : X → List A) (xss : List (List X)) → flat_map (λ xs. flat_map f xs) xss ≡ flat_map f (flat xss)
   flat_map-flat f [] = refl
   flat_map-flat f (xs ∷ xss) = ap (λ (rest : List A). flat_map f xs ++ rest) (flat_map-flat f xss) ∙ sym (flat_map-append f xs (flat xss))
@@ -96,14 +96,14 @@ module _ {V : Type 0} where
       let e : j + length (fresh_of later) ≡ i + length (here ++ fresh_of later) = omega (arith, length-append here (fresh_of later)) in
       ap (λ (cs : List (Change V)). c ∷ cs) (changes-append s used j gs hs) ∙ ap (λ (k : ℕ). c ∷ (later ++ changes s used k hs)) e
 
-  -- what is made of families, as one list
+  -- the new pages of families, as one list
   pub flat-family_changes : (s : Settings) (used : List ℕ) (i : ℕ) (fs : List (List (Worked V))) → flat (family_changes s used i fs) ≡ changes s used i (all_groups fs)
   flat-family_changes s used i [] = refl
   flat-family_changes s used i (f ∷ fs) =
       let cs : List (Change V) = changes s used i (groups is_thin f) in
       ap (λ (ds : List (Change V)). cs ++ ds) (flat-family_changes s used (i + length (fresh_of cs)) fs) ∙ sym (changes-append s used i (groups is_thin f) (all_groups fs))
 
-  -- and what is made of the groups of those that change
+  -- and the new pages of the groups of those families that change
   pub flat-changing_changes : (s : Settings) (used : List ℕ) (i : ℕ) (chs : List (Changing V)) → flat (changing_changes s used i chs) ≡ changes s used i (changing_groups chs)
   flat-changing_changes s used i [] = refl
   flat-changing_changes s used i (c ∷ chs) =
@@ -127,7 +127,7 @@ module _ {V : Type 0} where
       ∙ ap (λ (gs : List (List (Worked V))). groups_to_rewrite f ++ gs) (groups-changing_families ps more)
       ∙ sym (filter-joined is_rewritten (groups is_thin f) (all_groups (families ps more)))
 
-  -- ---- what comes and what goes on a level
+  -- ---- new and removed pages of a level
 
   -- of lists of changes: the same pages come, and the same ones go
   pub record AreAllAlike (css dss : List (List (Change V))) : Type 0 where

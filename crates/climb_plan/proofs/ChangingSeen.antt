@@ -1,4 +1,4 @@
--- What the pages that were seen say of all pages of a level.
+-- What the views of some pages determine about all pages of a level.
 use Rattle.std.specs.Prelude.{◌≡◌, ℕ, Bool, true, false, cond, List, ◌∷◌, map}
 use Rattle.std.proofs.Common.{refl}
 use Rattle.std.specs.List.{filter}

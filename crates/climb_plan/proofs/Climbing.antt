@@ -1,4 +1,4 @@
--- What the levels of a climb add up to: a level, installed under the levels above it, which were installed before.
+-- A level of a climb, installed under the levels above it, which were installed before.
 use Rattle.std.specs.Prelude.{◌≡◌, ℕ, Bool, true, false, nat_eq, List, [], ◌∷◌, ◌++◌, map, flat_map, drop, None}
 use Rattle.std.proofs.Common.{refl, sym, ap, ◌∙◌, subst, inl, inr}
 use Rattle.std.specs.List.{AllByRecursion}
@@ -51,7 +51,7 @@ module _ {V : Type 0} where
         height = refl;
       }
 
-  -- levels none of whose pages got a run are as they were
+  -- levels none of whose pages got a run are unchanged
   pub untouched-climbed : (s : Settings) (used : List ℕ) (i : ℕ) (of : Page V → PageOfKind) (t : TreeInMemory) (ps : List (Placed V)) (ups : List (List (Placed ℕ)))
       → Stacked ps ups → AreHome of t.table ps → AllByRecursion (AreHome Index t.table) ups → AreRisingPids (pids_in_use t.table) → t.root ≡ top_pid ps ups
       → HasClimbed of t t (level_of (map same_page ps) ups used i) (climb s used i (map same_page ps) ups)
@@ -89,7 +89,7 @@ module _ {V : Type 0} where
 
   -- ---- a level is installed under others
 
-  -- pages whose places stayed are still at home
+  -- pages whose places stayed are still in the table
   pub still_home : (of : Page V → PageOfKind) (before after : Mapping PageOfKind) (ps : List (Placed V)) → AllByRecursion (λ n. place_of after n ≡ place_of before n) (pids ps) → AreHome of before ps → AreHome of after ps
   still_home of before after [] a h = tt
   still_home of before after (p ∷ ps) a h = (a.0 ∙ h.0, still_home of before after ps a.1 h.1)
@@ -101,7 +101,7 @@ still_home_above before after (l ∷ ls) a h =
     (still_home Index before after l r.0 h.0, still_home_above before after ls r.1 h.1)
 
 module _ {V : Type 0} where
-  -- a table that differs from another one only at the level's pids may stand for it
+  -- a table that differs from another one only at the level's pids may be used in its place
   pub has_level_from : (of : Page V → PageOfKind) (like before after : Mapping PageOfKind) (ws : List (Worked V)) (new fresh : List (Placed V)) → ((n : ℕ) → is_among n (worked_pids ws) ≡ false → place_of like n ≡ place_of before n)
       → HasLevel of like after ws new fresh → HasLevel of before after ws new fresh
   has_level_from of like before after ws new fresh same l =
@@ -109,7 +109,7 @@ module _ {V : Type 0} where
 
 module _ {V : Type 0} (of : Page V → PageOfKind) (below before after : Mapping PageOfKind) (ws : List (Worked V)) (css : List (List (Change V))) (olds : List ℕ) (ls : List (List (Placed ℕ)))
     (level : HasLevel of before after ws (all_new css) (all_fresh css)) where
-  -- the levels above stay at home, if they share no pid with the level
+  -- the levels above stay in the table, if they share no pid with the level
   pub above_stay : AreApart (flat_map pids ls) (worked_pids ws) → AreApart (flat_map pids ls) (pids (all_new css)) → AllByRecursion (AreHome Index before) ls → AllByRecursion (AreHome Index after) ls
   above_stay a b h =
       let ns : List ℕ = flat_map pids ls in
@@ -145,13 +145,13 @@ module _ {V : Type 0} (of : Page V → PageOfKind) (below before after : Mapping
 
 -- ---- what goes from one tree to the next
 
--- before a climb goes on above a level, fresh pids get places, and parents their runs: all else stays
+-- before a climb continues above a level, fresh pids get places, and parents their runs: all else stays
 pub record IsMadeReady {V : Type 0} (before after : TreeInMemory) (ws : List (Worked V)) (fresh : List (Placed V)) (touched : List ℕ) : Type 0 where
   pub others : (n : ℕ) → is_among n (worked_pids ws) ≡ false → is_among n (pids fresh) ≡ false → is_among n touched ≡ false → place_of after.table n ≡ place_of before.table n
   pub logged : after.table.logged ≡ before.table.logged
   pub height : after.height ≡ before.height
 
--- once the levels above are there, what is made of a level is installed
+-- after the levels above are there, the new pages of a level are installed
 pub record IsLevelInstalled {V : Type 0} (of : Page V → PageOfKind) (before after : TreeInMemory) (ws : List (Worked V)) (css : List (List (Change V))) : Type 0 where
   pub level : HasLevel of before.table after.table ws (all_new css) (all_fresh css)
   pub rising : AreRisingPids (pids_in_use after.table)

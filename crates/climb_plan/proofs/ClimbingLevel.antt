@@ -1,4 +1,4 @@
--- A level under parents has climbed once those above it have, and it is installed.
+-- A level under parents has climbed after the levels above it have, and after it is installed.
 use Rattle.std.specs.Prelude.{◌≡◌, ℕ, suc, ◌+◌, true, List, [], ◌∷◌, ◌++◌, map, flat_map, length}
 use Rattle.std.proofs.Common.{refl, sym, ap, ◌∙◌, arith}
 use Rattle.std.specs.List.{AllByRecursion}
@@ -38,7 +38,7 @@ all_stay : (used : List ℕ) (i : ℕ) (ns : List ℕ) → Renewed used i i ns n
 all_stay used i [] = done
 all_stay used i (n ∷ ns) = keep n (all_stay used i ns)
 
--- the pids of levels above, and those that stand there afterwards, are apart from pids in use below
+-- the pids of levels above, before and after, are distinct from pids in use below
 apart_from_level : {used : List ℕ} {i j : ℕ} {olds news : List ℕ} (ns : List ℕ) → Renewed used i j olds news → AllByRecursion (IsNeverUnused used) (ns ++ olds) → Distinct (ns ++ olds) → AreApart news ns
 apart_from_level {used} {i} {j} {olds} {news} ns r h d =
     turned ns news (distinct_apart ns news (distinct_renewed (renewed-append (all_stay used i ns) r) h d)).0
@@ -51,7 +51,7 @@ apart_from_new {used} {i} {j} {k} {ns} {ms} {olds} {news} q r h d =
 -- ---- one level more
 
 module _ {V : Type 0} (s : Settings) (used : List ℕ) (i : ℕ) (ps : List (Placed ℕ)) (ws : List (Worked V)) (ups : List (List (Placed ℕ))) where
-  -- what is made of the level, its parents after their runs, and what a climb makes of the levels from them on upward
+  -- the new pages of the level, its parents after their runs, and the climb of the levels from them on upward
   abbrev pub made_here : List (List (Change V))
   made_here = family_changes s used i (families ps ws)
 
@@ -85,7 +85,7 @@ module _ {V : Type 0} (s : Settings) (used : List ℕ) (i : ℕ) (ps : List (Pla
     upper_new : AreApart (flat_map pids upper) (pids (all_new made_here))
     upper_new = apart_from_new renewed_here renewed_above.1 never distinct
 
-    -- ---- what a level's climb may rest on holds of the levels above it, too
+    -- ---- the assumptions of a level's climb hold for the levels above it, too
 
     abbrev apart_parts : AreApart (pids (placed_of ws)) (all_pids ps ups) × Distinct (all_pids ps ups)
     apart_parts = distinct_apart (pids (placed_of ws)) (all_pids ps ups) distinct
@@ -104,7 +104,7 @@ module _ {V : Type 0} (s : Settings) (used : List ℕ) (i : ℕ) (ps : List (Pla
         let d : Distinct (pids (all_new made_here) ++ olds) = distinct_renewed (renewed-append renewed_here (all_stay used (i + length (all_fresh made_here)) olds)) never distinct in
         ap (λ (ns : List ℕ). is_among n ns) upper_pids ∙ (distinct_apart (pids (all_new made_here)) olds d).0 n e
 
-    -- its pages have the places that they had, at home or away
+    -- its pages have the places that they had, in the table or checked out
     pub level_untouched : (ready above : TreeInMemory) → HasClimbed Index ready above plan_above climbed_above → (n : ℕ) → is_among n (worked_pids ws) ≡ true → place_of above.table n ≡ place_of ready.table n
     level_untouched ready above c n e = c.others n (own_apart n e) (turned (flat_map pids upper) (worked_pids ws) upper_apart n e)
 
@@ -116,7 +116,7 @@ module _ {V : Type 0} (s : Settings) (used : List ℕ) (i : ℕ) (ps : List (Pla
 
     -- ---- it has climbed
 
-    -- a level under parents has climbed once those above it have, and it is installed
+    -- a level under parents has climbed after those above it have, and it is installed
     pub level-climbed : (of : Page V → PageOfKind) (start ready above after : TreeInMemory) → IsMadeReady start ready ws (all_fresh made_here) (pids ps) → HasClimbed Index ready above plan_above climbed_above
         → IsLevelInstalled of above after ws made_here → after.root ≡ above.root → after.height ≡ above.height → HasClimbed of start after (level_of ws (ps ∷ ups) used i) (climb s used i ws (ps ∷ ups))
     level-climbed of start ready above after r c l e h =

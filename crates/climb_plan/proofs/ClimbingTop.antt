@@ -1,4 +1,4 @@
--- The highest level has climbed once levels have grown above it, and it is installed.
+-- The highest level has climbed after levels were added above it, and after it is installed.
 use Rattle.std.specs.Prelude.{◌≡◌, ℕ, ◌+◌, Bool, true, false, ◌||◌, nat_eq, List, [], ◌∷◌, ◌++◌, flat_map, drop, length}
 use Rattle.std.proofs.Common.{refl, sym, ap, ◌∙◌, arith, append-nil, inl, inr}
 use Rattle.std.specs.List.{AllByRecursion}
@@ -48,7 +48,7 @@ module _ {V : Type 0} where
   top_stays s used i n (w ∷ v ∷ ws) l e = absurd (omega arith)
 
 module _ {V : Type 0} (s : Settings) (used : List ℕ) (i : ℕ) (ws : List (Worked V)) where
-  -- what is made of the page, and the levels that grow above it
+  -- the new pages of the top page, and the levels that are added above it
   abbrev pub made_on_top : List (List (Change V))
   made_on_top = changes s used i (ws ∷ []) ∷ []
 
@@ -83,7 +83,7 @@ module _ {V : Type 0} (s : Settings) (used : List ℕ) (i : ℕ) (ws : List (Wor
     pub fresh_not_grown : AreApart (pids (all_fresh made_on_top)) (flat_map pids grown_above)
     fresh_not_grown n e = turned (flat_map pids grown_above) (pids (all_new made_on_top)) grown_new n (fresh_is_new n made_on_top e)
 
-    -- the highest level has climbed once levels have grown above it, and it is installed
+    -- the highest level has climbed after levels have grown above it, and it is installed
     pub top-climbed : (of : Page V → PageOfKind) (start ready after : TreeInMemory) → IsMadeReady start ready ws (all_fresh made_on_top) (flat_map pids grown_above) → AllByRecursion (AreHome Index ready.table) grown_above
         → IsLevelInstalled of ready after ws made_on_top → after.root ≡ top_pid (all_new made_on_top) grown_above → after.height ≡ ready.height + length grown_above → HasClimbed of start after (level_of ws [] used i) (climb s used i ws [])
     top-climbed of start ready after r c l e h = record {

@@ -1,4 +1,4 @@
--- A climb gives levels in order, each naming the one below.
+-- A climb results in levels in order, each consisting of the parents of the one below.
 use Rattle.std.specs.Prelude.{◌≡◌, ℕ, zero, suc, ◌+◌, ◌<◌, ◌≤◌, Bool, true, false, cond, nat_lt, List, [], ◌∷◌, map, length, Some, None}
 use Rattle.std.proofs.Common.{refl, sym, ap, ◌∙◌, subst, arith, append-nil, ltb-false, ltb-true}
 use Rattle.std.proofs.lemmas.List.{length-map}

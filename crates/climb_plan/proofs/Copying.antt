@@ -1,9 +1,9 @@
--- Lists that are made by going through another, one element after the other.
+-- Lists that are made from other lists, one element after the other.
 use Rattle.std.specs.Prelude.{◌≡◌, ℕ, ◌+◌, ◌<◌, ◌≤◌, List, [], ◌∷◌, ◌++◌, map, flat_map, length, take, drop}
 use Rattle.std.proofs.Common.{sym, ap, ◌∙◌, append_assoc, append-nil, get_or}
 use Rattle.std.proofs.lemmas.List.{drop_more, take_more, drop_all, take_all, map-append}
 
--- what is told of the elements so far, and of those that are left, with one more
+-- the images of the elements so far and of the remaining ones, after one more element
 pub told_more : {A B X : Type 0} (of : A → B) (tell : B → X) (out new all : List X) (xs : List A) (i : ℕ) (x : A) → i < length xs → x ≡ get_or xs i x → new ≡ out ++ tell (of x) ∷ [] → out ++ map tell (map of (drop i xs)) ≡ all
     → new ++ map tell (map of (drop (i + 1) xs)) ≡ all
 told_more {A} {B} {X} of tell out new all xs i x l e n h =
@@ -13,7 +13,7 @@ told_more {A} {B} {X} of tell out new all xs i x l e n h =
     ∙ ap (λ (ys : List A). out ++ map tell (map of ys)) (sym left)
     ∙ h
 
--- what is told of the elements so far, with one more
+-- the images of the elements so far, after one more element
 pub taken_more : {A X : Type 0} (tell : A → X) (out new : List X) (xs : List A) (i : ℕ) (x : A) → i < length xs → x ≡ get_or xs i x → new ≡ out ++ tell x ∷ [] → out ≡ map tell (take i xs) → new ≡ map tell (take (i + 1) xs)
 taken_more {A} {X} tell out new xs i x l e n h =
     n
@@ -21,7 +21,7 @@ taken_more {A} {X} tell out new xs i x l e n h =
     ∙ sym (map-append tell (take i xs) (x ∷ []))
     ∙ ap (λ (ys : List A). map tell ys) (ap (λ (y : A). take i xs ++ y ∷ []) e ∙ sym (take_more xs i x l))
 
--- after the last element all is told
+-- after the last element all images are there
 pub told_all : {A B X : Type 0} (of : A → B) (tell : B → X) (out all : List X) (xs : List A) (i : ℕ) → length xs ≤ i → out ++ map tell (map of (drop i xs)) ≡ all → out ≡ all
 told_all {A} {B} {X} of tell out all xs i l h = sym (append-nil out) ∙ ap (λ (ys : List A). out ++ map tell (map of ys)) (sym (drop_all i xs l)) ∙ h
 

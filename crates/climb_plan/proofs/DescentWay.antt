@@ -1,4 +1,4 @@
--- The way from the root down to the page in whose range a key is, for the proofs of this crate.
+-- The descent from the root to the page whose range contains a key, for the proofs of this crate.
 use Rattle.std.specs.Prelude.{◌≡◌, ℕ, zero, suc, ◌<◌, true, false, List, [], ◌∷◌, ◌++◌, map, length, Option, Some, None}
 use Rattle.std.proofs.Common.{refl, sym, ap, ◌∙◌, subst, arith, length-append}
 use Rattle.std.specs.List.{AllByRecursion, filter}
@@ -119,7 +119,7 @@ module _ (t : Mapping PageOfKind) where
     way_start ps [] h = way_top ps h
     way_start ps (up ∷ ups) h = way_start up ups (go_up ps up ups h)
 
-    -- the page at home under a pid, which has the key in its range
+    -- the page in the table under a pid, which has the key in its range
     record IsFound (up : List (Placed ℕ)) (pid : ℕ) : Type 0 where
       pub before : List (Placed ℕ)
       pub page : Placed ℕ

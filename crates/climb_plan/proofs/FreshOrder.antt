@@ -32,7 +32,7 @@ free used ns = filter (λ n. not (is_among n used)) ns
 abbrev next_unused : List ℕ → ℕ → ℕ → List ℕ
 next_unused used i n = map (unused used) (range_with_len i n)
 
--- of pids that are kept, left out and drawn, the drawn ones are the free ones
+-- of the pids that are retained, left out and allocated, the allocated ones are the free ones
 drawn_in_order : {used : List ℕ} {i j : ℕ} {b a : List ℕ} → Renewed used i j b a → AreRisingPids used → AllByRecursion (λ n. is_among n used ≡ true) b → (n : ℕ) × (free used a ≡ next_unused used i n)
 drawn_in_order (done) r h = (zero, refl)
 drawn_in_order {used} (keep {after = a} n m) r h = let rest = drawn_in_order m r h.1 in (rest.0, rw h.0 rest.1)

@@ -1,4 +1,4 @@
--- Where a climb leaves more levels than there were, the root doesn't shrink; and no climb is higher once it has shrunk.
+-- If a climb leaves more levels than there were, the root doesn't shrink; and no climb is higher after the root has shrunk.
 use Rattle.std.specs.Prelude.{◌≡◌, ℕ, zero, suc, ◌+◌, ◌<◌, ◌≤◌, Bool, true, false, cond, nat_eq, nat_lt, List, [], ◌∷◌, ◌++◌, map, length}
 use Rattle.std.proofs.Common.{refl, ap, ◌∙◌, arith, append-nil, length-append, ltb-true}
 use Rattle.std.proofs.lemmas.List.{length-map}

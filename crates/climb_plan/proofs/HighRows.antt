@@ -33,9 +33,9 @@ row_5_is_proper = refl
 row_5_pairs : length (contents tree_5) ≡ 17
 row_5_pairs = refl
 
--- Row 4.1: after row 5, three batches: `del a, del b, del c`; `put a 1`; `del a`. Leaf 0 is thin and stands first, so it
--- joins leaf 1: pid 0 has d, e and f, and the empty low key; pid 1 is freed; page 5 has one run, in which d is absent. That
--- is 7 pages, height 3, 14 pairs in a proper tree.
+-- Row 4.1: after row 5, three batches: `del a, del b, del c`; `put a 1`; `del a`. Leaf 0 is thin and is the first leaf, so it joins leaf 1: pid 0 has
+-- d, e and f, and the empty low key; pid 1 is freed; page 5 has one run, which deletes d. The result is a proper tree with 7 pages, height 3 and 14
+-- pairs.
 
 abbrev batches_4_1 : List Batch
 batches_4_1 = seventeen_puts ∷ del_all (a ∷ b ∷ c ∷ []) ∷ (put a 1 ∷ []) ∷ (del a ∷ []) ∷ []

@@ -33,7 +33,7 @@ use Rattle.climb_plan.proofs.Families.{families-joined}
 use Rattle.climb_plan.proofs.Kept.{lone_is_over_one, left, kept_and_left, lone-left}
 
 module _ (P : ℕ → Type 0) where
-  -- ---- what holds of the pids of pages holds of those that are outdated, and of the first that stands in their place
+  -- ---- a property of the pids of pages holds for the outdated ones, and for the first pid of the pages that replace them
 
   abbrev AllHold : {V : Type 0} → List (Worked V) → Type 0
   AllHold ws = AllByRecursion P (pids (placed_of ws))

@@ -1,4 +1,4 @@
--- What stands once groups were installed, as the proofs say it.
+-- The table after groups were installed, in the form that the proofs use.
 use Rattle.std.specs.Prelude.{◌≡◌, ℕ, false, List, ◌++◌, map, None}
 use Rattle.std.specs.List.{filter, AllByRecursion}
 use Rattle.index_page.specs.Page.{Page, PageOfKind}
@@ -18,7 +18,7 @@ worked_pids ws = map (λ w. w.placed.pid) ws
 abbrev pub replaced_among : {V : Type 0} → List (Worked V) → List (Worked V)
 replaced_among ws = filter (λ w. w.replaced) ws
 
--- from one table to the next what is made by changes came home and what they free lost its place; all else stayed
+-- from one table to the next the new pages of changes were put in, and their freed pages lost their places; everything else is unchanged
 pub record IsInstalled {V : Type 0} (of : Page V → PageOfKind) (before after : Mapping PageOfKind) (cs : List (Change V)) : Type 0 where
   pub new : AreHome of after (new_of cs)
   pub freed : AllByRecursion (λ p. place_of after p.pid ≡ None) (freed_of cs)

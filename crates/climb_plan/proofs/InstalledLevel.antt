@@ -1,4 +1,4 @@
--- A level, or the highest one, once what is made of the groups that are rewritten was installed.
+-- A level, or the highest one, after the new pages of its rewritten groups were installed.
 use Rattle.std.specs.Prelude.{◌≡◌, ℕ, true, false, List, [], ◌∷◌, None}
 use Rattle.std.proofs.Common.{refl, sym, ap, ◌∙◌, subst, append-nil}
 use Rattle.std.specs.List.{filter}

@@ -1,4 +1,4 @@
--- Lemmas on a table in which what is made of the groups that are rewritten was installed: it has the whole new level.
+-- Lemmas on a table in which the new pages of the rewritten groups were installed: it contains the whole new level.
 use Rattle.std.specs.Prelude.{◌≡◌, ◌≢◌, ℕ, ◌+◌, Bool, true, false, cond, not, ◌||◌, nat_eq, List, [], ◌∷◌, ◌++◌, drop, length, Some, None}
 use Rattle.std.proofs.Common.{refl, sym, ap, ◌∙◌, subst, arith, inl, inr}
 use Rattle.std.specs.List.{filter, AllByRecursion}
@@ -40,7 +40,7 @@ rest_of : (a b : Bool) → (a || b) ≡ true → a ≡ false → b ≡ true
 rest_of true b h e = absurd (cc)
 rest_of false b h e = h
 
--- no number stands in both
+-- no number is in both lists
 abbrev pub AreApart : List ℕ → List ℕ → Type 0
 AreApart ms ns = (n : ℕ) → is_among n ms ≡ true → is_among n ns ≡ false
 
@@ -139,7 +139,7 @@ module _ {V : Type 0} where
       let front = joined_apart (worked_pids g) (worked_pids (flat ks)) (worked_pids (flat rs)) c h in
       subst (λ (ns : List ℕ). AreApart ns (worked_pids (flat rs))) (sym (worked_pids-append g (flat ks))) front
 
-  -- where the pids are distinct, no member of a group that stays is in one that is rewritten
+  -- if the pids are distinct, no member of a group that stays is in one that is rewritten
   staying_apart : (gs : List (List (Worked V))) → Distinct (worked_pids (flat gs)) → AreApart (worked_pids (staying gs)) (worked_pids (flat (filter is_rewritten gs)))
   staying_apart [] d = λ n e. refl
   staying_apart (g ∷ gs) d =
@@ -147,7 +147,7 @@ module _ {V : Type 0} where
       let stay : List (Worked V) → Bool = λ h. not (is_rewritten h) in
       parts_by (is_rewritten g) g (filter stay gs) (filter is_rewritten gs) (within_apart stay (worked_pids g) gs r.0) (within_apart is_rewritten (worked_pids g) gs r.0) (staying_apart gs r.1)
 
-  -- ---- the pids of what is made
+  -- ---- the pids of the new pages
 
   remade_pids : (s : Settings) (used : List ℕ) (i : ℕ) (w : Worked V) (ws : List (Worked V)) → pids (remade s used i (w ∷ ws)) ≡ w.placed.pid ∷ pids (drop 1 (remade s used i (w ∷ ws)))
   remade_pids s used i w ws =
@@ -225,7 +225,7 @@ module _ {V : Type 0} where
       passed_by true a k = subst (λ (ps : List (Placed V)). AllByRecursion P ps) (sym (placed_of-append g (flat (filter test gs)))) (all-append P (placed_of g) (placed_of (flat (filter test gs))) a k)
       passed_by false a k = k
 
-  -- pages whose places stayed are still at home
+  -- pages whose places stayed are still in the table
   stay_home : (of : Page V → PageOfKind) (before after : Mapping PageOfKind) (ws : List (Worked V)) → ((n : ℕ) → is_among n (worked_pids ws) ≡ true → place_of after n ≡ place_of before n) → AreHome of before (placed_of ws) → AreHome of after (placed_of ws)
   stay_home of before after [] h a = tt
   stay_home of before after (w ∷ ws) h a =
@@ -252,7 +252,7 @@ module _ {V : Type 0} where
       let fresh : is_among n (pids (fresh_of cs)) ≡ false = fresh_apart (flat gs) (fresh_of cs) f n all in
       t.others n (not_among_from n (pids (new_of cs)) (pids (freed_of cs)) (not_new s used i n rs apart fresh) (not_freed s used i n rs apart))
 
-  -- of any groups: once those that are rewritten are installed, the table has all pages that are made of all of them
+  -- of any groups: after those that are rewritten are installed, the table has all pages that are made of all of them
   pub installed-groups : (s : Settings) (used : List ℕ) (i : ℕ) (of : Page V → PageOfKind) (before after : Mapping PageOfKind) (gs : List (List (Worked V)))
       → AreHome of before (placed_of (flat gs)) → Distinct (worked_pids (flat gs)) → AreFreshFor (flat gs) (fresh_of (changes s used i (filter is_rewritten gs))) → IsInstalled of before after (changes s used i (filter is_rewritten gs))
       → AreHome of after (new_of (changes s used i gs))

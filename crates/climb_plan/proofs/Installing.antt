@@ -1,4 +1,4 @@
--- Steps of a climb's changes of the mapping table: what one of them leaves of the other places.
+-- Steps of a climb's changes of the mapping table: the effect of one step on the other places.
 use Rattle.std.specs.Prelude.{◌≡◌, ◌≢◌, ℕ, suc, ◌+◌, ◌-◌, ◌<◌, ◌++◌, map, take, drop, length, slice_get, slice_index_or, Bool, true, false, cond, if◌then◌else◌, List, [], ◌∷◌, Option, Some, None, IsSome}
 use Rattle.std.proofs.Common.{refl, sym, ap, ◌∙◌, subst, get_or, drop-cons, arith, Ordering, Less, Equal, Greater}
 use Rattle.std.specs.List.{AllByRecursion}
@@ -37,13 +37,13 @@ module _ {V : Type 0} where
   removed_by false true q k e es rest f g d ih = rw g refl
   removed_by false false q k e es rest f g d ih = rw g ih
 
-  -- what is listed under another pid once a pid's entry is taken away
+  -- the entries under other pids, after a pid's entry was removed
   removed_apart : (q k : ℕ) (es : List (ℕ × V)) → q ≢ k → listed_at (remove_entry (is_same_pid k) es) q ≡ listed_at es q
   removed_apart q k [] d = refl
   removed_apart q k (e ∷ es) d = removed_by (is_eq (nat_cmp k e.0)) (is_eq (nat_cmp q e.0)) q k e es (remove_entry (is_same_pid k) es) refl refl d (removed_apart q k es d)
 
 module _ {P : Type 0} (t : Mapping P) (k : ℕ) where
-  -- what was put into a place is there
+  -- the page that was put into a place is there
   pub place_here : (p : Option P) → place_of (with_place t k p) k ≡ Some p
   place_here p =
       let found = listed-insert_entry t.places k p k in
@@ -63,9 +63,9 @@ module _ {P : Type 0} (R : Option (Option P) → Type 0) (t u : Mapping P) (k : 
   all_kept [] d a = tt
   all_kept (q ∷ qs) d a = (subst R (sym (keeps q d.0)) a.0, all_kept qs d.1 a.1)
 
--- ---- places that are away, one after the other
+-- ---- empty places, one after the other
 
--- once one of them was changed, the others are away
+-- after one of them was changed, the others are empty
 pub away_rest : (t u : Mapping PageOfKind) (k : ℕ) (ks all : List ℕ) → all ≡ k ∷ ks → KeepsOthers t u k → AreAway t all → AreAway u ks
 away_rest t u k ks all e keeps h =
     let a : AreAway t (k ∷ ks) = subst (λ (ns : List ℕ). AreAway t ns) e h in
@@ -99,7 +99,7 @@ by_replaced false t k p q d = placed_apart t k (Some p) q d
 pub home_apart : (t : Mapping PageOfKind) (x : SeenPage) → KeepsOthers t (come_home t x) x.pid
 home_apart t x = by_replaced x.replaced t x.pid x.page
 
--- what was undone, put back, is what was held
+-- pages that were undone and put back are the original ones
 pub put_held : (tree now : TreeInMemory) (held : TermHeld) (job : TermJob) → term_held_of job ≡ held → now ≡ record tree { table = with_place tree.table job.pid (Some job.page) } → now ≡ record tree { table = with_place tree.table held.pid (Some held.page) }
 put_held tree now held job e n = n ∙ ap (λ (h : TermHeld). record tree { table = with_place tree.table h.pid (Some h.page) }) e
 
@@ -155,7 +155,7 @@ pub can_next : (tree now : TreeInMemory) (r : Remade) (rs all : List Remade) →
 can_next tree now r rs all e n h =
     subst (λ (x : TreeInMemory). CanInstallAll x.table rs) (sym n) ((subst (λ (x : List Remade). CanInstallAll tree.table x) e h).1)
 
--- from a place of a list on stand the number at it and those from the next on
+-- the rest of a list from a place on is the number at that place, followed by the rest from the next place on
 pub front : (xs : List ℕ) (i : ℕ) → i < length xs → drop i xs ≡ slice_index_or xs i 0 ∷ drop (i + 1) xs
 front xs i h = let next : suc i ≡ i + 1 = omega arith in drop-cons xs i 0 h ∙ ap (λ (n : ℕ). slice_index_or xs i 0 ∷ drop n xs) next
 
@@ -179,7 +179,7 @@ first_member ms all k e h = first_of all k (h ∙ ap (λ (x : List ℕ). slice_g
 pub front_item : (xs : List ℕ) (i x : ℕ) → i < length xs → x ≡ get_or xs i x → drop i xs ≡ x ∷ drop (i + 1) xs
 front_item xs i x h e = drop_more xs i x h ∙ ap (λ (y : ℕ). y ∷ drop (i + 1) xs) (sym e)
 
--- what is away or at home, and isn't among members that are freed, stays so
+-- a page that is checked out or in the table, and isn't among freed members, stays so
 members_kept : (R : Option (Option PageOfKind) → Type 0) (t : Mapping PageOfKind) (ks qs : List ℕ) → Distinct (ks ++ qs) → AllByRecursion (λ q. R (place_of t q)) qs → AllByRecursion (λ q. R (place_of (members_freed t ks) q)) qs
 members_kept R t [] qs d a = a
 members_kept R t (k ∷ ks) qs d a =
@@ -224,7 +224,7 @@ module _ (tree : TreeInMemory) (r : Remade) (k : ℕ) (ks : List ℕ) (p : PageO
       n ∙ ap (λ (x : TreeInMemory). tree_under x fresh pages) same ∙ ap (λ (x : List ℕ). tree_under (record tree { table = members_freed t ks }) x pages) f
       ∙ ap (λ (x : List PageOfKind). whole (k ∷ ks) x) (sym q) ∙ ap (λ (x : List ℕ). whole x r.pieces) (sym ms)
 
--- what is put into a place twice is there as it was put last
+-- of two pages put into a place, the last one is there
 put_again_by : {V : Type 0} → (o : Ordering) (k : ℕ) (v w : V) (e : ℕ × V) (es rest again : List (ℕ × V)) → nat_cmp k e.0 ≡ o → insert_entry nat_cmp rest k w ≡ again
     → insert_entry nat_cmp (match_ordering o ((k, v) ∷ e ∷ es) ((e.0, v) ∷ es) (e ∷ rest)) k w ≡ match_ordering o ((k, w) ∷ e ∷ es) ((e.0, w) ∷ es) (e ∷ again)
 put_again_by Less k v w e es rest again o h = rw (tied_itself total k) refl

@@ -1,4 +1,4 @@
--- Laws of what a climb does to the mapping table: which places it changes and how, and what becomes of the log.
+-- Laws about a climb's changes of the mapping table: which places and which log states change, and how.
 use Rattle.std.specs.Prelude.{◌≡◌, ◌≢◌, ℕ, suc, ◌<◌, ⊤, Bool, true, false, cond, if◌then◌else◌, ◌||◌, nat_eq, List, [], ◌∷◌, ◌++◌, map, flat_map, take, drop, length, Option, Some, None, IsSome}
 use Rattle.std.proofs.Common.{refl, sym, ap, ◌∙◌, subst, arith, Ordering, Less, Equal, Greater}
 use Rattle.std.specs.List.{filter, AllByRecursion}
@@ -110,13 +110,13 @@ others-all_put q t (e ∷ es) h =
     let a = none_of q e.0 (keys_of es) h in
     others-all_put q (with_place t e.0 (Some e.1)) es a.1 ∙ placed_apart t e.0 (Some e.1) q a.0
 
--- pages that were taken are away
+-- pages that were taken are checked out
 pub away-all_taken : (t : Pages) (ks : List ℕ) → Distinct ks → AllByRecursion (λ k. place_of (all_taken t ks) k ≡ Some None) ks
 away-all_taken t [] d = tt
 away-all_taken t (k ∷ ks) d =
     (others-all_taken k (with_place t k None) ks (not_among k ks d.0) ∙ place_here t k None, away-all_taken (with_place t k None) ks d.1)
 
--- pages that were put are at home
+-- pages that were put are in the table
 pub home-all_put : (t : Pages) (es : List (ℕ × PageOfKind)) → Distinct (keys_of es) → AllByRecursion (λ e. place_of (all_put t es) e.0 ≡ Some (Some e.1)) es
 home-all_put t [] d = tt
 home-all_put t (e ∷ es) d =
@@ -141,7 +141,7 @@ same_pages t u r s h l =
     let both : List (ℕ × Option PageOfKind) → List (ℕ × Logged) → Pages = λ es ls. record { places = es; logged = ls } in
     ap (λ (es : List (ℕ × Option PageOfKind)). both es u.logged) (same_table u.places t.places s r h) ∙ ap (λ (ls : List (ℕ × Logged)). both t.places ls) l
 
--- what was taken, put back, is the table as it was
+-- pages that were taken and put back give the original table
 pub put_back_is_before : (t : Pages) (es : List (ℕ × PageOfKind)) → Rises t → Distinct (keys_of es) → AllByRecursion (λ e. place_of t e.0 ≡ Some (Some e.1)) es → all_put (all_taken t (keys_of es)) es ≡ t
 put_back_is_before t es r d h =
     let taken : Pages = all_taken t (keys_of es) in
@@ -154,7 +154,7 @@ put_back_is_before t es r d h =
     by_case q true e a = at_among (λ q. place_of (all_put (all_taken t (keys_of es)) es) q ≡ place_of t q) q (keys_of es) a e
     by_case q false e a = others-all_put q (all_taken t (keys_of es)) es e ∙ others-all_taken q t (keys_of es) e
 
--- ---- pages that come home
+-- ---- pages that are put back after their runs
 
 rising_home_by : (b : Bool) (t : Pages) (k : ℕ) (p : PageOfKind) → Rises t → Rises (with_place (if b then log_outdated t k else t) k (Some p))
 rising_home_by true t k p r = rising_with_place (log_outdated t k) k (Some p) r
@@ -216,7 +216,7 @@ logged_home_by : (b : Bool) (t u : Pages) (x : SeenPage) (xs : List SeenPage) �
 logged_home_by true t u x xs e h = h ∙ outdate_more x.pid (replaced_pids xs) t.logged
 logged_home_by false t u x xs e h = h
 
--- what the log has of those that were replaced is outdated
+-- the log states of replaced pages become outdated
 pub logged-all_come_home : (t : Pages) (xs : List SeenPage) → (all_come_home t xs).logged ≡ outdate_all (replaced_pids xs) t.logged
 logged-all_come_home t [] = sym (outdate_none t.logged)
 logged-all_come_home t (x ∷ xs) = logged_home_by x.replaced t (all_come_home (come_home t x) xs) x xs refl (logged-all_come_home (come_home t x) xs)
@@ -266,7 +266,7 @@ logged-members_freed t (k ∷ ks) = logged-members_freed (gone_from t k) ks ∙ 
 
 -- ---- pages put under pids
 
--- the pages are at home under these pids, one for each
+-- the pages are in the table under these pids, one for each
 abbrev pub AreUnder : Pages → List ℕ → List PageOfKind → Type 0
 AreUnder t [] [] = ⊤
 AreUnder t [] (p ∷ ps) = ⊥
@@ -306,7 +306,7 @@ abbrev pub group_pids : Remade → List ℕ
 group_pids r = r.members ++ r.fresh
 
 -- from one table to the next the group was replaced: its pieces are at home, its members but the first have no place, other
--- places stayed, and what the log has of the members is outdated
+-- places stayed, and the log states of the members became outdated
 pub record IsReplaced (t u : Mapping PageOfKind) (r : Remade) : Type 0 where
   pub pieces : AreUnder u (take 1 r.members ++ r.fresh) r.pieces
   pub freed : AllByRecursion (λ k. place_of u k ≡ None) (drop 1 r.members)
@@ -378,7 +378,7 @@ groups_pids rs = flat_map group_pids rs
 abbrev pub AreShaped : List Remade → Type 0
 AreShaped rs = AllByRecursion (λ r. (0 < length r.members) × (length r.pieces ≡ suc (length r.fresh))) rs
 
--- the members of all groups are at home, and the places of their new pieces are away
+-- the members of all groups are in the table, and the places of their new pages are empty
 abbrev pub AreReady : Mapping PageOfKind → List Remade → Type 0
 AreReady t rs = AllByRecursion (λ r. AllByRecursion (λ k. IsSome (page_of t k)) r.members × AllByRecursion (λ k. place_of t k ≡ Some None) r.fresh) rs
 
@@ -401,7 +401,7 @@ others-all_installed q t (r ∷ rs) s d h n =
     let a = none_joined q (group_pids r) (groups_pids rs) n in
     others-all_installed q (group_installed t r) rs (is.rising s) later h.1 a.1 ∙ is.others q a.0
 
--- what the log has of all members is outdated
+-- the log states of all members become outdated
 pub logged-all_installed : (t : Pages) (rs : List Remade) → Rises t → Distinct (groups_pids rs) → AreShaped rs → (all_installed t rs).logged ≡ outdate_all (flat_map (λ r. r.members) rs) t.logged
 logged-all_installed t [] s d h = sym (outdate_none t.logged)
 logged-all_installed t (r ∷ rs) s d h =
@@ -412,7 +412,7 @@ logged-all_installed t (r ∷ rs) s d h =
     ∙ outdate-joined later r.members t.logged
     ∙ outdate-same (later ++ r.members) (r.members ++ later) t.logged (λ n. among_swapped n later r.members)
 
--- the pieces of a group are at home, and its members but the first have no place
+-- the new pages of a group are in the table, and its members except the first have no place
 pub record AreInstalled (u : Mapping PageOfKind) (r : Remade) : Type 0 where
   pub pieces : AreUnder u (take 1 r.members ++ r.fresh) r.pieces
   pub freed : AllByRecursion (λ k. place_of u k ≡ None) (drop 1 r.members)
@@ -475,7 +475,7 @@ still_ready t u (r ∷ rs) a h =
     let here = all_apart (λ k. place_of u k ≡ place_of t k) r.members r.fresh parts.0 in
     ((ready_stays (λ o. IsSome (at_home o)) t u r.members here.0 h.0.0, ready_stays (λ o. o ≡ Some None) t u r.fresh here.1 h.0.1), still_ready t u rs parts.1 h.1)
 
--- groups whose members are at home, whose new pieces have places that are away, all of other pids, can be replaced
+-- groups can be replaced if their members are in the table and their new pages have empty places, under distinct pids
 pub can_install_all : (t : Pages) (rs : List Remade) → Rises t → Distinct (groups_pids rs) → AreShaped rs → AreReady t rs → CanInstallAll t rs
 can_install_all t [] s d h a = tt
 can_install_all t (r ∷ rs) s d h a =

@@ -1,4 +1,4 @@
--- Parents that are taken out of the tree, worked, and put back.
+-- Parents that are checked out of the tree, get terms, and are put back.
 use Rattle.std.specs.Prelude.{◌≡◌, ℕ, List, [], ◌∷◌, map, Option, Some, None}
 use Rattle.std.proofs.Common.{refl, sym, ap, ◌∙◌, subst}
 use Rattle.std.specs.List.{All, AllByRecursion}
@@ -71,7 +71,7 @@ held_home : (t : Mapping PageOfKind) (xs : List ParentRuns) → AllByRecursion (
 held_home t [] a = tt
 held_home t (x ∷ xs) a = (home_there (place_of t x.0) a.0, held_home t xs a.1)
 
--- where jobs come back, the places of their pages are away
+-- if jobs are returned, the places of their pages are empty
 pub back_away : (tree taken : TreeInMemory) (js again : List TermJob) (xs : List ParentRuns) → taken ≡ tree_taken tree (map (λ x. x.0) xs) → map term_held_of js ≡ map (parent_held tree.table) xs → map term_held_of again ≡ map term_held_of js
     → AreParentsHome tree.table (map (λ x. x.0) xs) → AreAway taken.table (map (λ j. j.pid) again)
 back_away tree taken js again xs n e f h =
@@ -80,7 +80,7 @@ back_away tree taken js again xs n e f h =
     let all : AreAway (all_taken tree.table ks) ks = (away-all_taken tree.table ks h.1, h.1) in
     subst (λ (y : TreeInMemory). AreAway y.table (map (λ j. j.pid) again)) (sym n) (subst (λ (ns : List ℕ). AreAway (all_taken tree.table ks) ns) (sym same) all)
 
--- and once they are put back the tree is as it was
+-- and after they are put back the tree is unchanged
 pub back_is_before : (tree taken now : TreeInMemory) (js again : List TermJob) (xs : List ParentRuns) → taken ≡ tree_taken tree (map (λ x. x.0) xs) → map term_held_of js ≡ map (parent_held tree.table) xs → map term_held_of again ≡ map term_held_of js
     → now ≡ tree_put taken (map (λ j. (j.pid, j.page)) again) → AreParentsHome tree.table (map (λ x. x.0) xs) → AreRisingPids (pids_in_use tree.table) → now ≡ tree
 back_is_before tree taken now js again xs n e f p h r =

@@ -120,6 +120,6 @@ module _ (s : Settings) where
     small-worked_leaves (part_from q.page.low run) (q ∷ qs) h.1 (all-filter (IsShortChange s (IsShortValue s)) _ run a),
   )
 
-  -- leaves within the settings are so, but for fat ones, after the net run of commands within them
+  -- leaves within the settings stay within them after the net run of commands within them, except for fat leaves
   pub small-leaves : {A : Type 0} (cs : List (Command A)) (ps : List (Placed (List ℕ))) → AreShort s cs → AllByRecursion (IsSmall s (IsShortValue s)) ps → AllByRecursion (IsSmallUnlessFat s (IsShortValue s)) (worked_leaves s (net_run (joined ps) cs) ps)
   small-leaves cs ps h a = small-worked_leaves (net_run (joined ps) cs) ps a (short-net_run (joined ps) cs h (short_leaves ps a))

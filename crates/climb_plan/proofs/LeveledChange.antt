@@ -1,4 +1,4 @@
--- What a level became: groups with their numbers, and parents, worked.
+-- A level after its changes: groups with their pids, and parents after their terms.
 use Rattle.std.specs.Prelude.{◌≡◌, ℕ, ◌<◌, List, [], ◌∷◌, ◌++◌, map, flat_map, take, length, Option, None}
 use Rattle.std.proofs.Common.{refl, sym, ap, ◌∙◌, subst}
 use Rattle.keys.specs.declared.settings.Settings.{Settings}
@@ -38,7 +38,7 @@ through f g xs ys e = each f g xs ∙ ap (map f) e
 abbrev pub with_table : TreeInMemory → Mapping PageOfKind → TreeInMemory
 with_table t u = record { table = u; root = t.root; height = t.height }
 
--- the tree once the numbers of groups were drawn
+-- the tree after the pids of groups were allocated
 abbrev pub numbers_drawn : TreeInMemory → List Remade → TreeInMemory
 numbers_drawn t rs = with_table t (with_rooms t.table (fresh_pids (pids_in_use t.table) (numbers rs)))
 
@@ -51,12 +51,12 @@ module _ {V : Type 0} (s : Settings) (of : Page V → PageOfKind) (kind : IsKind
   pub some_piece : HaveSome groups
   some_piece = subst HaveSome (sym cut.pieces) (some-page_seen of kind s rewritten_here (changing_rewritten ps ws))
 
-  -- as many numbers are drawn as there are new pages
+  -- as many pids are allocated as there are new pages
   count : numbers groups ≡ new_here s of t xs ws ps ups used i
   count = ap numbers cut.pieces ∙ numbers-page_seen of kind s used i rewritten_here (changing_rewritten ps ws)
 
   module _ (given : List Remade) (numbered_so : given ≡ with_numbers used i groups) where
-    -- with their numbers the groups are what the plan makes of them
+    -- with their pids, the groups are those of the plan
     pub remade_here : given ≡ made_in of (changes s used i rewritten_here)
     remade_here = numbered_so ∙ ap (with_numbers used i) cut.pieces ∙ with_numbers-page_seen of kind s used i rewritten_here (changing_rewritten ps ws)
 
@@ -114,7 +114,7 @@ module _ {V : Type 0} (s : Settings) (of : Page V → PageOfKind) (kind : IsKind
                 ∙ ap (λ (v : TreeInMemory). with_table v (all_taken v.table (parent_pids (changing_families ps ws)))) same_tree;
           }
 
--- ---- a level whose numbers were drawn
+-- ---- a level whose pids were allocated
 
 -- what holds of it then: its parents can get their runs and be taken, and what comes of that is what the plan makes of the level
 pub record IsDrawn {V : Type 0} (s : Settings) (of : Page V → PageOfKind) (t u : TreeInMemory) (l : LevelPlan V) (ps : List (Placed ℕ)) (counts : List (ℕ × ℕ)) (freed : List (List (List ℕ × ℕ))) (given : List Remade) : Type 0 where
@@ -138,9 +138,9 @@ level_drawn s of kind z t u xs ws ps ups used i h counts seen_counts freed group
       changed = all_changed s of kind z t xs ws ps ups used i h seen_counts freed old seen given so u drawn;
     }
 
--- ---- the way back
+-- ---- undoing
 
--- the places of numbers that were drawn are away, and to give them back gives the tree back
+-- the places of allocated pids are empty, and freeing these pids restores the tree
 pub record CanGiveBack (t u : TreeInMemory) (given : List Remade) : Type 0 where
   pub away : AreAway u.table (flat_map (λ r. r.fresh) given)
   pub back : with_table u (freed_all u.table (flat_map (λ r. r.fresh) given)) ≡ t

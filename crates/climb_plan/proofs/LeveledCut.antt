@@ -1,4 +1,4 @@
--- The groups of a level that are rewritten, cut: what code sees of the level is what the plan has.
+-- The groups of a level that are rewritten, after the split: those in the code are those of the plan.
 use Rattle.std.specs.Prelude.{◌≡◌, ℕ, List, ◌∷◌, map, length, None}
 use Rattle.std.proofs.Common.{sym, ap, ◌∙◌, subst}
 use Rattle.keys.specs.declared.settings.Settings.{Settings}
@@ -25,7 +25,7 @@ module _ {V : Type 0} (of : Page V → PageOfKind) (kind : IsKind of) (t : TreeI
   cut_in_sight gs ws ps ups used i h e given =
       subst CanBeCut (sym (given (map (page_seen of) ws) ps ups (level_in_sight ws ps ups used i h e))) (can_be_cut of kind ps ws None h.tiled h.stacked.0.linked)
 
-  -- what is made of them
+  -- their new pages
   pub all_cut : (s : Settings) (counts : List (ℕ × ℕ)) (gs : List (List SeenPage)) (freed : List (List (List ℕ × ℕ))) (made : List Remade)
       → ((all : List SeenPage) (qs : List (Placed ℕ)) (vps : List (List (Placed ℕ))) → IsLevelSeen t depth ys all qs vps → counts ≡ rewriting_counts (rewriting_families qs all))
       → ((all : List SeenPage) (qs : List (Placed ℕ)) (vps : List (List (Placed ℕ))) → IsLevelSeen t depth ys all qs vps → gs ≡ groups_of (rewriting_families qs all))

@@ -1,4 +1,4 @@
--- Numbers that were drawn for the new pieces of groups, and given back.
+-- Pids that were allocated for the new pages of groups, and freed again.
 use Rattle.std.specs.Prelude.{◌≡◌, ◌≢◌, ℕ, zero, suc, ◌+◌, ◌-◌, ◌<◌, true, List, [], ◌∷◌, ◌++◌, map, flat_map, take, length, Some, None}
 use Rattle.std.proofs.Common.{refl, sym, ap, ◌∙◌, arith}
 use Rattle.std.specs.List.{AllByRecursion, range_with_len}
@@ -49,14 +49,14 @@ length-with_numbers used i (r ∷ rs) = ap suc (length-with_numbers used (i + (l
 -- ---- places that are given back
 
 module _ (t : Mapping PageOfKind) (rising : AreRisingPids (pids_in_use t)) (n : ℕ) where
-  -- the numbers, and the table once they were drawn
+  -- the pids, and the table after they were allocated
   abbrev pub fresh : List ℕ
   fresh = fresh_pids (pids_in_use t) n
 
   abbrev pub rooms : Mapping PageOfKind
   rooms = with_rooms t fresh
 
-  -- their places are away
+  -- their places are empty
   pub drawn_away : AreAway rooms fresh
   drawn_away = (each fresh (all_among fresh), distinct_numbers (pids_in_use t) 0 n)
     where
@@ -80,7 +80,7 @@ given_here t old new given = given (pids_in_use t) 0 (λ m. let e : m ≡ 0 + m 
 pub numbers_given : (t : Mapping PageOfKind) (old new : List Remade) → AreGiven t old new → flat_map (λ r. r.fresh) new ≡ fresh_pids (pids_in_use t) (numbers old)
 numbers_given t old new given = ap (λ (rs : List Remade). flat_map (λ r. r.fresh) rs) (given_here t old new given) ∙ all_numbers (pids_in_use t) 0 old
 
--- the list that they stand in has nothing more
+-- the rest of the list that they were in is empty
 pub all_given : (t : Mapping PageOfKind) (old new rest : List Remade) (n : ℕ) → AreGiven t old new → length old ≡ n → take n (new ++ rest) ≡ new
 all_given t old new rest n given e =
     take_at new rest n (ap (λ (rs : List Remade). length rs) (given_here t old new given) ∙ length-with_numbers (pids_in_use t) 0 old ∙ e)

@@ -1,4 +1,4 @@
--- The highest level: what code cuts of it is what the plan makes, and so are the levels that grow above.
+-- The highest level: the pages that the code makes of it are those of the plan, and so are the levels that are added above.
 use Rattle.std.specs.Prelude.{◌≡◌, ℕ, zero, suc, ◌+◌, ◌<◌, ◌≤◌, Bool, true, false, cond, nat_lt, List, [], ◌∷◌, ◌++◌, map, flat_map, take, drop, length, Some, None}
 use Rattle.std.proofs.Common.{refl, sym, ap, ◌∙◌, subst, arith, append-nil}
 use Rattle.std.specs.List.{filter}
@@ -44,7 +44,7 @@ module _ {V : Type 0} (of : Page V → PageOfKind) (t : Mapping PageOfKind) wher
   fewer_seen (worked w e r) = let ih = fewer_seen r in omega arith
   fewer_seen (at_home p e r) = let ih = fewer_seen r in omega arith
 
-  -- where as many were seen as there are, these are all
+  -- if as many pages were seen as there are, these are all pages
   all_seen : {xs : List SeenPage} {ws : List (Worked V)} → AreSeen of t xs ws → length ws ≤ length xs → xs ≡ map (page_seen of) ws
   all_seen (AreSeen.none) l = refl
   all_seen (worked w e r) l = ap (λ (xs : List SeenPage). page_seen of w ∷ xs) (all_seen r (omega arith))
@@ -80,7 +80,7 @@ names-pages_named : (ns : Names) → names (pages_named ns) ≡ ns
 names-pages_named [] = refl
 names-pages_named (n ∷ ns) = ap (λ (ms : Names). n ∷ ms) (names-pages_named ns)
 
--- ---- the names of what is made
+-- ---- the entries of the new pages
 
 module _ {V : Type 0} (of : Page V → PageOfKind) (kind : IsKind of) where
   named_kept : (qs : List (Placed V)) → named_pages (map (λ q. of q.page) qs) (pids qs) ≡ names qs
@@ -120,8 +120,8 @@ module _ {V : Type 0} where
 
 -- ---- the level
 
--- of the highest level once the numbers of its new pieces were drawn: levels can grow above it, and with those that code grows it has become
--- what the plan makes of it; what grows above index pages of the same names, where as many were drawn, is what grows above it
+-- of the highest level after the numbers of its new pieces were drawn: levels can grow above it, and with those that code grows it has become
+-- what the plan makes of it; what grows above index pages of the same names, if as many were drawn, is what grows above it
 pub record IsTopDrawn {V : Type 0} (s : Settings) (of : Page V → PageOfKind) (t u : TreeInMemory) (ws : List (Worked V)) (used : List ℕ) (i : ℕ) (given : List Remade) : Type 0 where
   pub some : 0 < length (top_names u.root given)
   pub named : IsRising (top_names u.root given)
@@ -171,15 +171,15 @@ module _ {V : Type 0} (s : Settings) (of : Page V → PageOfKind) (kind : IsKind
       pub some_piece : HaveSome groups
       some_piece = subst HaveSome (sym group_made) (some-page_seen of kind s group_on_top (all_rewritten (ws ∷ [])))
 
-      -- as many numbers are drawn as there are new pages
+      -- as many pids are allocated as there are new pages
       count : numbers groups ≡ length (fresh_of (changes s used i group_on_top))
       count = ap numbers group_made ∙ numbers-page_seen of kind s used i group_on_top (all_rewritten (ws ∷ []))
 
-      -- with its numbers it is what the plan makes of it
+      -- with its pids it is as the plan says
       remade_here : with_numbers used i groups ≡ map (remade_of of) (changes s used i group_on_top)
       remade_here = ap (with_numbers used i) group_made ∙ with_numbers-page_seen of kind s used i group_on_top (all_rewritten (ws ∷ []))
 
-  -- ---- the numbers were drawn
+  -- ---- the pids were allocated
 
   abbrev made_here : List (List (Change V))
   made_here = made_on_top s used i ws
@@ -219,7 +219,7 @@ module _ {V : Type 0} (s : Settings) (of : Page V → PageOfKind) (kind : IsKind
     ready_logs : IsOldWithoutPlace ready_on_top.table
     ready_logs = logs_after t.table (with_rooms t.table (fresh_pids (pids_in_use t.table) count_here)) count_here [] (drawn_places count_here t.table h.rising) h.logs
 
-    -- levels can grow above it, and with them it is what the plan makes of it
+    -- levels can be added above it, and with them it is as the plan says
     ready_drawn : IsTopDrawn s of t ready_on_top ws used i given
     ready_drawn =
         let top : List (Placed V) = all_new made_here in
@@ -257,7 +257,7 @@ module _ {V : Type 0} (s : Settings) (of : Page V → PageOfKind) (kind : IsKind
       let ready : u ≡ ready_on_top = drawn ∙ ap (λ (k : ℕ). next_tree t k []) (count some old (same ∙ made)) in
       subst (λ (v : TreeInMemory). IsTopDrawn s of t v ws used i given) (sym ready) (ready_drawn given is)
 
--- the tree once the numbers were given back is the one before
+-- the tree after the pids are freed is the one before
 pub given_back : (t v w : TreeInMemory) (given : List Remade) → CanGiveBack t v given → w ≡ with_table v (freed_all v.table (flat_map (λ r. r.fresh) given)) → w ≡ t
 given_back t v w given b e = e ∙ b.back
 

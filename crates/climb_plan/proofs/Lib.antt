@@ -27,7 +27,7 @@ pub mod Climbing
 pub mod ClimbingLevel
 pub mod ClimbingTop
 mod Copying
--- ---- the table: pages that are taken and put, numbers that are drawn and given back
+-- ---- the table: pages that are checked out and put back, pids that are allocated and freed
 pub mod Installing
 pub mod InstallingLemmas
 mod InstallingParents
@@ -39,7 +39,7 @@ mod ChangedRooms
 mod Rooted
 mod OnlyChild
 mod Shrinking
--- ---- the code: what it sees and makes is what the plan has
+-- ---- the code: what it sees and makes is as the plan says
 mod RewritingSeen
 mod RewritingGroups
 mod RewritingFamily

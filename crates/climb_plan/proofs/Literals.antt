@@ -49,7 +49,7 @@ set key x = (key, Some (digit x))
 
 -- ---- trees
 
--- the tree, where the log has this of its pages
+-- the tree with these log states
 abbrev pub with_log : List (ℕ × Logged) → Tree → Tree
 with_log logged t = record t { logged = logged }
 

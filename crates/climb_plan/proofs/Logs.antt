@@ -1,4 +1,4 @@
--- What the log has of a page stays true.
+-- Log states stay true.
 use Rattle.std.specs.Prelude.{◌≡◌, ℕ, ◌<◌, ◌≤◌, ◌⊎◌, ◌↔◌, Bool, true, false, cond, ◌||◌, nat_eq, List, [], ◌∷◌, ◌++◌, flat_map, length, Option, Some, None}
 use Rattle.std.proofs.Common.{refl, sym, ap, ◌∙◌, subst, arith, inl, inr, length-append}
 use Rattle.std.specs.Ordering.{nat_cmp, is_eq}
@@ -40,7 +40,7 @@ logged_by : (b : Bool) (gone : List ℕ) (pid : ℕ) (l : ℕ × Logged) (rest o
 logged_by true gone pid l rest old e ih = ap (λ (n : ℕ). cond (is_among n gone) (outdate l.1) l.1) (sym (same_pid pid l.0 (equal_by (nat_cmp pid l.0) e)))
 logged_by false gone pid l rest old e ih = ih
 
--- outdated where the pid is among those that are gone, else as it was
+-- outdated if the pid is among the removed ones, else unchanged
 logged-outdate_all : (gone : List ℕ) (ls : List (ℕ × Logged)) (pid : ℕ)
     → or_no (lookup (λ n. is_eq (nat_cmp pid n)) (outdate_all gone ls)) ≡ cond (is_among pid gone) (outdate (or_no (lookup (λ n. is_eq (nat_cmp pid n)) ls))) (or_no (lookup (λ n. is_eq (nat_cmp pid n)) ls))
 logged-outdate_all gone [] pid = outdated_no (is_among pid gone)
@@ -99,7 +99,7 @@ module _ {V : Type 0} where
   has_pid (p ∷ ps) q (inl e) = ap (λ (b : Bool). b || is_among q.pid (pids ps)) (eq-eqb q.pid p.pid (ap (λ (x : Placed V). x.pid) (sym e)))
   has_pid (p ∷ ps) q (inr h) = later_among q.pid p.pid (pids ps) (has_pid ps q h)
 
--- a page stands in one of some levels
+-- a page is in one of some levels
 abbrev InLevels : List (List (Placed ℕ)) → Placed ℕ → Type 0
 InLevels [] q = ⊥
 InLevels (l ∷ ls) q = Has l q ⊎ InLevels ls q
@@ -151,7 +151,7 @@ module _ {A : Type 0} (s : Settings) (t : Tree) (cs : List (Command A)) where
   abbrev gone_pids : List ℕ
   gone_pids = outdated_pids s t cs
 
-  -- what the log has of a pid
+  -- the log state of a pid
   pub logged_after : (pid : ℕ) → logged_of (planned_tree s t cs) pid ≡ cond (is_among pid gone_pids) (outdate (logged_of t pid)) (logged_of t pid)
   logged_after pid = logged-outdate_all gone_pids t.logged pid
 
@@ -177,7 +177,7 @@ module _ {A : Type 0} (s : Settings) (t : Tree) (cs : List (Command A)) where
     planned_holds : HoldsLevels (by_pid (all_pages (planned_levels s t cs))) (planned_levels s t cs)
     planned_holds = by_pid-holds (planned_levels s t cs) (planned_are_levels s t cs fan proper).distinct
 
-    -- a page under a pid that isn't gone has a page that stands as it did
+    -- there is a page under the pid, equal to the old one except for newer runs
     abbrev StillStands : ℕ → PageOfKind → Type 0
     StillStands pid p = (q : PageOfKind) × (page_at (planned_tree s t cs).pages pid ≡ Some q) × IsPageOver p q
 
@@ -213,7 +213,7 @@ module _ {A : Type 0} (s : Settings) (t : Tree) (cs : List (Command A)) where
         let same : Index f.before.page ≡ p = some_same (Index f.before.page) p (sym f.page ∙ ap (λ (x : ℕ). page_at t.pages x) f.pid ∙ h) in
         (Index f.after.page, at_pid, subst (λ (x : PageOfKind). IsPageOver x (Index f.after.page)) same f.same.page)
 
-    -- a page whose pid isn't outdated stands as it did, with newer runs in front
+    -- a page whose pid isn't outdated keeps its contents, with newer runs in front
     pub page_stands : (pid : ℕ) (p : PageOfKind) → is_among pid gone_pids ≡ false → page_at t.pages pid ≡ Some p → StillStands pid p
     page_stands pid p g e =
         let l : Levels = levels_of t in
@@ -236,7 +236,7 @@ module _ {A : Type 0} (s : Settings) (t : Tree) (cs : List (Command A)) where
     true_after : (now : Option PageOfKind) (was : PageOfKind) (k : ℕ) → HasRuns k was → (q : PageOfKind) × (now ≡ Some q) × IsPageOver was q → IsTrueOf now (Upto k)
     true_after now was k h r = rw r.1 (more_runs was r.0 k r.2 h)
 
-    -- of what the log had of a pid
+    -- properties of the old log state of a pid
     stays_true : (b : Bool) (pid : ℕ) (l : Logged) (was : Option PageOfKind) → is_among pid gone_pids ≡ b → page_at t.pages pid ≡ was → IsTrueOf was l → IsTrueOf (page_at (planned_tree s t cs).pages pid) (cond b (outdate l) l)
     stays_true b pid No was f e h = absurd h
     stays_true true pid Old was f e h = tt
@@ -249,7 +249,7 @@ module _ {A : Type 0} (s : Settings) (t : Tree) (cs : List (Command A)) where
     all_stay_true [] h = tt
     all_stay_true (l ∷ ls) h = (stays_true (is_among l.0 gone_pids) l.0 l.1 (page_at t.pages l.0) refl refl h.0, all_stay_true ls h.1)
 
-    -- what was true of the log stays true
+    -- true log states stay true
     pub logs_stay_true : AreLogsTrue t → AreLogsTrue (planned_tree s t cs)
     logs_stay_true h = record {
       rising = subst (λ (ns : List ℕ). AreRisingPids ns) (sym (logged_keys gone_pids t.logged)) h.rising;

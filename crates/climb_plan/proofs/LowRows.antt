@@ -124,7 +124,7 @@ batches_9 = del_all (a ∷ b ∷ c ∷ d ∷ e ∷ []) ∷ (put a 1 ∷ []) ∷ 
 abbrev last_9 : Batch
 last_9 = del a ∷ []
 
--- runs in front change nothing of what the log has
+-- runs in front do not change log states
 row_9_before : after S flushed_4 batches_9 ≡ with_log (bases_of (0 ∷ 1 ∷ 2 ∷ [])) (tree (
     leaf_under 0 [] ((set a 1 ∷ []) ∷ (gone a ∷ gone b ∷ []) ∷ []) (pair a 1 ∷ pair b 2 ∷ []) ∷
     leaf_under 1 c ((gone c ∷ gone d ∷ gone e ∷ []) ∷ []) (pair c 3 ∷ pair d 4 ∷ pair e 5 ∷ []) ∷
@@ -160,7 +160,7 @@ row_10_page_2 = refl
 row_10_unflushed : after S (with_log ((0, Old) ∷ (1, Old) ∷ (2, Old) ∷ []) tree_9) (five_puts ∷ []) ≡ with_log ((0, Old) ∷ (1, Old) ∷ (2, Old) ∷ []) tree_of_five
 row_10_unflushed = refl
 
--- Row 12: after row 4, `put a 9`: leaf 0 has one run, and the other pages are as they were.
+-- Row 12: after row 4, `put a 9`: leaf 0 has one run, and the other pages are unchanged.
 
 abbrev tree_12 : Tree
 tree_12 = tree (

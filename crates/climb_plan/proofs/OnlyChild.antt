@@ -1,4 +1,4 @@
--- The only child of an index page: the children between no bounds are all of them.
+-- The only child of an index page: without bounds, the children between the bounds are all children.
 use Rattle.std.specs.Prelude.{◌≡◌, ℕ, Bool, true, cond, List, [], ◌∷◌, map, Option, Some, None}
 use Rattle.std.proofs.Common.{refl, sym, ap, ◌∙◌, subst}
 use Rattle.std.specs.List.{filter}

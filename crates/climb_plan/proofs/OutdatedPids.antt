@@ -1,4 +1,4 @@
--- Which pids are outdated: on each level those of its groups, and those of the levels that went with the old root.
+-- The outdated pids: on each level those of its groups, and those of the levels removed with the old root.
 use Rattle.std.specs.Prelude.{◌≡◌, ℕ, ◌+◌, ◌⊎◌, ◌↔◌, true, List, [], ◌∷◌, ◌++◌, map, length}
 use Rattle.std.proofs.Common.{sym, ◌∙◌, subst, append-nil, inl, inr}
 use Rattle.std.specs.List.{Any}
@@ -28,7 +28,7 @@ module _ {V : Type 0} where
       let r = outdated_members c pid in
       (λ h. r.0 (subst (λ (ns : List ℕ). is_among pid ns ≡ true) only h), λ h. subst (λ (ns : List ℕ). is_among pid ns ≡ true) (sym only) (r.1 h))
 
-  -- what is outdated on the levels above a level
+  -- the outdated pids on the levels above a level
   abbrev outdated_above : Settings → List ℕ → ℕ → List (Worked V) → List (Placed ℕ) → List (List (Placed ℕ)) → List ℕ
   outdated_above s used i ws parents ups =
       let css : List (List (Change V)) = family_changes s used i (families parents ws) in

@@ -1,4 +1,4 @@
--- The runs that parents get, as the proofs say it.
+-- The runs that parents get, in the form that the proofs use.
 use Rattle.std.specs.Prelude.{ℕ, List, [], ◌∷◌, Option}
 use Rattle.mapping.specs.Levels.{Placed, pids}
 

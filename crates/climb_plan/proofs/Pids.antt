@@ -29,7 +29,7 @@ renewed-grown_levels : {V : Type 0} (enough : ℕ) (s : Settings) (used : List �
 renewed-grown_levels zero s used i ps = (i, done)
 renewed-grown_levels (suc enough) s used i ps = grown_by (nat_lt 1 (length ps)) enough s used i ps (λ j up. renewed-grown_levels enough s used j up)
 
--- a climb's pids are those of the levels before, some left out, and fresh ones
+-- a climb's pids are those of the levels before, without some, and with fresh ones
 pub renewed-climb : {V : Type 0} (s : Settings) (used : List ℕ) (i : ℕ) (ws : List (Worked V)) (olds : List (Placed V)) (ups : List (List (Placed ℕ))) → names (placed_of ws) ≡ names olds → Stacked olds ups
     → (k : ℕ) × Renewed used i k (all_pids olds ups) (all_pids (climb s used i ws ups).tower.level (climb s used i ws ups).tower.above)
 renewed-climb {V} s used i ws olds [] e o =

@@ -126,7 +126,7 @@ module _ {A : Type 0} (s : Settings) (t : Tree) (cs : List (Command A)) (fan : 1
         distinct = distinct-kept_levels c.tower.level c.tower.above distinct;
       }
 
-  -- the planned table has just these levels
+  -- the planned table has exactly these levels
   held : HoldsLevels (by_pid (all_pages (planned_levels s t cs))) (planned_levels s t cs)
   held = by_pid-holds (planned_levels s t cs) planned_are_levels.distinct
 

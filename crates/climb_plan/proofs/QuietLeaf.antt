@@ -1,4 +1,4 @@
--- Where of a batch's leaves just one changes, and is neither replaced nor thin nor fat, no group is rewritten and no parent gets a run: the
+-- If of a batch's leaves exactly one changes, and is neither replaced nor thin nor fat, no group is rewritten and no parent gets a run: the
 -- plan is the tree with that leaf back in its place.
 use Rattle.std.specs.Prelude.{◌≡◌, ℕ, zero, suc, ◌+◌, ◌<◌, false, nat_eq, List, [], ◌∷◌, ◌++◌, map, flat_map, take, drop, length, Option, Some, None}
 use Rattle.std.proofs.Common.{refl, sym, ap, ◌∙◌, subst, arith}
@@ -180,7 +180,7 @@ quiet_level t xs ws (AreSeen.worked {xs = ys} {ws = vs} w h a) q = (record { kep
 quiet_level t xs ws (AreSeen.at_home {ws = vs} p h a) q = (record { kept = refl; small = refl; same = refl }, quiet_level t xs vs a q)
 
 module _ (t : Mapping PageOfKind) (k : ℕ) (p : PageOfKind) (away : place_of t k ≡ Some None) where
-  -- a page that is at home is another, and stays
+  -- a page in the table is another page, and stays
   stays : (n : ℕ) (q : PageOfKind) → place_of t n ≡ Some (Some q) → place_of (with_place t k (Some p)) n ≡ Some (Some q)
   stays n q h = placed_apart t k (Some p) n (λ e. let there : place_of t k ≡ Some (Some q) = ap (λ (j : ℕ). place_of t j) (sym e) ∙ h in absurd (cc)) ∙ h
 

@@ -1,4 +1,4 @@
--- A tree in memory that is ready to climb has its leaves as a level; once all levels have climbed, the root can shrink.
+-- A tree in memory that is ready to climb has its leaves as a level; after all levels have climbed, the root can shrink.
 use Rattle.std.specs.Prelude.{◌≡◌, ℕ, suc, pred, ◌+◌, ◌-◌, ◌<◌, ◌≤◌, Bool, true, false, cond, List, [], ◌∷◌, length, Option, Some, None}
 use Rattle.std.proofs.Common.{refl, sym, ap, ◌∙◌, subst, arith}
 use Rattle.std.specs.List.{AllByRecursion}
@@ -42,7 +42,7 @@ module _ {X Y : Type 0} where
   none_by false true x y rest other e f h = absurd (cc)
   none_by false false x y rest other e f h = f h
 
-  -- where nothing is listed under a pid, nothing is in a list of the same pids
+  -- if nothing is listed under a pid, nothing is in a list of the same pids
   none_alike : (n : ℕ) (es : List (ℕ × X)) (fs : List (ℕ × Y)) → keys_of es ≡ keys_of fs → listed_at es n ≡ None → listed_at fs n ≡ None
   none_alike n [] [] e h = refl
   none_alike n [] (f ∷ fs) e h = absurd (cc)
@@ -72,7 +72,7 @@ module _ {A : Type 0} (s : Settings) (fan : 1 < s.fan) (t : Tree) (cs : List (Co
   abbrev same_names : names (placed_of leaves) ≡ names (levels_of t).level
   same_names = keep_names s t cs fan r.proper
 
-  -- what the log has of a pid without a place is old
+  -- the log state of a pid without a place is `Old`
   ready_logs : IsOldWithoutPlace m.table
   ready_logs = logs_by m.table t.pages m.table.logged r.in_use (subst (λ (ls : List (ℕ × Logged)). AllByRecursion (λ l. IsTrueOf (page_at t.pages l.0) l.1) ls) (sym r.logged) r.logs.each)
 
@@ -106,7 +106,7 @@ module _ {A : Type 0} (s : Settings) (fan : 1 < s.fan) (t : Tree) (cs : List (Co
   pub ready_depth : m.height - 1 ≡ length (levels_of t).above
   ready_depth = let e = levels_counted in omega arith
 
-  -- ---- once they have climbed
+  -- ---- after they have climbed
 
   -- too many levels stay too many, since a tree that grew doesn't shrink
   pub ready_high : m.height ≤ 64 → 64 + length (levels_of t).above < m.height + length (batch_climb s t cs).tower.above → 64 < (planned_tree s t cs).height

@@ -1,4 +1,4 @@
--- Lemmas on the children of one parent as they are seen, for the proofs of this crate.
+-- Lemmas on the children of one parent in the parent's view, for the proofs of this crate.
 use Rattle.std.specs.Prelude.{◌≡◌, ℕ, zero, suc, ◌+◌, ◌<◌, ◌≤◌, List, [], ◌∷◌, ◌++◌, map, take, drop, length, slice_get, Some, None}
 use Rattle.std.proofs.Common.{refl, sym, ap, ◌∙◌, subst, get_or, arith}
 use Rattle.std.specs.Map.{keys_of, values_of}
@@ -49,7 +49,7 @@ all_taken {X} (x ∷ xs) (suc n) e = let r = all_taken xs n (omega arith) in (ap
 -- ---- the walk over the children
 
 module _ (t : Mapping PageOfKind) (seen : List Seen) (es : Names) (children later : List SeenPage) where
-  -- the children before `at` are seen; those that are left, and the pages after them, begin at `next`
+  -- the children before `at` are seen; the remaining ones, and the pages after them, begin at `next`
   pub record IsSoFar (next at : ℕ) (made : List SeenPage) : Type 0 where
     pub named : es ≡ map seen_name children
     pub seen_so_far : made ≡ take at children

@@ -1,4 +1,4 @@
--- Lemmas on the groups of children as they are seen, for the proofs of this crate.
+-- Lemmas on the groups of children in the parent's view, for the proofs of this crate.
 use Rattle.std.specs.Prelude.{◌≡◌, ℕ, zero, suc, ◌+◌, ◌<◌, ◌≤◌, Bool, true, false, List, [], ◌∷◌, ◌++◌, map, take, drop, length, Vec}
 use Rattle.std.proofs.Common.{refl, sym, ap, ◌∙◌, get_or, arith, append-nil, append_assoc, length-append}
 use Rattle.std.specs.List.{filter}
@@ -98,7 +98,7 @@ group_at {X} (g ∷ gs) (suc i) l =
     let e : suc (i + 1) ≡ suc i + 1 = omega arith in
     (r.0, r.1 ∙ ap (λ (k : ℕ). r.0 ∷ drop k (g ∷ gs)) e, r.2)
 
--- the first i groups are dealt with; those that are left begin at `start`
+-- the first i groups are dealt with; the remaining ones begin at `start`
 module _ (children : List Seen) (sizes : List ℕ) (all : List (List SeenPage)) where
   pub record IsDealt (start i : ℕ) (made : List (List SeenPage)) : Type 0 where
     pub most : start ≤ length children
@@ -164,7 +164,7 @@ pub count_added : {A : Type 0} (old new : List (Vec Seen A)) (gs : List (List Se
 count_added old new gs e =
     sym (length-map new (λ g. all_seen g.items)) ∙ ap (λ (hs : List (List SeenPage)). length hs) e ∙ length-append (groups_seen old) gs ∙ ap (λ (n : ℕ). n + length gs) (length-map old (λ g. all_seen g.items))
 
--- and their parent, where there are some
+-- and their parent, if there are some
 pub some_added : (pid n : ℕ) (gs : List (List SeenPage)) → n ≡ length gs → 0 < n → rewriting_counts (with_rewriting pid gs []) ≡ (pid, n) ∷ []
 some_added pid n [] e l = absurd (omega arith)
 some_added pid n (g ∷ gs) e l = let one : ℕ → List (ℕ × ℕ) = λ m. (pid, m) ∷ [] in ap one (sym e)

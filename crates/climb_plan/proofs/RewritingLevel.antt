@@ -1,4 +1,4 @@
--- Lemmas on the families of a level in which a page calls, for the proofs of this crate.
+-- Lemmas on the families of a level in which a page needs restructuring, for the proofs of this crate.
 use Rattle.std.specs.Prelude.{◌≡◌, ◌⊎◌, ℕ, Bool, true, false, List, [], ◌∷◌, ◌++◌, map, take, drop, length, Option, Some, None}
 use Rattle.std.proofs.Common.{refl, sym, ap, ◌∙◌, subst, inl, inr, append-nil, append_assoc}
 use Rattle.std.specs.List.{AllByRecursion, filter}
@@ -28,7 +28,7 @@ use Rattle.climb_plan.proofs.RewritingFamily.{Names}
 use Rattle.climb_plan.proofs.RewritingSeen.{all_lows}
 use Rattle.climb_plan.proofs.LevelParts.{family_of}
 
--- ---- families in which nothing calls
+-- ---- families in which no page needs restructuring
 
 record IsStill (g : Gathered SeenPage) : Type 0 where
   pub leading : g.leading ≡ []
@@ -62,7 +62,7 @@ names_apart (n ∷ es) fs (x ∷ xs) e =
     let r = names_apart es fs xs rest in
     (ap (λ (m : List ℕ × ℕ). m ∷ es) first ∙ ap (λ (ns : Names). seen_name x ∷ ns) r.0, r.1)
 
--- a part of a list ends after an element, or in front of it
+-- a part of a list ends after an element, or before it
 split_by : {X : Type 0} (xs ys ds bs : List X) (x : X) → xs ++ ys ≡ ds ++ x ∷ bs → ((more : List X) × (xs ≡ ds ++ x ∷ more)) ⊎ ((cs : List X) × (ds ≡ xs ++ cs) × (ys ≡ cs ++ x ∷ bs))
 split_by [] ys ds bs x e = inr (ds, refl, e)
 split_by {X} (z ∷ zs) ys [] bs x e = let first : z ≡ x = cc in inl (zs, ap (λ (w : X). w ∷ zs) first)
@@ -85,7 +85,7 @@ module _ (t : Mapping PageOfKind) where
   seen_joined ys bs (worked x s) r = worked x (seen_joined ys bs s r)
   seen_joined ys bs (at_home x c p h s) r = at_home x c p h (seen_joined ys bs s r)
 
-  -- where no page that got a run calls, no page does
+  -- if no page that got a run needs restructuring, no page does
   all_quiet : {xs all : List SeenPage} → AreSeenIn t xs all → AllByRecursion IsQuiet xs → AllByRecursion IsQuiet all
   all_quiet (AreSeenIn.none) h = tt
   all_quiet (worked x s) h = (h.0, all_quiet s h.1)
@@ -95,7 +95,7 @@ module _ (t : Mapping PageOfKind) where
   not_seen [] more x (AreSeenIn.none) e = absurd (cc)
   not_seen (q ∷ qs) more x (AreSeenIn.none) e = absurd (cc)
 
-  -- ---- the first family in which a page calls
+  -- ---- the first family in which a page needs restructuring
 
   pub record IsCalled (ps : List (Placed ℕ)) (left xs : List SeenPage) (x : SeenPage) : Type 0 where
     pub front : List (Placed ℕ)
@@ -184,7 +184,7 @@ module _ (t : Mapping PageOfKind) where
             })
       ]
 
-  -- where none calls, no group is rewritten
+  -- if no page needs restructuring, no group is rewritten
   none_called : (ps : List (Placed ℕ)) (left xs : List SeenPage) → joined ps ≡ map seen_name left → AreSeenIn t xs left → AllByRecursion IsQuiet xs → rewriting_families ps left ≡ []
   none_called [] left xs l s q = refl
   none_called (p ∷ ps) left xs l s q =
@@ -247,7 +247,7 @@ module _ (t : TreeInMemory) (depth : ℕ) (all_xs all : List SeenPage) (ps : Lis
       (sym (append-nil parents) ∙ ap (λ (rs : List Rewriting). parents ++ rewriting_counts rs) (sym nothing) ∙ s.all_parents, sym (append-nil made) ∙ ap (λ (rs : List Rewriting). made ++ groups_of rs) (sym nothing) ∙ s.all_groups)
 
   module _ (xs : List SeenPage) (parents : List (ℕ × ℕ)) (made : List (List SeenPage)) (low : List ℕ) (s : IsLeft t.table xs all ps parents made) (f : HasFirstCall xs low) where
-    -- the family of the first page that calls
+    -- the family of the first page that needs restructuring
     pub found : IsCalled t.table s.rest s.left xs f.1
     found = called t.table s.rest s.left xs f.0 f.1 f.2 s.linked s.seen f.3.parted f.3.none_earlier
 
@@ -301,7 +301,7 @@ module _ (t : TreeInMemory) (depth : ℕ) (all_xs all : List SeenPage) (ps : Lis
         let pids : pids_for ps low ≡ found.parent.pid ∷ [] = pid_for low (s.done ++ found.front) found.following found.parent ps parts h.parents.tiled h.parents.first inside in
         cc
 
-    -- some page has gone by
+    -- some page was passed
     pub has_gone : AreSeenIn t.table xs found.later → ⊥
     has_gone seen =
         let no : AllByRecursion (λ k. is_before (next_low found.following None) k ≡ false) (lows xs) =

@@ -1,4 +1,4 @@
--- Lemmas on pages as they are seen, for the proofs of this crate.
+-- Lemmas on pages in their parents' view, for the proofs of this crate.
 use Rattle.std.specs.Prelude.{◌≡◌, ℕ, zero, suc, ◌+◌, ◌<◌, ◌≤◌, Bool, true, false, IsSome, List, [], ◌∷◌, ◌++◌, map, take, drop, length, Option, Some}
 use Rattle.std.proofs.Common.{refl, sym, ap, ◌∙◌, subst, get_or, Less, Equal, arith}
 use Rattle.std.specs.List.{AllByRecursion}
@@ -32,7 +32,7 @@ copied_more {A} {B} {X} of from old new x ys i y l e h r m =
 
 -- ---- pages at a place
 
--- the page at a place begins those that are left
+-- the page at a place is the first of the remaining ones
 pub left_at : (all : List Seen) (i : ℕ) (y : Seen) → i < length all → y ≡ get_or all i y → all_seen (drop i all) ≡ seen_now y ∷ all_seen (drop (i + 1) all)
 left_at all i y l e = ap (λ (xs : List Seen). all_seen xs) (drop_more all i y l) ∙ ap (λ (x : Seen). seen_now x ∷ all_seen (drop (i + 1) all)) (sym e)
 
@@ -78,7 +78,7 @@ pub record IsUntouched (t : Mapping PageOfKind) (xs : List SeenPage) (x : SeenPa
   pub home : page_of t x.pid ≡ Some x.page
   pub rest : AreSeenIn t xs later
 
--- else it is at home
+-- else it is in the table
 pub child_at_home : {t : Mapping PageOfKind} {xs later : List SeenPage} {x : SeenPage} → AreSeenIn t xs (x ∷ later) → begins_at (low_of x.page) xs ≡ false → IsUntouched t xs x later
 child_at_home (worked x s) b = absurd (let same : begins_at (low_of x.page) (x ∷ []) ≡ true = is_itself (low_of x.page) in cc)
 child_at_home (at_home x c p h s) b = record { class = c; replaced = p; home = h; rest = s }
@@ -108,7 +108,7 @@ module _ (t : Mapping PageOfKind) (low : List ℕ) (pid : ℕ) (x : SeenPage) (l
   worked_next all i y n b l e =
       child_worked (seen_now y) (all_seen (drop (i + 1) all)) n.seen (left_at all i y l e) n.rising (ap (λ (k : List ℕ). begins_at k (all_seen (drop i all))) (sym n.same_low) ∙ b)
 
--- where some page begins with the key, the place is within the list
+-- if some page begins with the key, the place is within the list
 pub begins_within : (low : List ℕ) (all : List Seen) (i : ℕ) → begins_at low (all_seen (drop i all)) ≡ true → i < length all
 begins_within low [] zero b = absurd (cc)
 begins_within low [] (suc i) b = absurd (cc)
@@ -152,7 +152,7 @@ module _ (k : List ℕ) where
       let rest : all_seen xs ≡ ys ++ from = cc in
       ap (λ (m : ℕ). suc m) (low_count xs ys from n rest b.1 a (omega arith) (λ i d w h. p (suc i) d (omega arith) (omega arith)) (λ i d w h. q (suc i) d (omega arith) (omega arith)))
 
--- ---- the first page that calls
+-- ---- the first page that needs restructuring
 
 pub call_at : (all : List Seen) (i : ℕ) (y : Seen) (low : List ℕ) → i < length all → y ≡ get_or all i y → AllByRecursion IsQuiet (all_seen (take i all)) → calls y.class ≡ true → low ≡ low_of (page_shown y.page.now) → HasFirstCall (all_seen all) low
 call_at all i y low l e q c w =

@@ -1,4 +1,4 @@
--- Lemmas on the walk over the families of a level, as code has it, for the proofs of this crate.
+-- Lemmas on the code's walk over the families of a level, for the proofs of this crate.
 use Rattle.std.specs.Prelude.{◌≡◌, ℕ, zero, suc, ◌+◌, ◌<◌, List, [], ◌∷◌, ◌++◌, drop}
 use Rattle.std.proofs.Common.{sym, ap, ◌∙◌, subst, arith}
 use Rattle.mapping.specs.Levels.{Placed}

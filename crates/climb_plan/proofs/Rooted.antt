@@ -1,4 +1,4 @@
--- Levels that grow above pages, and their places in the tree's table.
+-- Levels that are added above pages, and their places in the tree's table.
 use Rattle.std.specs.Prelude.{◌≡◌, ℕ, zero, suc, ◌+◌, ◌<◌, ◌≤◌, Bool, true, false, cond, nat_lt, List, [], ◌∷◌, ◌++◌, map, flat_map, drop, length, Some, None}
 use Rattle.std.proofs.Common.{refl, sym, ap, ◌∙◌, subst, arith, drop_of_length-le, ltb-true, ltb-false}
 use Rattle.std.specs.List.{AllByRecursion, range_with_len}
@@ -38,14 +38,14 @@ use Rattle.climb_plan.proofs.InstallingLemmas.{AreUnder, home-put_under, others-
 abbrev pub tree_less : TreeInMemory → List ℕ → TreeInMemory
 tree_less tree pids = record tree { table = freed_all tree.table pids }
 
--- the tree as it was before pids were drawn
+-- the tree before pids were allocated
 pub drawn_back : (tree drawn now : TreeInMemory) (ks all : List ℕ) → AreDrawn tree drawn ks → IsOldWithoutPlace tree.table → all ≡ ks → now ≡ tree_less drawn all → now ≡ tree
 drawn_back tree drawn now ks all d l e n =
     let whole : ℕ → ℕ → Mapping PageOfKind → TreeInMemory = λ r h t. record { table = t; root = r; height = h } in
     n ∙ ap (λ (x : List ℕ). tree_less drawn x) e ∙ ap (λ (t : Mapping PageOfKind). whole drawn.root drawn.height t) (d.back l)
     ∙ ap (λ (r : ℕ). whole r drawn.height tree.table) d.root ∙ ap (λ (h : ℕ). whole tree.root h tree.table) d.height
 
--- pids that were drawn at once are distinct
+-- pids that were allocated at once are distinct
 pub distinct_drawn : (used : List ℕ) (i n : ℕ) → Distinct (map (unused used) (range_with_len i n))
 distinct_drawn used i n = distinct_renewed (renewed_range n i) tt tt
   where
@@ -67,9 +67,9 @@ Name = List ℕ × ℕ
 no_more : (pages : List PageOfKind) (ks : List ℕ) (n : ℕ) → length pages ≤ n → named_pages (drop n pages) (drop n ks) ≡ []
 no_more pages ks n h = ap (λ (qs : List PageOfKind). named_pages qs (drop n ks)) (drop_of_length-le pages h)
 
--- ---- pids are drawn
+-- ---- pids are allocated
 
--- what the laws of drawn pids say, put together
+-- what the laws about allocated pids say, put together
 pub drawn_is : (tree now : TreeInMemory) (n : ℕ) (pids : List ℕ) → pids ≡ fresh_pids (pids_in_use tree.table) n → now ≡ record tree { table = with_rooms tree.table (fresh_pids (pids_in_use tree.table) n) }
     → ((pid : ℕ) → is_among pid (fresh_pids (pids_in_use tree.table) n) ≡ true → place_of (with_rooms tree.table (fresh_pids (pids_in_use tree.table) n)) pid ≡ Some None)
     → ((pid : ℕ) → is_among pid (fresh_pids (pids_in_use tree.table) n) ≡ false → place_of (with_rooms tree.table (fresh_pids (pids_in_use tree.table) n)) pid ≡ place_of tree.table pid)
@@ -137,7 +137,7 @@ module _ (s : Settings) (used : List ℕ) (fan : 1 < s.fan) where
       ap (λ (ls : List (List (Placed ℕ))). up ∷ ls) (ih (i + length up) up (omega arith) (omega arith))
   enough_by false d e i ps h l m ih = refl
 
-  -- where a number of levels is enough, another that is enough makes no difference
+  -- if a number of levels is enough, another that is enough makes no difference
   enough_grown : (d e i : ℕ) (ps : List (Placed ℕ)) → length ps ≤ d → length ps ≤ e → grown_levels d s used i ps ≡ grown_levels e s used i ps
   enough_grown zero zero i ps l m = refl
   enough_grown zero (suc e) i ps l m = few (nat_lt 1 (length ps)) e i ps refl l
@@ -192,7 +192,7 @@ stays_away : (t u : Mapping PageOfKind) (ks : List ℕ) → AllByRecursion (λ q
 stays_away t u [] a b = tt
 stays_away t u (k ∷ ks) a b = (a.0 ∙ b.0, stays_away t u ks a.1 b.1)
 
--- pages under the pids of a level are at home there
+-- pages under the pids of a level are in the table there
 under_level : (u : Mapping PageOfKind) (used : List ℕ) (i : ℕ) (bs : Bases) → AreUnder u (pids (fresh_pages used i bs)) (map index_of_base bs) → AllByRecursion (λ p. place_of u p.pid ≡ Some (Some (Index p.page))) (fresh_pages used i bs)
 under_level u used i [] a = tt
 under_level u used i (b ∷ bs) a = (a.0, under_level u used (suc i) bs a.1)
@@ -208,7 +208,7 @@ levels_stay t u (l ∷ ls) a b =
     let parts = all_apart (λ q. place_of u q ≡ place_of t q) (pids l) (flat_map pids ls) a in
     (level_stays t u l parts.0 b.0, levels_stay t u ls parts.1 b.1)
 
--- a level that is cut from these names, in a tree from which its pids were drawn
+-- a level that is split from these entries, in a tree from which its pids were allocated
 pub record IsCut (s : Settings) (ns : List Name) (pages : List PageOfKind) (fresh : List ℕ) (upper : List Name) (tree drawn : TreeInMemory) : Type 0 where
   pub fan : 1 < s.fan
   pub several : 1 < length ns
@@ -262,7 +262,7 @@ module _ (s : Settings) (ns : List Name) (pages : List PageOfKind) (fresh : List
   pub drawn_away : AreAway drawn.table fresh
   drawn_away = (is.are_drawn.away, distinct_fresh)
 
-  -- a place that has no page in the drawn tree had none before
+  -- a place that has no page in the tree after the allocation had none before
   had_none : (q : ℕ) → place_of drawn.table q ≡ None → place_of tree.table q ≡ None
   had_none q h = by_case (is_among q fresh) refl
     where
@@ -290,7 +290,7 @@ module _ (s : Settings) (ns : List Name) (pages : List PageOfKind) (fresh : List
       let z : length cut_level + m ≡ (0 + length cut_level) + m = omega arith in
       number_after m ∙ ap (λ (n : ℕ). unused in_use (n + m)) as_level ∙ ap (unused in_use) z
 
-  -- the new pids are not among those that are drawn later
+  -- the new pids are not among those that are allocated later
   all_distinct : (e : ℕ) → Distinct (pids cut_level ++ flat_map pids (grown_levels e s in_use (0 + length cut_level) cut_level))
   all_distinct e = distinct_renewed (renewed-append (renewed-fresh_pages in_use 0 bases) (renewed-grown_levels e s in_use (0 + length cut_level) cut_level).1) tt tt
 

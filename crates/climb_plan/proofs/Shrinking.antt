@@ -1,5 +1,4 @@
--- The root shrinks by a level: what stands below is a tree whose levels are one above the other still, and to shrink that one is to
--- shrink the whole.
+-- The root shrinks by one level: the rest is a tree whose levels are still parents of each other, and shrinking the rest is shrinking the whole.
 use Rattle.std.specs.Prelude.{◌≡◌, ℕ, suc, ◌+◌, ◌-◌, ◌<◌, ◌≤◌, true, false, nat_eq, List, [], ◌∷◌, ◌++◌, flat_map, drop, length, Option, Some, None}
 use Rattle.std.proofs.Common.{refl, sym, ap, ◌∙◌, subst, arith, append_assoc, length-append, inl, inr}
 use Rattle.std.proofs.Math.Seq.{drop-length}
@@ -64,7 +63,7 @@ left-lone lower top e =
 shrunk_levels-lone : (lower : Ups) (p : Placed ℕ) → is_lone (Lone p) ≡ true → shrunk_pids (lower ++ Lone p ∷ []) ≡ shrunk_pids lower ++ p.pid ∷ []
 shrunk_levels-lone lower p e = ap (λ (ls : Ups). flat_map pids ls) (left-lone lower (Lone p) e) ∙ flat_map-append pids (left lower) (Lone p ∷ [])
 
--- where all are kept, none goes
+-- if all levels remain, none is removed
 shrunk_levels-none : (ls : Ups) → kept_levels ls ≡ ls → shrunk_pids ls ≡ []
 shrunk_levels-none ls e = ap (λ (ks : Ups). flat_map pids (drop (length ks) ls)) e ∙ ap (λ (x : Ups). flat_map pids x) (drop-length ls)
 
@@ -94,7 +93,7 @@ first_on_top : {V : Type 0} (level : List (Placed V)) (lower : Ups) (top : List 
 first_on_top level [] top = refl
 first_on_top level (l ∷ ls) top = first_on_top l ls top
 
--- ---- entries of just one child, and of others
+-- ---- entries of exactly one child, and of others
 
 one_entry : (es : List (List ℕ × ℕ)) (c : ℕ) → Some c ≡ only_pid es → (low : List ℕ) × (es ≡ (low, c) ∷ [])
 one_entry [] c h = absurd (cc)
@@ -137,7 +136,7 @@ shrunk_among level lower n e =
 
 -- ---- one level after the other
 
--- the levels that stand now can shrink, and once they have, those that stood before have
+-- the present levels can shrink, and after they have shrunk, so have the original levels
 pub record Shrinks {V : Type 0} (before now : TreeInMemory) (level : List (Placed V)) (ls : List (List (Placed ℕ))) : Type 0 where
   pub lower : List (List (Placed ℕ))
   pub can : CanShrink now level lower
@@ -152,7 +151,7 @@ module _ {V : Type 0} (t : TreeInMemory) (level : List (Placed V)) where
   pub shrinks_first : (ls : Ups) → CanShrink t level ls → Shrinks t t level ls
   shrinks_first ls can = record { lower = ls; can = can; all = λ after s. s }
 
-  -- where all levels are kept, the tree has shrunk
+  -- if all levels remain, the tree has shrunk
   all_done : (ls : Ups) → CanShrink t level ls → kept_levels ls ≡ ls → HasShrunk t t level ls
   all_done ls can e =
       let none : shrunk_pids ls ≡ [] = shrunk_levels-none ls e in
@@ -296,7 +295,7 @@ module _ (before now : TreeInMemory) (way : AreOnTheWay before now) where
   pub rise_here : (n : ℕ) → 1 < n → n ≡ now.height → Levels → IsRising (child_entries (page_or_none (page_of now.table now.root)))
   rise_here n h e l = let s = way l.0 l.1 l.2 in entries_rise now l.0 s.lower s.can (omega arith)
 
-  -- where the root has not just one child, and where it is a leaf, all is done
+  -- if the root doesn't have exactly one child, or is a leaf, nothing remains to do
   pub done_here : (n : ℕ) → 1 < n → n ≡ now.height → None ≡ only_pid (child_entries (page_or_none (page_of now.table now.root)))
       → (level : List (Placed (List ℕ))) (ls : List (List (Placed ℕ))) → CanShrink before level ls → HasShrunk before now level ls
   done_here n h e o level ls can = let s = way level ls can in s.all now (others_are_done now level s.lower s.can (omega arith) o)

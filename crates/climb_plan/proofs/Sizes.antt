@@ -80,7 +80,7 @@ module _ {V : Type 0} (s : Settings) (IsShort : V → Type 0) where
   small-worked_parents (p ∷ ps) [] h a = (small-worked p [] h.0 tt, small-worked_parents ps [] h.1 tt)
   small-worked_parents (p ∷ ps) (run ∷ runs) h a = (small-worked p run h.0 a.0, small-worked_parents ps runs h.1 a.1)
 
-  -- ---- what is made of groups
+  -- ---- the new pages of groups
 
   abbrev pub AreShortPairs : List (List ℕ × V) → Type 0
   AreShortPairs es = AllByRecursion (λ e. IsShortChange s IsShort (e.0, Some e.1)) es
@@ -144,7 +144,7 @@ module _ {V : Type 0} (s : Settings) (IsShort : V → Type 0) where
   later P [] h = tt
   later P (p ∷ ps) h = h.1
 
-  -- what is made of groups: the pages that stand there, and the low keys of those that go and of those that come
+  -- the sizes of the new pages of groups, and of the low keys of freed and of new pages
   record AreSmallChanges (cs : List (Change V)) : Type 0 where
     pub new : AllByRecursion (IsSmall s IsShort) (new_of cs)
     pub freed : HaveShortLows (freed_of cs)

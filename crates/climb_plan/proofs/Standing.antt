@@ -1,4 +1,4 @@
--- A page that isn't outdated stands as it did, with newer runs in front.
+-- A page that isn't outdated keeps its contents, with newer runs in front.
 use Rattle.std.specs.Prelude.{◌≡◌, ℕ, ◌+◌, ◌⊎◌, Bool, true, false, cond, ◌||◌, nat_eq, ⊤, List, [], ◌∷◌, ◌++◌, map, flat_map, drop, length, Option}
 use Rattle.std.proofs.Common.{refl, sym, ap, ◌∙◌, subst, append-nil, inl, inr}
 use Rattle.std.specs.List.{AllByRecursion, filter}
@@ -41,7 +41,7 @@ later_by false n m ns h = h
 module _ {V : Type 0} where
   -- ---- a page after a run that doesn't replace it
 
-  -- the page under the same pid, as it was but for newer runs
+  -- the page under the same pid, unchanged except for newer runs
   pub record IsAsBefore (p q : Placed V) : Type 0 where
     pub pid : q.pid ≡ p.pid
     pub page : IsOver p.page q.page
@@ -54,7 +54,7 @@ module _ {V : Type 0} where
   as_before-worked s p [] h = record { pid = refl; page = record { low = refl; base = refl; runs = ([], refl) } }
   as_before-worked s p (c ∷ cs) h = record { pid = refl; page = stands_by (must_replace s p.page.layers (c ∷ cs)) p.page c cs h }
 
-  -- each page after its run is as it was before, unless it was replaced
+  -- each page after its run is as before, unless it was replaced
   abbrev pub AreAsBefore : List (Placed V) → List (Worked V) → Type 0
   AreAsBefore [] [] = ⊤
   AreAsBefore (p ∷ ps) (w ∷ ws) = (w.replaced ≡ false → IsAsBefore p w.placed) × AreAsBefore ps ws
@@ -72,7 +72,7 @@ module _ {V : Type 0} where
 
   -- ---- pages of groups that aren't rewritten
 
-  -- the page stands in the list
+  -- the page is in the list
   abbrev pub Has : List (Placed V) → Placed V → Type 0
   Has [] p = ⊥
   Has (q ∷ qs) p = (q ≡ p) ⊎ Has qs p
@@ -189,7 +189,7 @@ module _ {V : Type 0} where
         same_pid_as ps ws rest a.1 gone news h.1,
       )
 
--- each page of these levels stands as it did in those, unless its pid is outdated
+-- each page of the old levels is in the new ones, unchanged except for newer runs, unless its pid is outdated
 abbrev pub AllStandIn : List ℕ → List (List (Placed ℕ)) → List (List (Placed ℕ)) → Type 0
 AllStandIn gone [] news = ⊤
 AllStandIn gone (l ∷ ls) [] = ⊥
@@ -201,7 +201,7 @@ stand_more gone more (l ∷ ls) [] h = h
 stand_more gone more (l ∷ ls) (new ∷ news) h =
     (all_weaker (StandsIn more new) (StandsIn (gone ++ more) new) (λ p f n. f (among_apart p.pid gone more n).1) l h.0, stand_more gone more ls news h.1)
 
--- the pages of a climb's levels stand as they did, unless their pids are outdated
+-- the pages of a climb's levels are unchanged except for newer runs, unless their pids are outdated
 pub stand-climb : {V : Type 0} (s : Settings) (used : List ℕ) (i : ℕ) (ws : List (Worked V)) (olds : List (Placed V)) (ups : List (List (Placed ℕ))) → names (placed_of ws) ≡ names olds → Stacked olds ups → AreAsBefore olds ws
     → AllByRecursion (StandsIn (climb s used i ws ups).outdated (climb s used i ws ups).tower.level) olds × AllStandIn (climb s used i ws ups).outdated ups (climb s used i ws ups).tower.above
 stand-climb {V} s used i ws olds [] e o a =

@@ -1,4 +1,4 @@
--- Lemmas on parents where only some have a run, and on what they are after their runs.
+-- Lemmas on parents when only some of them get a run, and on these parents after their runs.
 use Rattle.std.specs.Prelude.{◌≡◌, ◌≢◌, ℕ, suc, ◌+◌, false, nat_eq, List, [], ◌∷◌, map, take, drop, length, Option, Some, None}
 use Rattle.std.proofs.Common.{refl, sym, ap, ◌∙◌, arith}
 use Rattle.std.specs.List.{AllByRecursion}
@@ -42,7 +42,7 @@ module _ {V : Type 0} where
       let same_terms : terms cs ≡ terms (changes s used i (g ∷ gs)) = alike_terms cs (changes s used i (g ∷ gs)) a in
       rw (same_terms, a.fresh) (termed p (terms (changes s used i (g ∷ gs))) (ih (i + length (fresh_of (changes s used i (g ∷ gs))))))
 
-  -- the terms of all families are empty but for those that change
+  -- the terms of all families are empty, except for those that change
   pub all_terms_given : (s : Settings) (used : List ℕ) (i : ℕ) (ps : List (Placed ℕ)) (ws : List (Worked V))
       → AreRunsOf ps (map terms (family_changes s used i (families ps ws))) (parents_of (changing_families ps ws)) (map terms (changing_changes s used i (changing_families ps ws)))
   all_terms_given s used i [] ws = AreRunsOf.none
@@ -77,7 +77,7 @@ module _ {V : Type 0} where
   not_among n [] d = refl
   not_among n (p ∷ ps) d = or_from (nat_eq n p.pid) (is_among n (pids ps)) (false_from_ne_true (nat_eq n p.pid) (λ e. d.0 (sym (eqb-true n p.pid e)))) (not_among n ps d.1)
 
-  -- each page that isn't among these is at home
+  -- each page that isn't among these is in the table
   abbrev pub AreHomeBut : (Page V → PageOfKind) → Mapping PageOfKind → List (Placed V) → List (Placed V) → Type 0
   AreHomeBut of t qs ps = AllByRecursion (λ p. is_among p.pid (pids qs) ≡ false → place_of t p.pid ≡ Some (Some (of p.page))) ps
 
@@ -87,7 +87,7 @@ module _ {V : Type 0} where
       let other : nat_eq p.pid q.pid ≡ false = false_from_ne_true (nat_eq p.pid q.pid) (λ e. d.0 (eqb-true p.pid q.pid e)) in
       (λ e. h.0 (or_from (nat_eq p.pid q.pid) (is_among p.pid (pids qs)) other e), without_first of t q qs ps d.1 h.1)
 
-  -- where the pages that have a run are away, and the others at home, those are the pages to see
+  -- if the pages that have a run are checked out and the others are in the table, those with a run are the pages seen
   pub seen_after_runs : {ps qs : List (Placed V)} {all rs : List (List (List ℕ × Option V))} (s : Settings) (of : Page V → PageOfKind) (t : Mapping PageOfKind) → AreRunsOf ps all qs rs → Distinct (pids ps) → AreHomeBut of t qs ps → AllByRecursion (λ q. place_of t q.pid ≡ Some None) qs
       → AreSeen of t (map (page_seen of) (worked_parents s qs rs)) (worked_parents s ps all)
   seen_after_runs s of t (AreRunsOf.none) d h a = AreSeen.none

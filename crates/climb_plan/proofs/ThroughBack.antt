@@ -1,4 +1,4 @@
--- A level that is refused by the levels above it gives its tree back.
+-- If the climb of the levels above fails, a level restores its tree.
 use Rattle.std.specs.Prelude.{◌≡◌, ℕ, ◌+◌, ◌-◌, ◌<◌, List, [], ◌∷◌, ◌++◌, true, map, flat_map, drop, length, Some, None}
 use Rattle.std.proofs.Common.{refl, sym, ap, ◌∙◌, subst, arith}
 use Rattle.std.specs.List.{AllByRecursion}
@@ -35,7 +35,7 @@ use Rattle.climb_plan.proofs.ThroughGroups.{draw_all, fresh_numbers}
 use Rattle.climb_plan.proofs.TermRuns.{all_termed, all_terms_given}
 use Rattle.climb_plan.proofs.LevelParts.{level_of}
 
--- what is held of parents, and their pages as they were
+-- what is held of parents, and their original pages
 abbrev pub held_pages : List IndexWorked → List (ℕ × PageOfKind)
 held_pages ds = map {B = ℕ × PageOfKind} (λ d. (d.held.pid, d.held.page)) ds
 
@@ -84,13 +84,13 @@ module _ {V : Type 0} (s : Settings) (fan : 1 < s.fan) (of : Page V → PageOfKi
   held_keys : keys_of (held_pages parents) ≡ taken_here
   held_keys = ap (λ (es : List (ℕ × PageOfKind)). keys_of es) c.held ∙ keys_parents (changing_families ps ws)
 
-  -- the parents are away
+  -- the parents are checked out
   pub parents_are_away : AreAway ready.table (map (λ d. d.held.pid) parents)
   parents_are_away =
       let away : AreAway (all_taken rooms_here taken_here) taken_here = (away-all_taken rooms_here taken_here taken_distinct, taken_distinct) in
       subst (λ (u : TreeInMemory). AreAway u.table (map (λ d. d.held.pid) parents)) (sym c.tree) (subst (λ (ns : List ℕ). AreAway (all_taken rooms_here taken_here) ns) (sym (pids_held parents ∙ held_keys)) away)
 
-  -- once they are back, the table has just the numbers that were drawn beside what it had
+  -- after they are put back, the table has only the allocated pids in addition to what it had
   pub parents_are_back : all_put ready.table (held_pages parents) ≡ rooms_here
   parents_are_back =
       let es : List (ℕ × PageOfKind) = index_pages (parents_of (changing_families ps ws)) in
@@ -99,7 +99,7 @@ module _ {V : Type 0} (s : Settings) (fan : 1 < s.fan) (of : Page V → PageOfKi
       ∙ ap (λ (ns : List ℕ). all_put (all_taken rooms_here ns) es) (sym (keys_parents (changing_families ps ws)))
       ∙ put_back_is_before rooms_here es drawn_here.rising (subst (λ (ns : List ℕ). Distinct ns) (sym (keys_parents (changing_families ps ws))) taken_distinct) (home_pairs rooms_here (parents_of (changing_families ps ws)) parents_in_rooms)
 
-  -- the numbers that were drawn
+  -- the allocated pids
   fresh_each : (cs : List (Change V)) → flat_map (λ r. r.fresh) (map (remade_of of) cs) ≡ pids (fresh_of cs)
   fresh_each [] = refl
   fresh_each (d ∷ cs) = ap (λ (ns : List ℕ). pids (drop 1 d.pages) ++ ns) (fresh_each cs) ∙ sym (pids-append (drop 1 d.pages) (fresh_of cs))
@@ -116,7 +116,7 @@ module _ {V : Type 0} (s : Settings) (fan : 1 < s.fan) (of : Page V → PageOfKi
   all_away [] a = tt
   all_away (n ∷ ns) a = (drawn_here.away n a.0, all_away ns a.1)
 
-  -- their places are away
+  -- their places are empty
   pub fresh_are_away : (back : TreeInMemory) → back ≡ record ready { table = all_put ready.table (held_pages parents) } → AreAway back.table (flat_map (λ r. r.fresh) groups)
   fresh_are_away back q =
       let ns : List ℕ = fresh_pids (pids_in_use t.table) count_here in

@@ -1,4 +1,4 @@
--- What a level's code knows of it is handed to the levels above, and what these give is put together.
+-- A level's facts are passed to the climb of the levels above, whose results are combined with them.
 use Rattle.std.specs.Prelude.{◌≡◌, ℕ, zero, suc, ◌+◌, ◌-◌, ◌<◌, ◌≤◌, Bool, true, nat_eq, List, [], ◌∷◌, map, length, Vec, Result, Ok, Err, OnOk, OnErr, IfErr}
 use Rattle.std.proofs.Common.{refl, sym, ap, ◌∙◌, subst, arith}
 use Rattle.std.proofs.lemmas.Bool.{eqb-true}
@@ -37,7 +37,7 @@ module _ {V : Type 0} (of : Page V → PageOfKind) where
       let rest = nothing_seen t r e in
       (ap (λ (vs : List (Worked V)). same_page p ∷ vs) rest.0, (q, rest.1))
 
-  -- the levels are as they were
+  -- the levels are unchanged
   pub nothing_climbs : (s : Settings) (t : TreeInMemory) (xs : List SeenPage) → length xs ≡ 0 → (ws : List (Worked V)) (ups : List (List (Placed ℕ))) (used : List ℕ) (i : ℕ) → IsLevel of t xs (level_of ws ups used i) → HasClimbed of t t (level_of ws ups used i) (climb s used i ws ups)
   nothing_climbs s t xs e ws ups used i h =
       let rest = nothing_seen t h.seen e in
@@ -91,20 +91,20 @@ module _ {V : Type 0} {of : Page V → PageOfKind} {s : Settings} {w : Working} 
     above_here ws ps ups used i h e =
         subst (λ (u : TreeInMemory). HasClimbed Index u above (plan_above s used i ps ws ups) (climbed_above s used i ps ws ups)) (changed ws ps ups used i h e).tree (climbs (plan_above s used i ps ws ups) (next_above ws ps ups used i h e) e)
 
-    -- the level's pages are away
+    -- the level's pages are checked out
     pub away_here : AreAway above.table (seen_pids xs)
     away_here =
         let l = children_here in
         level_away s of w.before xs l.0.worked l.1 l.0.above l.0.used l.0.from l.2 above (above_here l.0.worked l.1 l.0.above l.0.used l.0.from l.2 l.3)
 
     module _ {home : TreeInMemory} (come : home ≡ record above { table = all_come_home above.table xs }) where
-      -- once they came home, its groups can be replaced
+      -- after they are put back, its groups can be replaced
       pub installs_here : CanInstallAll home.table groups
       installs_here =
           let l = children_here in
           subst (λ (u : TreeInMemory). CanInstallAll u.table groups) (sym come) (subst (λ (rs : List Remade). CanInstallAll (all_come_home above.table xs) rs) (sym (changed l.0.worked l.1 l.0.above l.0.used l.0.from l.2 l.3).groups) (level_installs s of w.before xs l.0.worked l.1 l.0.above l.0.used l.0.from l.2 above (above_here l.0.worked l.1 l.0.above l.0.used l.0.from l.2 l.3)))
 
-      -- and once they were, it has climbed
+      -- and after they are replaced, the level has climbed
       module _ {after : TreeInMemory} (installed : after ≡ record home { table = all_installed home.table groups }) where
         climbs_under : (ws : List (Worked V)) (ps : List (Placed ℕ)) (ups : List (List (Placed ℕ))) (used : List ℕ) (i : ℕ) → IsLevel of w.before xs (level_of ws (ps ∷ ups) used i) → w.depth - 1 ≡ length ups → HasClimbed of w.before after (level_of ws (ps ∷ ups) used i) (climb s used i ws (ps ∷ ups))
         climbs_under ws ps ups used i h e =
@@ -124,7 +124,7 @@ module _ {V : Type 0} {of : Page V → PageOfKind} {s : Settings} {w : Working} 
         pub low_here : above.height ≤ 64 → after.height ≤ 64
         low_here low = subst (λ (n : ℕ). n ≤ 64) (sym (ap (λ (u : TreeInMemory). u.height) installed ∙ ap (λ (u : TreeInMemory). u.height) come)) low
 
-  -- where the levels above would be too many, so would these
+  -- if the levels above would be too many, so would these
   high_by : IsTooHighFrom Index s w.ready (parents_seen w.parents) (w.depth - 1) → (ws : List (Worked V)) (ups : List (List (Placed ℕ))) (used : List ℕ) (i : ℕ) → IsLevel of w.before xs (level_of ws ups used i) → w.depth ≡ length ups
       → 64 + length ups < w.before.height + length (climb s used i ws ups).tower.above
   high_by f ws [] used i h e = absurd (k.deep e)
@@ -152,7 +152,7 @@ pids_of_map : {D : Type 0} (f : D → SeenPage) (ds : List D) → seen_pids (map
 pids_of_map f [] = refl
 pids_of_map f (d ∷ ds) = ap (λ (ns : List ℕ). (f d).pid ∷ ns) (pids_of_map f ds)
 
--- the pages' places are away, as they were handed on
+-- the pages' places are empty, as they were passed on
 pub away_for : {D : Type 0} (f : D → SeenPage) (t : TreeInMemory) (ds : List D) → AreAway t.table (seen_pids (map f ds)) → AreAway t.table (map (λ d. (f d).pid) ds)
 away_for f t ds a = subst (λ (ns : List ℕ). AreAway t.table ns) (pids_of_map f ds) a
 
@@ -165,11 +165,11 @@ module _ {V D : Type 0} (of : Page V → PageOfKind) (f : D → SeenPage) where
   works_for {s = s} {t = t} {ready = ready} {groups = groups} {parents = parents} ds es depth q c =
       subst (λ (xs : List D). ChangesFrom of s t ready (map f xs) depth groups parents) q c
 
-  -- where no page was worked, nothing is done
+  -- if no page got a run, nothing is done
   pub nothing_done : (s : Settings) (t : TreeInMemory) (ds : List D) (depth : ℕ) → length ds ≡ 0 → ClimbsFrom of s t t (map f ds) depth
   nothing_done s t ds depth e l h g = nothing_climbs of s t (map f ds) (length-map ds f ∙ e) l.worked l.above l.used l.from h
 
--- ---- what the climb of the parents returned
+-- ---- the result of the parents' climb
 
 module _ {U A : Type 0} (s : Settings) (w : Working) (now : TreeInMemory) where
   pub have_ended : (r : Result U (Refused × Vec IndexWorked A)) → OnOk r (ClimbsFrom Index s w.ready now (parents_seen w.parents) (w.depth - 1)) → OnOk r (now.height ≤ 64) → IfErr r (λ e. e.1.items ≡ w.parents) → OnErr r (now ≡ w.ready)

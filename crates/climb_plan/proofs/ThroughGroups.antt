@@ -1,4 +1,4 @@
--- Groups that are rewritten, and what the mapping table has once they are replaced: the changes of the plan are installed.
+-- Groups that are rewritten, and the mapping table after they are replaced: the changes of the plan are installed.
 use Rattle.std.specs.Prelude.{◌≡◌, ℕ, zero, suc, ◌+◌, ◌<◌, Bool, true, false, cond, nat_eq, List, [], ◌∷◌, ◌++◌, map, flat_map, drop, length, Some, None, IsSome}
 use Rattle.std.proofs.Common.{refl, sym, ap, ◌∙◌, subst, arith, append-nil, length-append}
 use Rattle.std.specs.List.{filter, AllByRecursion, range_with_len}
@@ -52,7 +52,7 @@ module _ (used : List ℕ) where
   leave_all i [] = done
   leave_all i (n ∷ ns) = drop_one n (leave_all i ns)
 
-  -- n numbers are drawn, one after the other
+  -- n pids are allocated, one after the other
   pub draw_all : (i n : ℕ) → Renewed used i (i + n) [] (map (unused used) (range_with_len i n))
   draw_all i zero = recast used (let e : i ≡ i + 0 = omega arith in e) refl refl done
   draw_all i (suc n) =
@@ -117,7 +117,7 @@ module _ {V : Type 0} (s : Settings) (used : List ℕ) where
     pub groups_distinct : (i : ℕ) (gs : List (List (Worked V))) → AllByRecursion (IsNeverUnused used) (worked_pids (flat gs)) → Distinct (worked_pids (flat gs)) → Distinct (groups_pids (remade_all i (filter is_rewritten gs)))
     groups_distinct i gs n d = distinct_renewed (groups_renewed i gs) n d
 
-    -- ---- what is known of each group
+    -- ---- facts about each group
 
     shaped_one : (i : ℕ) (g : List (Worked V)) → is_rewritten g ≡ true → (let r : Remade = remade_of of (record { members = g; pages = remade s used i g }) in (0 < length r.members) × (length r.pieces ≡ suc (length r.fresh)))
     shaped_one i [] e = absurd (cc)
@@ -131,7 +131,7 @@ module _ {V : Type 0} (s : Settings) (used : List ℕ) where
     all_shaped i [] h = tt
     all_shaped i (g ∷ gs) h = (shaped_one i g h.0, all_shaped (i + length (drop 1 (remade s used i g))) gs h.1)
 
-    -- their members are at home, and the places of fresh pages are away
+    -- their members are in the table, and the places of fresh pages are empty
     pub all_ready : (t : Mapping PageOfKind) (i : ℕ) (gs : List (List (Worked V))) → AllByRecursion (λ k. IsSome (page_of t k)) (worked_pids (flat gs)) → AllByRecursion (λ k. place_of t k ≡ Some None) (pids (fresh_of (changes s used i gs))) → AreReady t (remade_all i gs)
     all_ready t i [] a b = tt
     all_ready t i (g ∷ gs) a b =
@@ -146,7 +146,7 @@ module _ {V : Type 0} (s : Settings) (used : List ℕ) where
     members_all i (g ∷ gs) =
         ap (λ (ns : List ℕ). worked_pids g ++ ns) (members_all (i + length (drop 1 (remade s used i g))) gs) ∙ sym (worked_pids-append g (flat gs))
 
-    -- ---- once they are replaced
+    -- ---- after they are replaced
 
     home_under : (t : Mapping PageOfKind) (qs : List (Placed V)) → AreUnder t (pids qs) (map (λ q. of q.page) qs) → AreHome of t qs
     home_under t [] h = tt
@@ -227,12 +227,12 @@ module _ {V : Type 0} (s : Settings) (used : List ℕ) where
       abbrev rs : List (List (Worked V))
       rs = filter is_rewritten gs
 
-      -- groups can be replaced where their members are at home, and the places of fresh pages are away
+      -- groups can be replaced if their members are in the table and the places of fresh pages are empty
       pub groups_can_be_installed : AllByRecursion (λ k. IsSome (page_of t k)) (worked_pids (flat gs)) → AllByRecursion (λ k. place_of t k ≡ Some None) (pids (fresh_of (changes s used i rs))) → CanInstallAll t (remade_all i rs)
       groups_can_be_installed a b =
           can_install_all t (remade_all i rs) rises (groups_distinct i gs never distinct) (all_shaped i rs (all_pass gs)) (all_ready t i rs (kept_members (λ k. IsSome (page_of t k)) gs a) b)
 
-      -- once they are, the changes are installed
+      -- after they are, the changes are installed
       pub groups_installed : IsInstalled of t (all_installed t (remade_all i rs)) (changes s used i rs)
       groups_installed =
           let apart = groups_distinct i gs never distinct in

@@ -1,4 +1,4 @@
--- A level of a climb once the levels above it have climbed: its pages can come home, its groups can be replaced, and then it has climbed.
+-- A level of a climb after the levels above it have climbed: its pages can be put back, its groups can be replaced, and then it has climbed.
 use Rattle.std.specs.Prelude.{◌≡◌, ◌≢◌, ℕ, ◌+◌, true, false, nat_eq, List, [], ◌∷◌, ◌++◌, map, flat_map, length, Option, Some, None, IsSome}
 use Rattle.std.proofs.Common.{refl, sym, ap, ◌∙◌, subst, arith}
 use Rattle.std.specs.List.{filter, AllByRecursion, range_with_len}
@@ -63,7 +63,7 @@ module _ {V : Type 0} (of : Page V → PageOfKind) (t : Mapping PageOfKind) wher
   seen_distinct (worked w e r) d = (seen_all (λ k. k ≢ w.placed.pid) r d.0, seen_distinct r d.1)
   seen_distinct (at_home p e r) d = seen_distinct r d.1
 
-  -- they are away while their places stay
+  -- they are checked out as long as their places stay
   pub seen_away : (u : Mapping PageOfKind) {xs : List SeenPage} {ws : List (Worked V)} → AreSeen of t xs ws → AllByRecursion (λ k. place_of u k ≡ place_of t k) (worked_pids ws) → AllByRecursion (λ k. place_of u k ≡ Some None) (seen_pids xs)
   seen_away u (AreSeen.none) h = tt
   seen_away u (worked w e r) h = (h.0 ∙ e, seen_away u r h.1)
@@ -81,7 +81,7 @@ module _ {V : Type 0} (of : Page V → PageOfKind) (t : Mapping PageOfKind) wher
   stay_put v x [] d h = tt
   stay_put v x (n ∷ ns) d h = (home_apart v x n d.0 ∙ h.0, stay_put v x ns d.1 h.1)
 
-  -- once they come home, all pages of the level are at home
+  -- after they are put back, all pages of the level are in the table
   pub home_back : (v : Mapping PageOfKind) {xs : List SeenPage} {ws : List (Worked V)} → AreSeen of t xs ws → AllByRecursion (λ k. place_of v k ≡ place_of t k) (worked_pids ws) → Distinct (worked_pids ws) → AreHome of (all_come_home v xs) (placed_of ws)
   home_back v (AreSeen.none) h d = tt
   home_back v (worked {xs = xs} {ws = ws} w e r) h d =
@@ -202,7 +202,7 @@ module _ {V : Type 0} (s : Settings) (of : Page V → PageOfKind) (t : TreeInMem
       let other : is_among n (pids ps) ≡ false = at_among (λ k. is_among k (pids ps) ≡ false) n (pids (fresh_of changes_here)) (fresh_apart_from (pids ps) parents_never) e in
       taken_others rooms_here taken_here n (not_taken n other) ∙ drawn_here.away n (ap (λ (ns : List ℕ). is_among n ns) given_here ∙ e)
 
-  -- ---- once the levels above have climbed
+  -- ---- after the levels above have climbed
 
   module _ (above : TreeInMemory) (up : HasClimbed Index ready_here above (plan_above s used i ps ws ups) (climbed_above s used i ps ws ups)) where
     places_stay : AllByRecursion (λ k. place_of above.table k ≡ place_of t.table k) (worked_pids ws)
@@ -211,11 +211,11 @@ module _ {V : Type 0} (s : Settings) (of : Page V → PageOfKind) (t : TreeInMem
         (λ k e. level_untouched s used i ps ws ups joined_here h.stacked.1 h.old h.distinct ready_here above up k e ∙ stays_ready k e)
         (all_among (worked_pids ws))
 
-    -- the pages that were seen are away
+    -- the pages that were seen are checked out
     pub level_away : AreAway above.table (seen_pids xs)
     level_away = (seen_away of t.table above.table h.seen places_stay, seen_distinct of t.table h.seen level_distinct)
 
-    -- the table once they have come home
+    -- the table after they were put back
     abbrev pub table_home : Mapping PageOfKind
     table_home = all_come_home above.table xs
 
@@ -266,7 +266,7 @@ module _ {V : Type 0} (s : Settings) (of : Page V → PageOfKind) (t : TreeInMem
         subst (λ (gs : List (List (Worked V))). AllByRecursion (λ k. place_of table_home k ≡ Some None) (pids (fresh_of (changes s used i gs)))) same_groups fresh_home in
         subst (λ (gs : List (List (Worked V))). CanInstallAll table_home (map (remade_of of) (changes s used i gs))) (sym same_groups) (groups_can_be_installed s used of table_home i every_group home_rising groups_never groups_apart members fresh)
 
-    -- the table once they are
+    -- the table after they are replaced
     abbrev pub table_after : Mapping PageOfKind
     table_after = all_installed table_home (map (remade_of of) changes_here)
 
@@ -296,7 +296,7 @@ module _ {V : Type 0} (s : Settings) (of : Page V → PageOfKind) (t : TreeInMem
         has_level_from of table_home above.table table_after ws (all_new all_here) (all_fresh all_here) home_others
         (subst (λ (qs : List (Placed V)). HasLevel of table_home table_after ws (all_new all_here) qs) (sym (fresh_on_level s used i ps ws)) (installed-level s used i of table_home table_after ps ws joined_here level_home level_distinct level_fresh level_installed))
 
-    -- the tree once they are
+    -- the tree after they are replaced
     abbrev pub tree_after : TreeInMemory
     tree_after = record { table = table_after; root = above.root; height = above.height }
 

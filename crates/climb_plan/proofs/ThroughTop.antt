@@ -1,4 +1,4 @@
--- The highest level of a climb once levels have grown above it: its page can come home, its group can be replaced, and then it has climbed.
+-- The highest level of a climb after levels were added above it: its page can be put back, its group can be replaced, and it has climbed.
 use Rattle.std.specs.Prelude.{◌≡◌, ℕ, ◌+◌, ◌<◌, true, false, List, [], ◌∷◌, ◌++◌, map, flat_map, length, Some, None, IsSome}
 use Rattle.std.proofs.Common.{sym, ap, ◌∙◌, subst, arith, append-nil}
 use Rattle.std.specs.List.{filter, AllByRecursion, range_with_len}
@@ -44,7 +44,7 @@ use Rattle.climb_plan.proofs.LevelParts.{level_of}
 
 module _ {V : Type 0} (s : Settings) (of : Page V → PageOfKind) (t u : TreeInMemory) (xs : List SeenPage) (ws : List (Worked V)) (used : List ℕ) (i : ℕ) (h : IsLevel of t xs (level_of ws [] used i))
     (given : List Remade) (pid levels : ℕ) (c : IsTopChanged s of t u (level_of ws [] used i) given pid levels) where
-  -- the group, if it is one, and what the plan makes of the level
+  -- the group, if there is one, and the plan of the level
   abbrev group_here : List (List (Worked V))
   group_here = filter is_rewritten (ws ∷ [])
 
@@ -102,11 +102,11 @@ module _ {V : Type 0} (s : Settings) (of : Page V → PageOfKind) (t u : TreeInM
       (λ k e. c.grown.others k (own_not_grown s used i ws h.stacked h.old k e) ∙ drawn_others t.table rooms_here count_here used i k drawn_here h.drawn (at_among (IsNeverUnused used) k (worked_pids ws) level_never e))
       (all_among (worked_pids ws))
 
-  -- the page that was seen is away
+  -- the page that was seen is checked out
   pub top_away : AreAway u.table (seen_pids xs)
   top_away = (seen_away of t.table u.table h.seen places_stay, seen_distinct of t.table h.seen level_distinct)
 
-  -- ---- it comes home
+  -- ---- it is put back
 
   abbrev pub top_home : Mapping PageOfKind
   top_home = all_come_home u.table xs
@@ -210,7 +210,7 @@ module _ {V : Type 0} (of : Page V → PageOfKind) (t : TreeInMemory) (xs : List
   climbs_by s after f ws [] used i h e = f (level_of ws [] used i) h
   climbs_by s after f ws (up ∷ ups) used i h e = absurd (omega arith)
 
-  -- where it has climbed, the levels from it on have
+  -- if it has climbed, the levels from it on have
   pub top_climbs : (s : Settings) (after : TreeInMemory) → ((l : LevelPlan V) → IsLevel of t xs (alone l) → HasClimbed of t after (alone l) (climb_of s (alone l))) → ClimbsFrom of s t after xs 0
   top_climbs s after f l h e = climbs_by s after f l.worked l.above l.used l.from h e
 
@@ -219,7 +219,7 @@ module _ {V : Type 0} (of : Page V → PageOfKind) (t : TreeInMemory) (xs : List
   high_by s f ws [] used i h e = let more : 64 < t.height + length (climb s used i ws []).tower.above = f (level_of ws [] used i) h in omega arith
   high_by s f ws (up ∷ ups) used i h e = absurd (omega arith)
 
-  -- and where it would be too high, they would
+  -- and if it would be too high, they would
   pub top_high : (s : Settings) → ((l : LevelPlan V) → IsLevel of t xs (alone l) → 64 < t.height + length (climb_of s (alone l)).tower.above) → IsTooHighFrom of s t xs 0
   top_high s f l h e = high_by s f l.worked l.above l.used l.from h e
 

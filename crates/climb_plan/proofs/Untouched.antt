@@ -1,4 +1,4 @@
--- Where the net run of the commands is empty, the plan is the store itself.
+-- If the net run of the commands is empty, the plan is the store itself.
 use Rattle.std.specs.Prelude.{◌≡◌, ℕ, zero, suc, pred, ◌+◌, ◌<◌, ◌≤◌, Bool, true, false, nat_eq, List, [], ◌∷◌, ◌++◌, map, flat_map, take, drop, length, Option}
 use Rattle.std.proofs.Common.{refl, ap, ◌∙◌, arith}
 use Rattle.std.proofs.lemmas.List.{length-map, take-map, drop-map}
@@ -201,7 +201,7 @@ module _ {A : Type 0} (s : Settings) (t : Tree) (cs : List (Command A)) (proper 
   nothing_outdated =
       ap (λ (c : Climbed (List ℕ)). c.outdated ++ shrunk_pids c.tower.above) climbed_same ∙ none_shrunk (levels_of t).above proper.levels.top
 
-  -- and the tree is as it was
+  -- and the tree is unchanged
   pub tree_stays : planned_tree s t cs ≡ t
   tree_stays =
       let l : Levels = levels_of t in

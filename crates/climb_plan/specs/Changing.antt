@@ -1,4 +1,4 @@
--- The families that change on a level, the pages of it that their parents see, and the table once changes are installed.
+-- The families of a level that change, the pages of the level as seen by their parents, and the table after the changes.
 use Rattle.std.specs.Prelude.{◌≡◌, ℕ, ◌+◌, Bool, false, ◌||◌, List, [], ◌∷◌, map, flat_map, take, drop, length, Some, None}
 use Rattle.std.specs.List.{filter, AllByRecursion}
 use Rattle.keys.specs.declared.settings.Settings.{Settings}
@@ -17,22 +17,22 @@ use Rattle.split_plan.specs.Terms.{freed_of}
 
 -- ---- pages after their runs
 
--- a page of a level after its run, as its parent sees it
+-- a page of a level after its run, as seen by its parent
 pub record SeenPage : Type 0 where
   pub pid : ℕ
   pub page : PageOfKind
   pub class : Class
   pub replaced : Bool
 
--- a page after its run under its pid, of the kind that `of` makes
+-- a page after its run under its pid, as a page of the kind that `of` makes
 abbrev pub page_seen : {V : Type 0} → (Page V → PageOfKind) → Worked V → SeenPage
 page_seen of w = record { pid = w.placed.pid; page = of w.placed.page; class = w.class; replaced = w.replaced }
 
--- leaves after their runs, as their parents see them
+-- leaves after their runs, as seen by their parents
 abbrev pub leaves_seen : List LeafWorked → List SeenPage
 leaves_seen ds = map (λ d. page_seen Leaf d.made.worked) ds
 
--- index pages after theirs
+-- index pages after their runs, likewise
 abbrev pub parents_seen : List IndexWorked → List SeenPage
 parents_seen ds = map (λ d. page_seen Index d.made) ds
 
@@ -40,8 +40,7 @@ parents_seen ds = map (λ d. page_seen Index d.made) ds
 abbrev pub same_page : {V : Type 0} → Placed V → Worked V
 same_page p = record { placed = p; class = Same; replaced = false }
 
--- of the pages of a level after their runs, those that are away from the table, in order; each other got no run and is at
--- home in it
+-- the pages of a level, after their runs, that are checked out, in order; each other page got no run and is in the table
 pub data AreSeen {V : Type 0} (of : Page V → PageOfKind) (t : Mapping PageOfKind) : List SeenPage → List (Worked V) → Type 0 where
   none : AreSeen of t [] []
   worked : {xs : List SeenPage} {ws : List (Worked V)} → (w : Worked V) → place_of t w.placed.pid ≡ Some None → AreSeen of t xs ws → AreSeen of t (page_seen of w ∷ xs) (w ∷ ws)
@@ -58,20 +57,20 @@ pub record Changing (V : Type 0) : Type 0 where
   pub parent : Placed ℕ
   pub groups : List (List (Worked V))
 
--- of the groups of one parent's children those that are rewritten
+-- those groups of one parent's children that are rewritten
 abbrev pub groups_to_rewrite : {V : Type 0} → List (Worked V) → List (List (Worked V))
 groups_to_rewrite f = filter is_rewritten (groups is_thin f)
 
--- a parent with those of its family
+-- a parent with those groups of its children
 abbrev pub changing_family : {V : Type 0} → Placed ℕ → List (Worked V) → Changing V
 changing_family p f = record { parent = p; groups = groups_to_rewrite f }
 
--- with this parent in front, unless it has no such groups
+-- the list with this parent in front, unless it has no such groups
 abbrev pub with_changing : {V : Type 0} → List (List (Worked V)) → Changing V → List (Changing V) → List (Changing V)
 with_changing [] c cs = cs
 with_changing (g ∷ gs) c cs = c ∷ cs
 
--- the parents of a level some of whose children are in a group that is rewritten, with these groups, from left to right
+-- the parents of a level some of whose children's groups are rewritten, with these groups, from left to right
 abbrev pub changing_families : {V : Type 0} → List (Placed ℕ) → List (Worked V) → List (Changing V)
 changing_families [] ws = []
 changing_families (p ∷ ps) ws =
@@ -86,19 +85,19 @@ parents_of chs = map (λ c. c.parent) chs
 abbrev pub changing_groups : {V : Type 0} → List (Changing V) → List (List (Worked V))
 changing_groups chs = flat_map (λ c. c.groups) chs
 
--- what is made of these groups; i fresh pids were given out before
+-- the changes of these groups, given that i fresh pids are already allocated
 abbrev pub changing_changes : {V : Type 0} → Settings → List ℕ → ℕ → List (Changing V) → List (List (Change V))
 changing_changes s used i [] = []
 changing_changes s used i (c ∷ chs) =
     let d : List (Change _) = changes s used i c.groups in
     d ∷ changing_changes s used (i + length (fresh_of d)) chs
 
--- of all parents of a level: the pages that are freed
+-- the pages that are freed, for all parents of a level
 abbrev pub all_freed : {V : Type 0} → List (List (Change V)) → List (Placed V)
 all_freed css = flat_map freed_of css
 
 -- ---- tables
 
--- the pages are at home in the table
+-- the pages are in the table
 abbrev pub AreHome : {V : Type 0} → (Page V → PageOfKind) → Mapping PageOfKind → List (Placed V) → Type 0
 AreHome of t ps = AllByRecursion (λ p. place_of t p.pid ≡ Some (Some (of p.page))) ps

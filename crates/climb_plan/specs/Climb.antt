@@ -1,4 +1,4 @@
--- What a batch makes of the levels, from the leaves up.
+-- The effect of a batch on the levels, from the leaves up.
 use Rattle.std.specs.Prelude.{ℕ, zero, suc, ◌+◌, Bool, false, nat_lt, nat_eq, List, [], ◌∷◌, ◌++◌, map, take, drop, length, if◌then◌else◌}
 use Rattle.keys.specs.declared.settings.Settings.{Settings}
 use Rattle.mapping.specs.Levels.{Placed, Tower, entries, names}
@@ -8,18 +8,18 @@ use Rattle.split_plan.specs.WorkedLevel.{worked_parents}
 use Rattle.split_plan.specs.Change.{Change, fresh_pages, changes, family_changes, all_new, all_fresh, all_outdated}
 use Rattle.split_plan.specs.Terms.{terms}
 
--- the children of each parent: as many as it has entries
+-- the children of each parent: as many as the parent has entries
 abbrev pub families : {X : Type 0} → List (Placed ℕ) → List X → List (List X)
 families [] xs = []
 families (p ∷ ps) xs = take (length (entries p)) xs ∷ families ps (drop (length (entries p)) xs)
 
--- what is made of a level and of the levels above it, and the pids whose page is no longer what the log may have
+-- a level and the levels above it after a climb, and the outdated pids
 pub record Climbed (V : Type 0) : Type 0 where
   pub tower : Tower V
   pub outdated : List ℕ
 
--- the levels above pages that have no parent: their low keys and pids cut into index pages, until one page is left,
--- where i fresh pids were given out before; the first number limits how many levels there are
+-- the levels above pages without a parent: their low keys and pids are split into index pages, until one page is left, where i fresh pids are already
+-- allocated; the first number limits the number of levels
 abbrev pub grown_levels : {V : Type 0} → ℕ → Settings → List ℕ → ℕ → List (Placed V) → List (List (Placed ℕ))
 grown_levels zero s used i ps = []
 grown_levels (suc enough) s used i ps =
@@ -27,15 +27,15 @@ grown_levels (suc enough) s used i ps =
     then (let up : List (Placed ℕ) = fresh_pages used i (cut s.fan (names ps)) in up ∷ grown_levels enough s used (i + length up) up)
     else []
 
--- the highest level: its page is a group by itself, and grows levels where it was cut
+-- the highest level: its page is a group by itself, and gets levels above it if it was split
 abbrev pub climbed_top : {V : Type 0} → Settings → List ℕ → ℕ → List (Worked V) → Climbed V
 climbed_top s used i ws =
     let css : List (List (Change _)) = changes s used i (ws ∷ []) ∷ [] in
     let top : List (Placed _) = all_new css in
     record { tower = record { level = top; above = grown_levels (length top) s used (i + length (all_fresh css)) top }; outdated = all_outdated css }
 
--- a level of pages after their runs, and the levels above it as they were: each family is grouped and remade, its parent
--- gets the terms, and so on upward
+-- a level of pages after their runs, and the levels above it as they were: each family is grouped and rewritten, its parent gets the terms, and so on
+-- upward
 abbrev pub climb : {V : Type 0} → Settings → List ℕ → ℕ → List (Worked V) → List (List (Placed ℕ)) → Climbed V
 climb s used i ws [] = climbed_top s used i ws
 climb s used i ws (parents ∷ ups) =
@@ -43,23 +43,22 @@ climb s used i ws (parents ∷ ups) =
     let up : Climbed ℕ = climb s used (i + length (all_fresh css)) (worked_parents s parents (map terms css)) ups in
     record { tower = record { level = all_new css; above = up.tower.level ∷ up.tower.above }; outdated = all_outdated css ++ up.outdated }
 
--- a level of pages after their runs, with the levels above it as they were; `from` of the numbers that are not among the used ones
--- were given out before
+-- a level of pages after their runs, with the levels above it as they were, given that `from` of the unused numbers are already allocated
 pub record LevelPlan (V : Type 0) : Type 0 where
   pub worked : List (Worked V)
   pub above : List (List (Placed ℕ))
   pub used : List ℕ
   pub from : ℕ
 
--- the same level with these parents right above it
+-- the same level with these parents directly above it
 abbrev pub under : {V : Type 0} → List (Placed ℕ) → LevelPlan V → LevelPlan V
 under ps l = record { worked = l.worked; above = ps ∷ l.above; used = l.used; from = l.from }
 
--- and with no level above it
+-- the same level without levels above it
 abbrev pub alone : {V : Type 0} → LevelPlan V → LevelPlan V
 alone l = record { worked = l.worked; above = []; used = l.used; from = l.from }
 
--- what is made of the level and of those above it
+-- the level and those above it after the climb
 abbrev pub climb_of : {V : Type 0} → Settings → LevelPlan V → Climbed V
 climb_of s l = climb s l.used l.from l.worked l.above
 
@@ -69,12 +68,12 @@ is_lone [] = false
 is_lone (p ∷ []) = nat_eq (length (entries p)) 1
 is_lone (p ∷ q ∷ ps) = false
 
--- a level under those that are kept; the highest isn't kept where it is lone
+-- a level under those that remain; the highest level does not remain if it is lone
 abbrev pub kept_under : List (Placed ℕ) → List (List (Placed ℕ)) → List (List (Placed ℕ))
 kept_under l [] = if is_lone l then [] else l ∷ []
 kept_under l (up ∷ ups) = l ∷ up ∷ ups
 
--- the levels without those at the top whose one page has one child
+-- the levels without those at the top that consist of one page with one child
 abbrev pub kept_levels : List (List (Placed ℕ)) → List (List (Placed ℕ))
 kept_levels [] = []
 kept_levels (l ∷ ls) = kept_under l (kept_levels ls)

@@ -1,4 +1,4 @@
--- The levels of a tree in memory as a climb leaves them, and as they are once the root has shrunk.
+-- The levels of a tree in memory after a climb, and after the root has shrunk.
 use Rattle.std.specs.Prelude.{◌≡◌, ℕ, suc, ◌+◌, true, false, List, length, None}
 use Rattle.std.specs.List.{AllByRecursion}
 use Rattle.index_page.specs.Page.{Page, PageOfKind}
@@ -14,8 +14,8 @@ use Rattle.climb_plan.specs.Changing.{AreHome}
 use Rattle.climb_plan.specs.Climb.{Climbed, LevelPlan, kept_levels}
 use Rattle.climb_plan.specs.Plan.{shrunk_pids}
 
--- a level and the levels above it once a climb came through: its pages are at home, those that went have no place, and all
--- else stayed
+-- a level and the levels above it after a successful climb: their pages are in the table, removed pages have no place, and everything else is
+-- unchanged
 pub record HasClimbed {V : Type 0} (of : Page V → PageOfKind) (before after : TreeInMemory) (l : LevelPlan V) (c : Climbed V) : Type 0 where
   pub level : AreHome of after.table c.tower.level
   pub above : AllByRecursion (AreHome Index after.table) c.tower.above
@@ -26,8 +26,8 @@ pub record HasClimbed {V : Type 0} (of : Page V → PageOfKind) (before after : 
   pub root : after.root ≡ top_pid c.tower.level c.tower.above
   pub height : after.height + length l.above ≡ before.height + length c.tower.above
 
--- the levels of a tree in memory, above a level of leaves whose pages may be anywhere, before its root shrinks: they are one
--- above the other, at home, and go up to the root
+-- the levels of a tree in memory, above a level of leaves whose pages may be anywhere, before the root shrinks: each consists of the parents of the
+-- one below, they are in the table, and they go up to the root
 pub record CanShrink {V : Type 0} (t : TreeInMemory) (level : List (Placed V)) (ls : List (List (Placed ℕ))) : Type 0 where
   pub home : AllByRecursion (AreHome Index t.table) ls
   pub stacked : Stacked level ls
@@ -36,7 +36,7 @@ pub record CanShrink {V : Type 0} (t : TreeInMemory) (level : List (Placed V)) (
   pub root : t.root ≡ top_pid level ls
   pub height : t.height ≡ suc (length ls)
 
--- these levels, above a level of leaves, once those at the top whose one page has one child were freed: all else stayed
+-- these levels, above a level of leaves, after those at the top with one page and one child were freed; everything else is unchanged
 pub record HasShrunk {V : Type 0} (before after : TreeInMemory) (level : List (Placed V)) (ls : List (List (Placed ℕ))) : Type 0 where
   pub gone : (pid : ℕ) → is_among pid (shrunk_pids ls) ≡ true → place_of after.table pid ≡ None
   pub others : (pid : ℕ) → is_among pid (shrunk_pids ls) ≡ false → place_of after.table pid ≡ place_of before.table pid

@@ -1,4 +1,4 @@
--- What a climb does to the mapping table, one page after the other.
+-- The changes of a climb to the mapping table, one page after the other.
 use Rattle.std.specs.Prelude.{◌≡◌, ℕ, suc, ◌+◌, ◌<◌, ⊤, false, List, [], ◌∷◌, ◌++◌, flat_map, drop, length, Option, Some, None, IsSome, if◌then◌else◌}
 use Rattle.std.specs.List.{AllByRecursion}
 use Rattle.keys.specs.Bytes.{Changes, Names}
@@ -15,25 +15,25 @@ use Rattle.climb_plan.specs.Climb.{grown_levels}
 use Rattle.mapping.specs.TreeInMemory.{TreeInMemory}
 use Rattle.climb_plan.specs.Rewriting.{Remade}
 
--- ---- pages are taken and put back
+-- ---- checking pages out and putting them back
 
--- the table from which these pages were taken
+-- the table after these pages were checked out
 abbrev pub all_taken : Mapping PageOfKind → List ℕ → Mapping PageOfKind
 all_taken t [] = t
 all_taken t (pid ∷ pids) = all_taken (with_place t pid None) pids
 
--- the table into which these were put
+-- the table after these pages were put back
 abbrev pub all_put : Mapping PageOfKind → List (ℕ × PageOfKind) → Mapping PageOfKind
 all_put t [] = t
 all_put t (e ∷ es) = all_put (with_place t e.0 (Some e.1)) es
 
--- the places of these pages are away, each of another
+-- these distinct pages are checked out
 abbrev pub AreAway : Mapping PageOfKind → List ℕ → Type 0
 AreAway t pids = AllByRecursion (λ pid. place_of t pid ≡ Some None) pids × Distinct pids
 
 -- ---- parents
 
--- what a parent's work holds, with the run of its terms
+-- the input of a parent's work, with the run of its terms
 abbrev pub page_or_none : Option PageOfKind → PageOfKind
 page_or_none None = Leaf (record { low = []; layers = record { runs = []; base = [] } })
 page_or_none (Some p) = p
@@ -41,7 +41,7 @@ page_or_none (Some p) = p
 abbrev pub parent_held : Mapping PageOfKind → ℕ × Changes ℕ → TermHeld
 parent_held t termed = record { page = page_or_none (page_of t termed.0); pid = termed.0; terms = termed.1 }
 
--- these pids have index pages at home, each another
+-- these distinct pids have index pages in the table
 abbrev pub IsIndexAt : Option PageOfKind → Type 0
 IsIndexAt None = ⊥
 IsIndexAt (Some (Leaf p)) = ⊥
@@ -50,9 +50,9 @@ IsIndexAt (Some (Index p)) = ⊤
 abbrev pub AreParentsHome : Mapping PageOfKind → List ℕ → Type 0
 AreParentsHome t pids = AllByRecursion (λ pid. IsIndexAt (page_of t pid)) pids × Distinct pids
 
--- ---- pages come home
+-- ---- putting pages back after their runs
 
--- the table with a page put home after its run; where it was replaced the log doesn't know it
+-- the table after a page was put back after its run; if it was replaced, its log state becomes outdated
 abbrev pub come_home : Mapping PageOfKind → SeenPage → Mapping PageOfKind
 come_home t x = with_place (if x.replaced then log_outdated t x.pid else t) x.pid (Some x.page)
 
@@ -60,26 +60,26 @@ abbrev pub all_come_home : Mapping PageOfKind → List SeenPage → Mapping Page
 all_come_home t [] = t
 all_come_home t (x ∷ xs) = all_come_home (come_home t x) xs
 
--- ---- groups are replaced
+-- ---- replacing groups
 
 -- the table without these members
 abbrev pub members_freed : Mapping PageOfKind → List ℕ → Mapping PageOfKind
 members_freed t [] = t
 members_freed t (pid ∷ pids) = members_freed (freed (with_place t pid None) pid) pids
 
--- pages put under these pids
+-- the table after pages were put under these pids
 abbrev pub put_under : Mapping PageOfKind → List ℕ → List PageOfKind → Mapping PageOfKind
 put_under t [] pages = t
 put_under t (pid ∷ pids) [] = t
 put_under t (pid ∷ pids) (p ∷ ps) = put_under (with_place t pid (Some p)) pids ps
 
--- the first piece stands in the first member's place, which the log doesn't know then, the others in places of their own
+-- the first new page replaces the first member, whose log state becomes outdated; the others have places of their own
 abbrev pub first_replaced : Mapping PageOfKind → List ℕ → List PageOfKind → Mapping PageOfKind
 first_replaced t [] pages = t
 first_replaced t (pid ∷ pids) [] = t
 first_replaced t (pid ∷ pids) (p ∷ ps) = with_place (log_outdated t pid) pid (Some p)
 
--- the table once a group is replaced by what is made of it
+-- the table after a group was replaced by its new pages
 abbrev pub group_installed : Mapping PageOfKind → Remade → Mapping PageOfKind
 group_installed t r = put_under (members_freed (first_replaced t r.members r.pieces) (drop 1 r.members)) r.fresh (drop 1 r.pieces)
 
@@ -87,8 +87,7 @@ abbrev pub all_installed : Mapping PageOfKind → List Remade → Mapping PageOf
 all_installed t [] = t
 all_installed t (r ∷ rs) = all_installed (group_installed t r) rs
 
--- a group that can be replaced: its members are at home, each another, the places of new pieces are away, and there is a piece
--- for each
+-- a group that can be replaced: its distinct members are in the table, the places of new pages are empty, and there is a page for each
 pub record CanInstall (t : Mapping PageOfKind) (r : Remade) : Type 0 where
   pub some : 0 < length r.members
   pub members : AllByRecursion (λ pid. IsSome (page_of t pid)) r.members
@@ -101,14 +100,14 @@ abbrev pub CanInstallAll : Mapping PageOfKind → List Remade → Type 0
 CanInstallAll t [] = ⊤
 CanInstallAll t (r ∷ rs) = CanInstall t r × CanInstallAll (group_installed t r) rs
 
--- ---- levels grow
+-- ---- adding levels
 
--- the next numbers that the table gives out are those that are not among the used ones, where `from` of them were given out before
+-- the next pids that the table allocates are unused numbers, given that `from` of them are already allocated
 abbrev pub DrawsFrom : Mapping PageOfKind → List ℕ → ℕ → Type 0
 DrawsFrom t used from = (m : ℕ) → unused (pids_in_use t) m ≡ unused used (from + m)
 
--- pids were drawn: their places are away, and the next that are drawn follow them; all else of the tree stayed, and to
--- give up these places gives it back
+-- pids were allocated: their places are empty, and the next allocated pids follow them; everything else of the tree is unchanged, and freeing these
+-- pids restores it
 pub record AreDrawn (before after : TreeInMemory) (pids : List ℕ) : Type 0 where
   pub away : AllByRecursion (λ pid. place_of after.table pid ≡ Some None) pids
   pub others : (pid : ℕ) → is_among pid pids ≡ false → place_of after.table pid ≡ place_of before.table pid
@@ -119,7 +118,7 @@ pub record AreDrawn (before after : TreeInMemory) (pids : List ℕ) : Type 0 whe
   pub height : after.height ≡ before.height
   pub back : IsOldWithoutPlace before.table → freed_all after.table pids ≡ before.table
 
--- levels of index pages came home, where their pids had no place; all else of the tree stayed
+-- levels of index pages were put into the table, whose pids had no places; everything else of the tree is unchanged
 pub record AreGrown (before after : TreeInMemory) (ls : List (List (Placed ℕ))) : Type 0 where
   pub new : AllByRecursion (AllByRecursion (λ p. place_of after.table p.pid ≡ Some (Some (Index p.page)))) ls
   pub others : (pid : ℕ) → is_among pid (flat_map pids ls) ≡ false → place_of after.table pid ≡ place_of before.table pid
@@ -128,18 +127,18 @@ pub record AreGrown (before after : TreeInMemory) (ls : List (List (Placed ℕ))
   pub root : after.root ≡ before.root
   pub height : after.height ≡ before.height
 
--- of pages of these names, and of the levels that grow above them where the table's next numbers are drawn for these, something holds
+-- a property of the pages with these entries and of the levels added above them, whose pids are the next ones of the table
 abbrev pub OfGrown : Settings → Mapping PageOfKind → Names → (List (Placed ℕ) → List (List (Placed ℕ)) → Type 0) → Type 0
 OfGrown s t ns P =
     (used : List ℕ) (from : ℕ) (ps : List (Placed ℕ)) → DrawsFrom t used from → names ps ≡ ns → P ps (grown_levels (length ps) s used from ps)
 
--- the pid of the highest page and the number of levels, once these levels have grown above the highest pages of a tree of `height` levels
+-- the pid of the highest page and the number of levels, after these levels were added above the highest pages of a tree of `height` levels
 abbrev pub HasGrown : TreeInMemory → TreeInMemory → ℕ × ℕ → ℕ → List (Placed ℕ) → List (List (Placed ℕ)) → Type 0
 HasGrown before after top height ps ls = (top.0 ≡ top_pid ps ls) × (top.1 ≡ height + length ls) × AreGrown before after ls
 
--- ---- the root shrinks
+-- ---- shrinking the root
 
--- the pid of the only child that entries name, where there is just one
+-- the pid of the only child in these entries, if there is exactly one
 abbrev pub only_pid : Names → Option ℕ
 only_pid [] = None
 only_pid (e ∷ []) = Some e.1

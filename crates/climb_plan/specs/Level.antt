@@ -1,4 +1,4 @@
--- A level in the course of a climb: its pages as code has them, of either kind, and as the plan has them.
+-- A level during a climb: its pages in the code's form, for either kind, and in the plan's form.
 use Rattle.std.specs.Prelude.{◌≡◌, ℕ, ◌+◌, List, [], ◌∷◌, map, drop, length, Some, None}
 use Rattle.std.specs.List.{filter, AllByRecursion}
 use Rattle.keys.specs.Bytes.{Names}
@@ -23,16 +23,16 @@ use Rattle.climb_plan.specs.Rewriting.{Remade, cut_group, freed_names}
 
 -- ---- kinds
 
--- all that is needed of a kind: its pages keep their low keys, their groups are remade as those of pages of no kind, and they
--- can be joined where their entries rise
+-- what the climb needs of a kind of pages: they keep their low keys, their groups are rewritten as those of pages of any kind, and they can be joined
+-- if their entries rise
 pub record IsKind {V : Type 0} (of : Page V → PageOfKind) : Type 0 where
   pub low : (p : Page V) → low_of (of p) ≡ p.low
   pub made : (s : Settings) (p : Page V) (ps : List (Page V)) → group_made s (map of (p ∷ ps)) ≡ map of (pages_made s (p ∷ ps))
   pub join : (p : Page V) (ps : List (Page V)) → IsRising (joined_pages (p ∷ ps)) → CanJoin (map of (p ∷ ps))
 
--- ---- what is made of groups
+-- ---- new pages of groups
 
--- a change as code has it
+-- a change in the code's form
 abbrev pub remade_of : {V : Type 0} → (Page V → PageOfKind) → Change V → Remade
 remade_of of c = record { members = map (λ w. w.placed.pid) c.members; pieces = map (λ q. of q.page) c.pages; fresh = pids (drop 1 c.pages) }
 
@@ -40,14 +40,14 @@ remade_of of c = record { members = map (λ w. w.placed.pid) c.members; pieces =
 abbrev pub parent_pids : {V : Type 0} → List (Changing V) → List ℕ
 parent_pids chs = map (λ c. c.parent.pid) chs
 
--- these with how many groups each has
+-- these parents, each with the number of its groups
 abbrev pub group_counts : {V : Type 0} → List (Changing V) → List (ℕ × ℕ)
 group_counts chs = map (λ c. (c.parent.pid, length c.groups)) chs
 
 -- ---- levels
 
--- the plan is that of a level of the tree, up to its root: those of the level's pages that were seen are away, and the levels above it are
--- at home
+-- the plan is that of a level of the tree, up to its root: those of the level's pages that were seen are checked out, and the levels above are in the
+-- table
 pub record IsLevel {V : Type 0} (of : Page V → PageOfKind) (t : TreeInMemory) (xs : List SeenPage) (l : LevelPlan V) : Type 0 where
   pub seen : AreSeen of t.table xs l.worked
   pub tiled : Tiled (placed_of l.worked) None
@@ -61,7 +61,7 @@ pub record IsLevel {V : Type 0} (of : Page V → PageOfKind) (t : TreeInMemory) 
   pub drawn : DrawsFrom t.table l.used l.from
   pub logs : IsOldWithoutPlace t.table
 
--- the table once n numbers were drawn, and these pages taken
+-- the table after n pids were allocated and these pages checked out
 abbrev pub drawn_and_taken : Mapping PageOfKind → ℕ → List ℕ → Mapping PageOfKind
 drawn_and_taken t n taken = all_taken (with_rooms t (fresh_pids (pids_in_use t) n)) taken
 
@@ -69,23 +69,23 @@ drawn_and_taken t n taken = all_taken (with_rooms t (fresh_pids (pids_in_use t) 
 abbrev pub next_tree : TreeInMemory → ℕ → List ℕ → TreeInMemory
 next_tree t n taken = record { table = drawn_and_taken t.table n taken; root = t.root; height = t.height }
 
--- ---- what becomes of a level
+-- ---- the changes of a level
 
--- the groups of a level under these parents that are rewritten, cut, with the parents and the names that are freed
+-- the groups of a level under these parents that are rewritten, after the split, with the parents and the freed entries
 pub record IsCut {V : Type 0} (s : Settings) (of : Page V → PageOfKind) (l : LevelPlan V) (ps : List (Placed ℕ)) (parents : List (ℕ × ℕ)) (freed : List Names) (groups : List Remade) : Type 0 where
   pub counts : parents ≡ group_counts (changing_families ps l.worked)
   pub names : freed ≡ map freed_names (map (λ g. map (page_seen of) g) (changing_groups (changing_families ps l.worked)))
   pub pieces : groups ≡ map (cut_group s) (map (λ g. map (page_seen of) g) (changing_groups (changing_families ps l.worked)))
 
--- what a level's groups and parents became, and the tree: numbers for new pieces were drawn, and the parents were taken
+-- the groups and parents of a level after its changes, and the tree: pids for new pages were allocated, and the parents were checked out
 pub record IsChanged {V : Type 0} (s : Settings) (of : Page V → PageOfKind) (before after : TreeInMemory) (l : LevelPlan V) (ps : List (Placed ℕ)) (remade : List Remade) (parents : List IndexWorked) : Type 0 where
   pub groups : remade ≡ map (remade_of of) (changes s l.used l.from (changing_groups (changing_families ps l.worked)))
   pub made : parents_seen parents ≡ map (page_seen Index) (worked_parents s (parents_of (changing_families ps l.worked)) (map terms (changing_changes s l.used l.from (changing_families ps l.worked))))
   pub held : map {B = ℕ × PageOfKind} (λ d. (d.held.pid, d.held.page)) parents ≡ map {B = ℕ × PageOfKind} (λ p. (p.pid, Index p.page)) (parents_of (changing_families ps l.worked))
   pub tree : after ≡ next_tree before (length (fresh_of (changes s l.used l.from (changing_groups (changing_families ps l.worked))))) (parent_pids (changing_families ps l.worked))
 
--- what the highest level becomes, which is a group by itself, with the levels that grow above it: the root's pid, the number of
--- levels, and the tree in which numbers for new pieces were drawn, and these levels are at home
+-- the changes of the highest level, which is a group by itself, with the levels added above it: the root's pid, the number of levels, and the tree in
+-- which pids for new pages were allocated and these levels were put into the table
 pub record IsTopChanged {V : Type 0} (s : Settings) (of : Page V → PageOfKind) (before after : TreeInMemory) (l : LevelPlan V) (remade : List Remade) (pid levels : ℕ) : Type 0 where
   pub groups : remade ≡ map (remade_of of) (changes s l.used l.from (filter is_rewritten (l.worked ∷ [])))
   pub grown : AreGrown (next_tree before (length (fresh_of (changes s l.used l.from (filter is_rewritten (l.worked ∷ []))))) []) after (climb_of s l).tower.above

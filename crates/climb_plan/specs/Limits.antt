@@ -10,11 +10,11 @@ use Rattle.keys.specs.declared.command.Command.{Command}
 abbrev pub IsShortPair : Settings → Bytes → Bytes → Type 0
 IsShortPair s k v = (length k ≤ s.max_key) × (length v ≤ s.max_value)
 
--- bounds are so, the lower one and the upper one, where there is one
+-- the bounds are no longer than the settings allow: the lower one, and the upper one, if there is one
 abbrev pub AreShortBounds : Settings → Bytes → Option Bytes → Type 0
 AreShortBounds s lo hi = (length lo ≤ s.max_key) × IfSome hi (λ end. length end ≤ s.max_key)
 
--- the key of a command and the value that it gives, or its bounds, are so
+-- the key of a command and the value that it sets, or its bounds, are no longer than the settings allow
 abbrev pub IsShortDeed : Settings → Span → Deed → Type 0
 IsShortDeed s (One k) (Gives v) = IsShortPair s k v
 IsShortDeed s (One k) deed = length k ≤ s.max_key

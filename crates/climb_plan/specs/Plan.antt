@@ -1,4 +1,4 @@
--- What a batch makes of a store.
+-- The effect of a batch on a store.
 use Rattle.std.specs.Prelude.{ℕ, suc, List, ◌++◌, flat_map, drop, length}
 use Rattle.std.specs.Map.{keys_of}
 use Rattle.keys.specs.Bytes.{Bytes}
@@ -17,19 +17,18 @@ batch_climb s t cs =
     let l : Levels = levels_of t in
     climb s (keys_of t.pages) 0 (worked_leaves s (net_run (contents t) cs) l.level) l.above
 
--- those that are left once the root has shrunk
+-- the levels that remain after the root has shrunk
 abbrev pub shrunk_levels : Climbed Bytes → Levels
 shrunk_levels c = record { level = c.tower.level; above = kept_levels c.tower.above }
 
 abbrev pub planned_levels : {A : Type 0} → Settings → Tree → List (Command A) → Levels
 planned_levels s t cs = shrunk_levels (batch_climb s t cs)
 
--- the pids of the levels that went with the old root
+-- the pids of the levels that were removed with the old root
 abbrev pub shrunk_pids : List (List (Placed ℕ)) → List ℕ
 shrunk_pids ls = flat_map pids (drop (length (kept_levels ls)) ls)
 
--- the pids whose page is no longer what the log may have of it: of pages that were replaced, rewritten or freed, and of
--- those that went with the old root
+-- the pids whose log states become outdated: of pages that were replaced, rewritten or freed, and of those removed with the old root
 abbrev pub outdated_pids : {A : Type 0} → Settings → Tree → List (Command A) → List ℕ
 outdated_pids s t cs =
     let c : Climbed Bytes = batch_climb s t cs in

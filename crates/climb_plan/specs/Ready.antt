@@ -1,4 +1,4 @@
--- When a tree in memory is ready to climb: the leaves that a batch touches were taken out of it, and worked.
+-- When a tree in memory is ready to climb: the leaves of a batch were checked out, and the batch was applied to them.
 use Rattle.std.specs.Prelude.{◌≡◌, List}
 use Rattle.std.specs.List.{AllByRecursion}
 use Rattle.std.specs.Map.{keys_of}
@@ -14,8 +14,8 @@ use Rattle.page_runs.specs.NetRun.{net_run}
 use Rattle.split_plan.specs.WorkedLevel.{worked_leaves}
 use Rattle.climb_plan.specs.Changing.{SeenPage, AreSeen, AreHome}
 
--- of a proper tree some leaves are away, after what the commands come to on their keys; all other pages are at home as the
--- tree has them, and no other leaf gets a run
+-- some leaves of a proper tree are checked out, after the commands on their keys; all other pages are in the table as in the tree, and no other leaf
+-- gets a run
 pub record IsReady {A : Type 0} (s : Settings) (t : Tree) (cs : List (Command A)) (m : TreeInMemory) (xs : List SeenPage) : Type 0 where
   pub proper : IsProper s t
   pub logs : AreLogsTrue t

@@ -1,4 +1,4 @@
--- Which groups of a level are rewritten, and what is made of them, in words of pages of either kind, as code has them.
+-- Which groups of a level are rewritten, and their new pages, for pages of either kind, in the code's form.
 use Rattle.std.specs.Prelude.{◌≡◌, ℕ, ◌+◌, ◌-◌, ◌<◌, ◌≤◌, ⊤, Bool, false, true, List, [], ◌∷◌, ◌++◌, map, flat_map, take, drop, length, Some, None, Vec}
 use Rattle.std.specs.List.{filter, AllByRecursion, range_with_len}
 use Rattle.keys.specs.Bytes.{Bytes, Changes, Names}
@@ -25,33 +25,33 @@ use Rattle.split_plan.specs.Terms.{absent, present}
 use Rattle.climb_plan.specs.Changing.{SeenPage, calls}
 use Rattle.climb_plan.specs.declared.seen.Seen.{Seen}
 
--- ---- pages as they are seen
+-- ---- views of pages
 
--- what a view of a page shows
+-- the page in a view
 abbrev pub seen_now : Seen → SeenPage
 seen_now x = record { pid = x.pid; page = page_shown x.page.now; class = x.class; replaced = x.replaced }
 
 abbrev pub all_seen : List Seen → List SeenPage
 all_seen xs = map seen_now xs
 
--- of groups of pages, too
+-- the same for groups of pages
 abbrev pub groups_seen : {A : Type 0} → List (Vec Seen A) → List (List SeenPage)
 groups_seen gs = map (λ g. all_seen g.items) gs
 
--- its name: what a parent's entry holds of it
+-- the page's entry in its parent
 abbrev pub seen_name : SeenPage → Bytes × ℕ
 seen_name x = (low_of x.page, x.pid)
 
 abbrev pub is_thin_seen : SeenPage → Bool
 is_thin_seen x = is_thin_class x.class
 
--- a group of two or more members is rewritten, and one with one fat member
+-- a group of two or more members is rewritten, and so is a single fat member
 abbrev pub is_rewritten_seen : List SeenPage → Bool
 is_rewritten_seen [] = false
 is_rewritten_seen (x ∷ []) = is_fat_class x.class
 is_rewritten_seen (x ∷ y ∷ xs) = true
 
--- of all pages of a level those that got a run, in order; each other is at home in the table
+-- the pages of a level that got a run, in order; each other page is in the table
 pub data AreSeenIn (t : Mapping PageOfKind) : List SeenPage → List SeenPage → Type 0 where
   none : AreSeenIn t [] []
   worked : {xs all : List SeenPage} → (x : SeenPage) → AreSeenIn t xs all → AreSeenIn t (x ∷ xs) (x ∷ all)
@@ -59,7 +59,7 @@ pub data AreSeenIn (t : Mapping PageOfKind) : List SeenPage → List SeenPage �
 
 -- ---- groups
 
--- of the groups of one parent's children those that are rewritten
+-- those groups of one parent's children that are rewritten
 abbrev pub rewritten_groups : List SeenPage → List (List SeenPage)
 rewritten_groups f = filter is_rewritten_seen (groups is_thin_seen f)
 
@@ -68,7 +68,7 @@ pub record Rewriting : Type 0 where
   pub parent : ℕ
   pub groups : List (List SeenPage)
 
--- with this parent in front, unless it has none
+-- the list with this parent in front, unless it has no such groups
 abbrev pub with_rewriting : ℕ → List (List SeenPage) → List Rewriting → List Rewriting
 with_rewriting pid [] rs = rs
 with_rewriting pid (g ∷ gs) rs = record { parent = pid; groups = g ∷ gs } ∷ rs
@@ -78,7 +78,7 @@ abbrev pub rewriting_families : List (Placed ℕ) → List SeenPage → List Rew
 rewriting_families [] all = []
 rewriting_families (p ∷ ps) all = with_rewriting p.pid (rewritten_groups (take (length (entries p)) all)) (rewriting_families ps (drop (length (entries p)) all))
 
--- each such parent with how many of its groups are rewritten, and all these groups
+-- each such parent with the number of its groups that are rewritten, and all these groups
 abbrev pub rewriting_counts : List Rewriting → List (ℕ × ℕ)
 rewriting_counts rs = map (λ r. (r.parent, length r.groups)) rs
 
@@ -87,7 +87,7 @@ groups_of rs = flat_map (λ r. r.groups) rs
 
 -- ---- the levels above
 
--- the levels from these parents on upward, as a tree in memory has them, `depth` below the root
+-- the levels from these parents up, as a tree in memory has them, where the parents are `depth` levels below the root
 pub record AreParents (t : TreeInMemory) (depth : ℕ) (ps : List (Placed ℕ)) (ups : List (List (Placed ℕ))) : Type 0 where
   pub home : AllByRecursion (AllByRecursion (λ p. page_of t.table p.pid ≡ Some (Index p.page))) (ps ∷ ups)
   pub headed : AllByRecursion (λ p. IsHeaded 1 p.page) ps
@@ -97,7 +97,7 @@ pub record AreParents (t : TreeInMemory) (depth : ℕ) (ps : List (Placed ℕ)) 
   pub root : t.root ≡ top_pid ps ups
   pub far : depth ≡ length ups
 
--- a level of pages under these parents, and those of them that got a run
+-- a level of pages under these parents, and those pages that got a run
 pub record IsLevelSeen (t : TreeInMemory) (depth : ℕ) (xs all : List SeenPage) (ps : List (Placed ℕ)) (ups : List (List (Placed ℕ))) : Type 0 where
   pub seen : AreSeenIn t.table xs all
   pub linked : joined ps ≡ map seen_name all
@@ -108,12 +108,12 @@ abbrev pub SomeLevelSeen : TreeInMemory → ℕ → List SeenPage → Type 0
 SomeLevelSeen t depth xs =
     (all : List SeenPage) × (ps : List (Placed ℕ)) × (ups : List (List (Placed ℕ))) × IsLevelSeen t depth xs all ps ups
 
--- of its pages and their parents something holds
+-- a property of its pages and their parents
 abbrev pub OfLevelSeen : TreeInMemory → ℕ → List SeenPage → (List SeenPage → List (Placed ℕ) → Type 0) → Type 0
 OfLevelSeen t depth xs P =
     (all : List SeenPage) (ps : List (Placed ℕ)) (ups : List (List (Placed ℕ))) → IsLevelSeen t depth xs all ps ups → P all ps
 
--- ---- what is looked at on the way
+-- ---- the search for families
 
 -- the page is neither thin nor fat
 abbrev pub IsQuiet : SeenPage → Type 0
@@ -123,7 +123,7 @@ IsQuiet x = calls x.class ≡ false
 abbrev pub lows : List SeenPage → List Bytes
 lows xs = map (λ x. low_of x.page) xs
 
--- of these pages the first that is thin or fat, with those in front of it and those after it
+-- the first of these pages that is thin or fat, with those before it and those after it
 pub record IsFirstCall (xs quiet : List SeenPage) (x : SeenPage) (more : List SeenPage) : Type 0 where
   pub parted : xs ≡ quiet ++ x ∷ more
   pub none_earlier : AllByRecursion IsQuiet quiet
@@ -133,7 +133,7 @@ pub record IsFirstCall (xs quiet : List SeenPage) (x : SeenPage) (more : List Se
 abbrev pub HasFirstCall : List SeenPage → Bytes → Type 0
 HasFirstCall xs low = (quiet : List SeenPage) × (x : SeenPage) × (more : List SeenPage) × IsFirstCall xs quiet x more × (low ≡ low_of x.page)
 
--- of a level's pages the pids of those in whose range the key lies
+-- the pids of those pages of a level whose range contains the key
 abbrev pub pids_for : List (Placed ℕ) → Bytes → List ℕ
 pids_for ps k = map (λ at. at.pid) (filter (is_place_for k) (children (names ps) None))
 
@@ -148,14 +148,14 @@ abbrev pub begins_at : Bytes → List SeenPage → Bool
 begins_at low [] = false
 begins_at low (x ∷ xs) = is_same_key (low_of x.page) low
 
--- the first of the pages that are left of a level, where these of them got a run
+-- the first of the remaining pages of a level, where these pages got a run
 pub record IsNextChild (t : Mapping PageOfKind) (xs : List SeenPage) (low : Bytes) (pid : ℕ) (x : SeenPage) (later : List SeenPage) : Type 0 where
   pub seen : AreSeenIn t xs (x ∷ later)
   pub same_low : low ≡ low_of x.page
   pub same_pid : pid ≡ x.pid
   pub rising : IsRising (map seen_name (x ∷ later))
 
--- a parent with its children and the pages of the level after them; of the pages that got a run those in front of them, and the others
+-- a parent with its children and the later pages of the level; and the pages that got a run, split into those before its children and the others
 pub record FamilySeen : Type 0 where
   pub parent : Placed ℕ
   pub before : List SeenPage
@@ -163,7 +163,7 @@ pub record FamilySeen : Type 0 where
   pub children : List SeenPage
   pub later : List SeenPage
 
--- it is one of this level
+-- it is a family of this level
 pub record IsFamilyOf (t : Mapping PageOfKind) (xs : List SeenPage) (f : FamilySeen) : Type 0 where
   pub home : page_of t f.parent.pid ≡ Some (Index f.parent.page)
   pub parted : AreParted f.parent.page.low xs f.before f.from
@@ -171,41 +171,41 @@ pub record IsFamilyOf (t : Mapping PageOfKind) (xs : List SeenPage) (f : FamilyS
   pub linked : entries f.parent ≡ map seen_name f.children
   pub rising : IsRising (map seen_name (f.children ++ f.later))
 
--- there is one of this parent
+-- there is such a family of this parent
 abbrev pub SomeFamily : Mapping PageOfKind → List SeenPage → ℕ → Type 0
 SomeFamily t xs pid = (f : FamilySeen) × (pid ≡ f.parent.pid) × IsFamilyOf t xs f
 
--- of that of this parent something holds
+-- a property of the family of this parent
 abbrev pub OfFamily : Mapping PageOfKind → List SeenPage → ℕ → (FamilySeen → Type 0) → Type 0
 OfFamily t xs pid P = (f : FamilySeen) → pid ≡ f.parent.pid → IsFamilyOf t xs f → P f
 
--- ---- what is made of groups
+-- ---- new pages of groups
 
--- a group, rewritten: its members' pids, the pages that are made of it, and the pids of all of these but the first
+-- a rewritten group: its members' pids, its new pages, and the pids of all new pages but the first
 pub record Remade : Type 0 where
   pub members : List ℕ
   pub pieces : List PageOfKind
   pub fresh : List ℕ
 
--- a group once it is cut; its pieces have no pids yet
+-- a group after the split; its new pages have no pids yet
 abbrev pub cut_group : Settings → List SeenPage → Remade
 cut_group s g = record { members = map (λ x. x.pid) g; pieces = group_made s (map (λ x. x.page) g); fresh = [] }
 
--- each group with the pages that were made of it
+-- each group with its new pages
 abbrev pub joined_groups : List (List SeenPage) → List (List PageOfKind) → List Remade
 joined_groups [] made = []
 joined_groups (g ∷ gs) [] = []
 joined_groups (g ∷ gs) (pages ∷ made) = record { members = map (λ x. x.pid) g; pieces = pages; fresh = [] } ∷ joined_groups gs made
 
--- groups that can be cut
+-- groups that can be split
 abbrev pub CanBeCut : List (List SeenPage) → Type 0
 CanBeCut gs = AllByRecursion (λ g. CanJoin (map (λ x. x.page) g)) gs
 
--- lists of names, as code has them
+-- lists of entries in the code's form
 abbrev pub all_names : {A : Type 0} → List (Vec (Bytes × ℕ) A) → List Names
 all_names lists = map (λ names. names.items) lists
 
--- the names of the members that are freed
+-- the parents' entries of the freed members
 abbrev pub freed_names : List SeenPage → Names
 freed_names g = map seen_name (drop 1 g)
 
@@ -213,38 +213,38 @@ freed_names g = map seen_name (drop 1 g)
 abbrev pub HaveSome : List Remade → Type 0
 HaveSome rs = AllByRecursion (λ r. 0 < length r.pieces) rs
 
--- the numbers that are given to new pieces, from left to right, where i were given out before
+-- the pids for the new pages, from left to right, given that i pids are already allocated
 abbrev pub with_numbers : List ℕ → ℕ → List Remade → List Remade
 with_numbers used i [] = []
 with_numbers used i (r ∷ rs) =
     let n : ℕ = length r.pieces - 1 in
     record { members = r.members; pieces = r.pieces; fresh = map (unused used) (range_with_len i n) } ∷ with_numbers used (i + n) rs
 
--- how many they are
+-- the number of these pids
 abbrev pub numbers : List Remade → ℕ
 numbers [] = 0
 numbers (r ∷ rs) = (length r.pieces - 1) + numbers rs
 
--- the low keys of pages with these pids
+-- the entries of pages with these pids
 abbrev pub named_pages : List PageOfKind → List ℕ → Names
 named_pages [] pids = []
 named_pages (p ∷ ps) [] = []
 named_pages (p ∷ ps) (pid ∷ pids) = (low_of p, pid) ∷ named_pages ps pids
 
--- the names of a group's new pieces
+-- the entries of a group's new pages
 abbrev pub fresh_names : Remade → Names
 fresh_names r = named_pages (drop 1 r.pieces) r.fresh
 
--- and those of all of its pieces, the first under the first member's pid
+-- the entries of all pages of a group, the first one under the first member's pid
 abbrev pub group_names : Remade → Names
 group_names r = named_pages r.pieces (take 1 r.members ++ r.fresh)
 
--- of the pages of the highest level: of this group's pieces, or of the root as it was where there is no group
+-- the entries of the pages of the highest level: those of this group's pages, or of the unchanged root if there is no group
 abbrev pub top_names : ℕ → List Remade → Names
 top_names root [] = ([], root) ∷ []
 top_names root (r ∷ rs) = group_names r
 
--- the run of the terms of a parent, of the names that are freed in its groups and of those of the new pieces
+-- the run of a parent's terms, from the freed entries of its groups and the entries of the new pages
 abbrev pub terms_of : List Names → List Remade → Changes ℕ
 terms_of fs rs = with_run (absent (flat fs)) (present (flat_map fresh_names rs))
 
@@ -257,7 +257,7 @@ terms_by_parent (c ∷ cs) fs rs = (c.0, terms_of (take c.1 fs) (take c.1 rs)) �
 abbrev pub term_parents : List (ℕ × ℕ) → List Names → List Remade → List ℕ
 term_parents cs fs rs = map (λ t. t.0) (terms_by_parent cs fs rs)
 
--- there are as many groups as the parents' numbers, and terms can be made of their names, since these rise
+-- there are as many groups as the parents' numbers say, and terms can be made of their entries, because these rise
 abbrev pub CanTakeTerms : List (ℕ × ℕ) → List Names → List Remade → Type 0
 CanTakeTerms [] fs rs = ⊤
 CanTakeTerms (c ∷ cs) fs rs =

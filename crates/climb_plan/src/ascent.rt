@@ -1,7 +1,7 @@
-//! The climb of a batch: level by level upward groups are cut and parents are worked, up to the root; then, by moves alone and from
-//! the root down, all that was made is put into the tree. What is on the way back stands on the stack: a level that is refused
-//! undoes what it did, and the level below it does the same. (The Bw-tree's splits and merges, made a level at a time as
-//! PALM makes them.)
+//! Splits and merges of a batch, level by level upward: groups of a level are rewritten and their parents get terms, up
+//! to the root. Only when all levels have succeeded are the new pages moved into the tree, from the root down, by steps
+//! that cannot fail. The information for undoing is in the stack frames: a level that fails undoes its own changes, and
+//! then the level below undoes its. (The Bw-tree's splits and merges, a level at a time as in PALM.)
 ghost use Rattle.std.specs.Prelude.{◌≡◌, ◌<◌, ◌≤◌, List, map, IfErr, OnOk, OnErr};
 ghost use Rattle.index_page.specs.Page.PageOfKind.{Leaf, Index};
 ghost use Rattle.keys.specs.declared.command.Command.{Command};
@@ -29,11 +29,13 @@ use page_runs::{LeafDone, TermDone};
 use std::alloc::Global;
 use std::thread::Threads;
 
-/// Climbs from these leaves, which were taken out of the tree and worked with the commands of a batch: they go home, their groups are cut
-/// and merged, and so on level by level upward, and the root shrinks while it has one child. The tree is the plan's then. Where it is
-/// refused, for lack of memory or because the tree would have more than 64 levels, the tree is as it was, and the leaves come back as they
-/// were given. Only the parents of leaves that are thin or fat are visited. On each level the crew cuts the groups and works the parents;
-/// the gate is called for each piece of these, and neither changes what becomes of the tree.
+/// Completes a batch: puts these leaves, which were checked out and to which the batch was applied, back into the tree,
+/// splits and merges their groups, does the same level by level upward, and then shrinks the root while it has one
+/// child. Afterwards the tree is the one of the plan. Fails if allocation fails or if the tree would have more than 64
+/// levels; the tree is then unchanged, and the leaves are returned as they were given.
+///
+/// Visits only the parents of thin or fat leaves. On each level the crew rewrites the groups and updates the parents;
+/// `gate` is called for each piece of this work. Neither affects the resulting tree.
 pub fn climb(
     rt: &(impl Threads + Sync),
     crew: Crew,
@@ -63,8 +65,8 @@ pub fn climb(
     Ok(())
 }
 
-// Climbs from these leaves, which were worked, and are `depth` levels below the root. Where it is refused, the tree is as it was, and the
-// pages come back as they were given.
+// Climbs from these leaves, to which the batch was applied; they are `depth` levels below the root. On failure, the
+// tree is unchanged, and the pages are returned as they were given.
 fn climb_leaves(
     rt: &(impl Threads + Sync),
     crew: Crew,
@@ -101,9 +103,9 @@ fn climb_leaves(
     finish_level(rt, crew, alloc, settings, tree, climbed, groups, dones)
 }
 
-// Climbs from these index pages, which were worked, and are `depth` levels below the root. Where it is refused, the tree is as
-// it was, and the pages come back as they were given. It calls itself once a level, 64 times at most: what else it calls stays out of
-// its frame, which is on the stack so often.
+// Climbs from these index pages, to which terms were applied; they are `depth` levels below the root. On failure, the
+// tree is unchanged, and the pages are returned as they were given. Recurses once per level, at most 64 times; all
+// other work is in separate functions, to keep the stack frame small.
 fn climb_parents(
     rt: &(impl Threads + Sync),
     crew: Crew,
@@ -140,8 +142,9 @@ fn climb_parents(
     finish_level(rt, crew, alloc, settings, tree, climbed, groups, dones)
 }
 
-// Ends a level whose parents climbed, or were refused: its pages come home, and its groups are replaced; or what was done to its parents is
-// undone, and the numbers of its new pieces are given back, so that the tree is as it was before.
+// Completes a level after the climb from its parents. If that succeeded, puts the level's pages into the tree and
+// replaces its groups. Otherwise undoes the changes of its parents and frees the page ids of its new pages, which
+// restores the tree.
 #[inline(never)]
 fn finish_level<D: WorkedPage>(
     rt: &(impl Threads + Sync),
@@ -176,7 +179,7 @@ fn finish_level<D: WorkedPage>(
         }
         Err((refused, parents)) => {
             undo_parents(alloc, settings, tree, parents);
-            // To free what was drawn gives the table back.
+            // Freeing the allocated page ids restores the table.
             drawn_pids_get_places_that_are_away::<Page<Global>>();
             free_drawn(tree, &groups);
             Err((refused, dones))

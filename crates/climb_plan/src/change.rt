@@ -1,4 +1,4 @@
-//! What is made of the groups of a level, and the runs that their parents get.
+//! The new pages of a level's groups, and the runs for their parents.
 ghost use Rattle.std.specs.Prelude.{◌≡◌, ℕ, ◌+◌, ◌-◌, ◌<◌, ◌≤◌, ◌++◌, List, map, flat_map, take, drop, length, IfOk, OnOk, OnErr};
 ghost use Rattle.keys.specs.Lists.{flat};
 ghost use Rattle.keys.specs.Order.{IsRising};
@@ -21,14 +21,14 @@ use std::collections::VecDeque;
 use std::marker::Model;
 use std::thread::Threads;
 
-/// A group that is rewritten: its members, and the pages that are made of them.
+/// A group that is rewritten: its members, and the pages that replace them.
 #[derive(Drop)]
 pub(crate) struct Rewritten {
-    // The members' page ids: the first of them is that of the first piece.
+    // The members' page ids. The first new page keeps the first of them.
     members: Vec<Pid>,
-    // The pages in the group's place.
+    // The pages that replace the group.
     pieces: Vec<Page<Global>>,
-    // The numbers of all pieces but the first, once they are drawn, as the tree gives them.
+    // The page ids of all new pages but the first, once they are allocated.
     fresh: Vec<u64>,
 }
 
@@ -41,7 +41,7 @@ impl Model for Rewritten {
         record { members = r.members.items; pieces = r.pieces.items; fresh = r.fresh.items } };
 }
 
-/// The groups, cut. Their pieces have no numbers yet.
+/// Splits the groups. The new pages have no page ids yet.
 pub(crate) fn cut_all(
     rt: &(impl Threads + Sync),
     crew: Crew,
@@ -63,7 +63,6 @@ pub(crate) fn cut_all(
     }
 }
 
-// The members of each group, as jobs.
 fn jobs_of<'a>(alloc: Global, groups: &[Vec<Seen<'a>>]) -> Result<Vec<GroupJob<'a>>, AllocError>
     ensures { IfOk result (λ jobs. map (λ job. pages_lent job.members.items) jobs.items ≡
         map (λ g. map (λ x. x.page) (all_seen g.items)) groups.now) }
@@ -75,7 +74,7 @@ fn jobs_of<'a>(alloc: Global, groups: &[Vec<Seen<'a>>]) -> Result<Vec<GroupJob<'
     Ok(jobs)
 }
 
-// The members' pages, lent.
+// The members' pages, borrowed.
 fn job_of<'a>(alloc: Global, group: &[Seen<'a>]) -> Result<GroupJob<'a>, AllocError>
     ensures { IfOk result (λ job. pages_lent job.members.items ≡
         map (λ x. x.page) (all_seen group.now)) }
@@ -87,7 +86,7 @@ fn job_of<'a>(alloc: Global, group: &[Seen<'a>]) -> Result<GroupJob<'a>, AllocEr
     Ok(GroupJob { members })
 }
 
-// Each group's members, with the pages that were made of it.
+// Each group's members, with their new pages.
 fn all_cut(
     alloc: Global,
     groups: &[Vec<Seen<'_>>],
@@ -111,7 +110,6 @@ fn all_cut(
     Ok(all)
 }
 
-// The members' page ids.
 fn pids_of(alloc: Global, group: &[Seen<'_>]) -> Result<Vec<Pid>, AllocError>
     ensures { IfOk result (λ pids. pids.items ≡ map (λ x. x.pid) (all_seen group.now)) }
 {
@@ -122,7 +120,7 @@ fn pids_of(alloc: Global, group: &[Seen<'_>]) -> Result<Vec<Pid>, AllocError>
     Ok(pids)
 }
 
-/// The names of each group's members but the first: they are freed.
+/// The parents' entries of each group's members except the first: these members are freed.
 pub(crate) fn all_freed(
     alloc: Global,
     groups: &[Vec<Seen<'_>>],
@@ -136,7 +134,7 @@ pub(crate) fn all_freed(
     Ok(all)
 }
 
-// The names of a group's members but the first.
+// The parent's entries of a group's members except the first.
 fn freed_of(alloc: Global, group: &[Seen<'_>]) -> Result<Vec<Name>, AllocError>
     ensures { IfOk result (λ names. names.items ≡ freed_names (all_seen group.now)) }
 {
@@ -146,7 +144,7 @@ fn freed_of(alloc: Global, group: &[Seen<'_>]) -> Result<Vec<Name>, AllocError>
     }
 }
 
-// The names of these pages: what their parent's entries hold.
+// The entries of these pages in their parent.
 fn names_of(alloc: Global, pages: &[Seen<'_>]) -> Result<Vec<Name>, AllocError>
     ensures { IfOk result (λ names. names.items ≡ map seen_name (all_seen pages.now)) }
 {
@@ -160,7 +158,7 @@ fn names_of(alloc: Global, pages: &[Seen<'_>]) -> Result<Vec<Name>, AllocError>
     Ok(names)
 }
 
-/// Draws the numbers of the new pieces, from left to right. Where that is refused, the tree is as it was.
+/// Allocates the page ids of the new pages, from left to right. If that fails, the tree is unchanged.
 pub(crate) fn draw_all(tree: &mut Tree<Global>, all: &mut [Rewritten]) -> Result<(), AllocError>
     requires some { HaveSome all.old }
     requires rising { AreRisingPids (pids_in_use tree.old.table) }
@@ -172,7 +170,7 @@ pub(crate) fn draw_all(tree: &mut Tree<Global>, all: &mut [Rewritten]) -> Result
     }) }
     ensures err { OnErr result (tree.new ≡ tree.old) }
 {
-    // What is drawn is away, and to free it gives the table back.
+    // Allocated page ids have no pages, and freeing them restores the table.
     drawn_pids_get_places_that_are_away::<Page<Global>>();
     let drawn = draw_each(tree, all);
     if drawn < all.len() {
@@ -182,7 +180,7 @@ pub(crate) fn draw_all(tree: &mut Tree<Global>, all: &mut [Rewritten]) -> Result
     Ok(())
 }
 
-// Draws the numbers of each group's new pieces, until that is refused. Returns how many groups have theirs.
+// Allocates the page ids for one group after the other until an allocation fails. Returns how many groups have theirs.
 fn draw_each(tree: &mut Tree<Global>, all: &mut [Rewritten]) -> usize
     requires some { HaveSome all.old }
     requires rising { AreRisingPids (pids_in_use tree.old.table) }
@@ -194,7 +192,7 @@ fn draw_each(tree: &mut Tree<Global>, all: &mut [Rewritten]) -> usize
           (fresh_pids (pids_in_use tree.old.table) (numbers (take result all.old)));
     } }
 {
-    // The next that are drawn follow those that were drawn before.
+    // The next allocated page ids follow those allocated before.
     drawn_pids_get_places_that_are_away::<Page<Global>>();
     for at in 0..all.len() {
         let group = &mut all[at];
@@ -205,7 +203,7 @@ fn draw_each(tree: &mut Tree<Global>, all: &mut [Rewritten]) -> usize
     all.len()
 }
 
-/// Gives the numbers of these groups' new pieces back, whose places are away.
+/// Frees the page ids of these groups' new pages, which are not in the tree yet.
 pub(crate) fn free_drawn(tree: &mut Tree<Global>, all: &[Rewritten])
     requires { AreAway tree.old.table (flat_map (λ r. r.fresh) all.now) }
     ensures { tree.new ≡
@@ -216,7 +214,6 @@ pub(crate) fn free_drawn(tree: &mut Tree<Global>, all: &[Rewritten])
     }
 }
 
-/// Gives up these places, which are away.
 pub(crate) fn free_all(tree: &mut Tree<Global>, pids: &[u64])
     requires { AreAway tree.old.table pids.now }
     ensures { tree.new ≡ record tree.old { table = freed_all tree.old.table pids.now } }
@@ -226,7 +223,7 @@ pub(crate) fn free_all(tree: &mut Tree<Global>, pids: &[u64])
     }
 }
 
-/// The run of terms of each of these parents, with the parent's page id.
+/// Returns the run of terms of each of these parents, with the parent's page id.
 pub(crate) fn all_terms(
     alloc: Global,
     parents: &[(Pid, usize)],
@@ -249,8 +246,7 @@ pub(crate) fn all_terms(
     Ok(runs)
 }
 
-// The run of terms of a parent with these groups. The names that are freed in them come first in the list, and are taken
-// out of it.
+// The run of terms of a parent with these groups. Removes their lists of freed entries, which come first, from `freed`.
 fn next_terms(
     alloc: Global,
     freed: &mut VecDeque<Vec<Name>>,
@@ -268,7 +264,7 @@ fn next_terms(
     terms(alloc, gone, come)
 }
 
-// The next `count` lists of names, joined.
+// Removes the next `count` lists of entries and concatenates them.
 fn next_names(
     alloc: Global,
     lists: &mut VecDeque<Vec<Name>>,
@@ -289,7 +285,7 @@ fn next_names(
     Ok(names)
 }
 
-// The names of the groups' new pieces, from left to right.
+// The entries for the groups' new pages, from left to right.
 fn new_names(alloc: Global, all: &[Rewritten]) -> Result<Vec<Name>, AllocError>
     ensures { IfOk result (λ names. names.items ≡ flat_map fresh_names all.now) }
 {
@@ -300,7 +296,7 @@ fn new_names(alloc: Global, all: &[Rewritten]) -> Result<Vec<Name>, AllocError>
     Ok(names)
 }
 
-// Adds the names of pages with these numbers.
+// Appends the entries for these pages under these page ids.
 fn push_names(
     alloc: Global,
     pages: &[Page<Global>],
@@ -319,7 +315,7 @@ fn push_names(
 }
 
 impl Rewritten {
-    /// The members, the pages that are made of them, and the numbers of all of these but the first.
+    /// The members, the new pages, and the page ids of all new pages except the first.
     pub(crate) fn into_parts(self) -> (Vec<Pid>, Vec<Page<Global>>, Vec<u64>)
         ensures { self ≡
             record { members = result.0.items; pieces = result.1.items; fresh = result.2.items } }
@@ -332,7 +328,7 @@ impl Rewritten {
         (members, pieces, fresh)
     }
 
-    /// The names of the pieces, the first under the first member's page id.
+    /// The entries for all pages of the group, the first one under the first member's page id.
     pub(crate) fn names(&self, alloc: Global) -> Result<Vec<Name>, AllocError>
         ensures { IfOk result (λ names. names.items ≡
             named_pages self.now.pieces (take 1 self.now.members ++ self.now.fresh)) }
@@ -352,7 +348,7 @@ impl Rewritten {
         Ok(names)
     }
 
-    // All pieces but the first: they get numbers of their own.
+    // All new pages except the first: they need page ids of their own.
     fn new_pieces(&self) -> &[Page<Global>]
         ensures { result.now ≡ drop 1 self.now.pieces }
     {
@@ -362,7 +358,7 @@ impl Rewritten {
         }
     }
 
-    // Draws the numbers of the new pieces. Where that is refused, nothing has changed.
+    // Allocates the page ids of the new pages. If that fails, nothing changes.
     fn draw(&mut self, tree: &mut Tree<Global>) -> Result<(), AllocError>
         requires { 0 < length self.old.pieces }
         ensures numbers { OnOk result (self.new ≡ record self.old {

@@ -1,4 +1,4 @@
-//! Which groups of a level are rewritten, found from the pages that call for it: thin ones and fat ones. Only their parents
+//! Finds the groups of a level that are rewritten, starting from the thin and fat pages. Only the parents of such pages
 //! are visited.
 ghost use Rattle.std.specs.Prelude.{◌≡◌, ℕ, ◌≤◌, false, List, [], ◌∷◌, ◌++◌, map, drop, length, Some, IsSome, MatchOption, IfOk, OnOk};
 ghost use Rattle.std.specs.List.{AllByRecursion, filter};
@@ -21,14 +21,14 @@ use std::alloc::{AllocError, Global};
 /// The groups of a level that are rewritten, from left to right, and their parents.
 #[derive(Drop)]
 pub(crate) struct ToRewrite<'a> {
-    /// Each parent of such groups, with how many of the groups are of its children.
+    /// Each parent of such groups, with the number of these groups among its children.
     pub(crate) parents: Vec<(Pid, usize)>,
     /// The members of each group.
     pub(crate) groups: Vec<Vec<Seen<'a>>>,
 }
 
-/// The groups of a level that are rewritten, where these of its pages got a run and the others are at home. Their parents are
-/// `depth` levels below the root. The tree is only read.
+/// Returns the groups of a level that are rewritten. `seen` are the pages of the level that got a run; the others are
+/// in the table. Their parents are `depth` levels below the root. Only reads the tree.
 pub(crate) fn rewrites<'a>(
     alloc: Global,
     tree: &'a Tree<Global>,
@@ -53,7 +53,6 @@ pub(crate) fn rewrites<'a>(
     Ok(rewrites)
 }
 
-// The pages from this place on.
 fn left_from<'s, 'a>(seen: &'s [Seen<'a>], done: usize) -> &'s [Seen<'a>]
     requires { done ≤ length seen.now }
     ensures { result.now ≡ drop done seen.now }
@@ -75,7 +74,7 @@ fn first_call<'a>(seen: &[Seen<'a>]) -> Option<&'a [u8]>
     None
 }
 
-// The page id of the index page, `depth` levels below the root, in whose range the key is.
+// The page id of the index page, `depth` levels below the root, whose range contains the key.
 fn parent_of(tree: &Tree<Global>, depth: u32, key: &[u8]) -> Pid
     requires { (ps : List (Placed ℕ)) × (ups : List (List (Placed ℕ))) ×
         AreParents tree.now depth ps ups }
@@ -92,8 +91,8 @@ fn parent_of(tree: &Tree<Global>, depth: u32, key: &[u8]) -> Pid
     pid
 }
 
-// Adds the groups of the parent's children that are rewritten. Returns the place after the last of these pages that is a
-// child of the parent.
+// Appends the groups of the parent's children that are rewritten. Returns the place after the last of the pages `seen`
+// that is a child of the parent.
 fn add_family<'a>(
     alloc: Global,
     tree: &'a Tree<Global>,
@@ -122,7 +121,7 @@ fn add_family<'a>(
     Ok(following)
 }
 
-// The parent's children as they are seen now, and the place after the last of these pages that is one.
+// The parent's children after their runs, and the place after the last of the pages `seen` among them.
 fn family<'a>(
     alloc: Global,
     tree: &'a Tree<Global>,
@@ -152,7 +151,7 @@ fn family<'a>(
     Ok((children, next))
 }
 
-// The child with this low key and page id: the next of the pages, or one that got no run.
+// The child with this low key and page id: the next page of `seen`, or a page that got no run.
 fn next_child<'a>(
     tree: &'a Tree<Global>,
     seen: &[Seen<'a>],
@@ -176,7 +175,7 @@ fn next_child<'a>(
     child
 }
 
-// Whether there is a page at this place, with this low key.
+// Whether there is a page at this place with this low key.
 fn has_low(seen: &[Seen<'_>], at: usize, low: &[u8]) -> bool
     ensures { result ≡ begins_at low.now (all_seen (drop at seen.now)) }
 {
@@ -186,7 +185,7 @@ fn has_low(seen: &[Seen<'_>], at: usize, low: &[u8]) -> bool
     }
 }
 
-// How many of the pages have a low key below this one. It is found by halves.
+// How many of the pages have low keys below `key`. Takes a binary search.
 fn count_below(seen: &[Seen<'_>], key: &[u8]) -> usize
     requires { (before : List SeenPage) × (from : List SeenPage) ×
         AreParted key.now (all_seen seen.now) before from }
@@ -218,7 +217,6 @@ fn page_at_home(tree: &Tree<Global>, pid: Pid) -> Seen<'_>
     }
 }
 
-// Adds the groups of these children that are rewritten.
 fn add_groups<'a>(
     alloc: Global,
     children: &[Seen<'a>],
@@ -239,7 +237,6 @@ fn add_groups<'a>(
     Ok(())
 }
 
-// Adds the group, if it is rewritten.
 fn add_group<'a>(
     alloc: Global,
     group: &[Seen<'a>],
@@ -254,7 +251,6 @@ fn add_group<'a>(
     Ok(())
 }
 
-// The classes of these children.
 fn classes_of(alloc: Global, children: &[Seen<'_>]) -> Result<Vec<Class>, AllocError>
     ensures { IfOk result (λ classes. classes.items ≡ map (λ x. x.class) children.now) }
 {
@@ -265,7 +261,7 @@ fn classes_of(alloc: Global, children: &[Seen<'_>]) -> Result<Vec<Class>, AllocE
     Ok(classes)
 }
 
-// Whether the group is rewritten: it has several members, or a fat one.
+// Whether the group is rewritten: it has several members, or a single fat one.
 fn is_rewritten(group: &[Seen<'_>]) -> bool
     ensures { result ≡ is_rewritten_seen (all_seen group.now) }
 {

@@ -1,5 +1,5 @@
-//! What a climb does to the mapping table: parents are taken, worked and put back; in the end, by moves alone, pages come
-//! home and groups are replaced.
+//! The changes of a climb to the mapping table: parents are checked out, updated and put back; at the end, pages are
+//! put back and groups are replaced by steps that cannot fail.
 ghost use Rattle.std.specs.Prelude.{◌≡◌, map, Some, None, IsSome, IfOk, OnErr, OnOk};
 ghost use Rattle.std.specs.List.{AllByRecursion};
 ghost use Rattle.std.specs.Vec.Iter.{into_iter_items};
@@ -20,7 +20,7 @@ use std::alloc::{AllocError, Global};
 use std::thread::Threads;
 use std::vec::IntoIter;
 
-/// Takes the parents out of the tree, and works each with the run of its terms. Where memory is refused, the tree is as it was.
+/// Checks the parents out and applies to each the run of its terms. If allocation fails, the tree is unchanged.
 pub(crate) fn work_parents(
     rt: &(impl Threads + Sync),
     crew: Crew,
@@ -53,7 +53,7 @@ pub(crate) fn work_parents(
     }
 }
 
-// Takes the parents out of the tree, as jobs.
+// Checks the parents out, as jobs.
 fn take_all(
     alloc: Global,
     tree: &mut Tree<Global>,
@@ -77,7 +77,6 @@ fn take_all(
     Ok(jobs)
 }
 
-// Puts the pages of the jobs back into their places.
 fn put_back(tree: &mut Tree<Global>, jobs: Vec<TermJob>)
     requires { AreAway tree.old.table (map (λ j. j.pid) jobs.items) }
     ensures { tree.new ≡ record tree.old {
@@ -89,7 +88,6 @@ fn put_back(tree: &mut Tree<Global>, jobs: Vec<TermJob>)
     }
 }
 
-// Puts the page of the job back into its place.
 fn put_job_back(tree: &mut Tree<Global>, job: TermJob)
     requires { place_of tree.old.table job.pid ≡ Some None }
     ensures { tree.new ≡ record tree.old {
@@ -104,7 +102,7 @@ fn put_job_back(tree: &mut Tree<Global>, job: TermJob)
     tree.put(pid, page);
 }
 
-/// Undoes what was made of the parents, and puts them back into their places as they were. It takes no memory.
+/// Undoes the changes of the parents, and puts the original pages back. Does not allocate.
 pub(crate) fn undo_parents(
     alloc: Global,
     settings: &Settings,
@@ -125,8 +123,9 @@ pub(crate) fn undo_parents(
     }
 }
 
-/// Puts the pages home after their runs. What is left of the leaves' work, those that were replaced among it, the crew drops, since
-/// that takes as long as to make new ones. It needs no memory: where there is none to keep that for the crew, it is dropped leaf by leaf.
+/// Puts the pages back after their runs. The crew drops the remains of the leaves' work, for example replaced leaves,
+/// because that takes as long as making new ones. If there is no memory to collect the remains for the crew, drops them
+/// one by one instead.
 pub(crate) fn put_home<D: WorkedPage>(
     rt: &(impl Threads + Sync),
     crew: Crew,
@@ -141,7 +140,7 @@ pub(crate) fn put_home<D: WorkedPage>(
     drop_all(rt, crew, rests_once_home(alloc, tree, dones))
 }
 
-// Puts the pages home, and returns what is left of their work, as far as there is room for it.
+// Puts the pages back, and returns the remains of their work, as far as there is room for them.
 fn rests_once_home<D: WorkedPage>(
     alloc: Global,
     tree: &mut Tree<Global>,
@@ -159,7 +158,7 @@ fn rests_once_home<D: WorkedPage>(
     rests
 }
 
-// Appends the item, if there is one, and the list has room for it.
+// Appends the item, if there is one and the list has room for it.
 fn keep_if_room<T: Drop>(items: &mut Vec<T>, item: Option<T>) {
     if let Some(item) = item {
         if items.len() < items.capacity() {
@@ -168,7 +167,8 @@ fn keep_if_room<T: Drop>(items: &mut Vec<T>, item: Option<T>) {
     }
 }
 
-// Puts the page home after its run, and returns what is left of its work. Where it was replaced, the log doesn't know it.
+// Puts the page back after its run, and returns the remains of its work. If the page was replaced, its log state
+// becomes outdated.
 fn come_home<D: WorkedPage>(tree: &mut Tree<Global>, done: D) -> Option<LeafRest>
     requires { place_of tree.old.table (D.seen_page done).pid ≡ Some None }
     ensures { tree.new ≡ record tree.old { table = come_home tree.old.table (D.seen_page done) } }
@@ -183,8 +183,8 @@ fn come_home<D: WorkedPage>(tree: &mut Tree<Global>, done: D) -> Option<LeafRest
     rest
 }
 
-/// Puts the pieces of the groups into their places, and gives up those of the members that are freed. All members are at
-/// home. It takes no memory.
+/// Puts the new pages of the groups into the tree, and frees the members that they replace. All members must be in the
+/// tree. Does not allocate.
 pub(crate) fn install_all(tree: &mut Tree<Global>, all: Vec<Rewritten>)
     requires { CanInstallAll tree.old.table all.items }
     ensures { tree.new ≡ record tree.old { table = all_installed tree.old.table all.items } }
@@ -194,7 +194,7 @@ pub(crate) fn install_all(tree: &mut Tree<Global>, all: Vec<Rewritten>)
     }
 }
 
-// Replaces the members of the group by its pieces. It takes no memory.
+// Replaces the members of the group by its new pages. Does not allocate.
 fn install(tree: &mut Tree<Global>, group: Rewritten)
     requires { CanInstall tree.old.table group }
     ensures { tree.new ≡ record tree.old { table = group_installed tree.old.table group } }
@@ -209,7 +209,7 @@ fn install(tree: &mut Tree<Global>, group: Rewritten)
     put_pieces(tree, &fresh, rest);
 }
 
-// Puts the page into the place of another, which the log doesn't know then.
+// Replaces the page at `place`; its log state becomes outdated.
 fn replace(tree: &mut Tree<Global>, place: Pid, page: Page<Global>)
     requires { IsSome (page_of tree.old.table place) }
     ensures { tree.new ≡ record tree.old {
@@ -221,7 +221,6 @@ fn replace(tree: &mut Tree<Global>, place: Pid, page: Page<Global>)
     tree.put(place, page);
 }
 
-// Gives up the pages and their places.
 fn free_members(tree: &mut Tree<Global>, pids: &[Pid])
     requires { AllByRecursion (λ pid. IsSome (page_of tree.old.table pid)) pids.now ×
         Distinct pids.now }
@@ -233,7 +232,7 @@ fn free_members(tree: &mut Tree<Global>, pids: &[Pid])
     }
 }
 
-/// Puts each page into its place, from which it is away.
+/// Puts each page into its place, which has none.
 pub(crate) fn put_pieces(tree: &mut Tree<Global>, pids: &[u64], pages: IntoIter<Page<Global>>)
     requires { AreAway tree.old.table pids.now }
     ensures { tree.new ≡

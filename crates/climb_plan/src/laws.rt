@@ -1,4 +1,4 @@
-//! What the plan means. Each law is the contract of a function with an empty body.
+//! Laws about the plan of a batch. Each law is the contract of a function with an empty body.
 ghost use Rattle.std.specs.Prelude.{◌≡◌, ◌↔◌, ◌⊎◌, ℕ, ◌+◌, true, false, not, List, [], ◌∷◌, ◌++◌, map, drop, length, None, Some, if◌then◌else◌};
 ghost use Rattle.std.specs.List.{AllByRecursion, Any, filter, range_with_len};
 ghost use Rattle.std.specs.Map.{keys_of};
@@ -28,30 +28,30 @@ ghost use Rattle.climb_plan.specs.Plan.{batch_climb, plan, outdated_pids, shrunk
 
 use std::alloc::Allocator;
 
-/// What the plan of a proper store holds is the map after the commands. It says nothing of replies: a plan has none. They
-/// come by the law of `page_runs` that commands on some keys may be worked apart from the others.
+/// The contents of the planned store are the map after the commands. (A plan has no replies: `page_runs` has the law
+/// about the commands on some keys, from which they follow.)
 pub fn the_plan_holds_the_map_after_the_commands<A: Allocator>()
     ensures { (s : Settings) (st : Store) (cs : List (Command A)) →
         first_bad_field s ≡ None → IsProper s st.tree →
         contents (plan s st cs).tree ≡ map_after_all (contents st.tree) cs }
 {}
 
-/// The plan of a proper store is proper, where the commands' keys and values are within the settings.
+/// The plan of a proper store is proper, if the commands' keys and values are within the settings.
 pub fn the_plan_of_a_proper_store_is_proper<A: Allocator>()
     ensures { (s : Settings) (st : Store) (cs : List (Command A)) →
         first_bad_field s ≡ None → IsProper s st.tree → AreShort s cs →
         IsProper s (plan s st cs).tree }
 {}
 
-/// What was true of the log stays true: where it has the base and k runs of a pid, there is a page with k runs or more.
+/// True log states stay true: if the log contains the base and k runs of a pid, there is a page with at least k runs.
 pub fn the_log_states_stay_true<A: Allocator>()
     ensures { (s : Settings) (st : Store) (cs : List (Command A)) →
         first_bad_field s ≡ None → IsProper s st.tree → AreLogsTrue st.tree →
         AreLogsTrue (plan s st cs).tree }
 {}
 
-/// What a batch doesn't touch. What the log has of a pid changes exactly where the pid is outdated, from `Upto` to `Old`. A
-/// page whose pid isn't outdated stands as it did, with newer runs in front, whether the log knows it or not.
+/// What a batch leaves unchanged. The log state of a pid changes if and only if the pid is outdated, from `Upto` to
+/// `Old`. A page whose pid isn't outdated keeps its contents, with newer runs in front, whatever its log state is.
 pub fn what_is_not_outdated_stands<A: Allocator>()
     ensures logged { (s : Settings) (st : Store) (cs : List (Command A)) (pid : ℕ) →
         logged_of (plan s st cs).tree pid ≡ (if is_among pid (outdated_pids s st.tree cs)
@@ -62,9 +62,9 @@ pub fn what_is_not_outdated_stands<A: Allocator>()
         (q : PageOfKind) × (page_at (plan s st cs).tree.pages pid ≡ Some q) × IsPageOver p q }
 {}
 
-/// Which pids are outdated: those of the climb, and those that went with the old root. Of a climb they are on the highest
-/// level the outdated ones of its one group, and on a level below those of the groups of its families, and what the climb
-/// goes on to outdate above. Each was in use, so a fresh pid keeps what the log has of it.
+/// The outdated pids are those of the climb and those removed with the old root. In a climb, they are on the highest
+/// level the outdated ones of its single group; on a level below, those of its families' groups and those of the climb
+/// above. Each was in use, so a fresh pid keeps its log state.
 pub fn outdated_pids_are_those_of_groups_and_of_the_old_root<A: Allocator, V>()
     ensures plan { (s : Settings) (t : Tree) (cs : List (Command A)) (pid : ℕ) →
         (is_among pid (outdated_pids s t cs) ≡ true) ↔
@@ -83,8 +83,8 @@ pub fn outdated_pids_are_those_of_groups_and_of_the_old_root<A: Allocator, V>()
         (worked_parents s parents (map terms css)) ups).outdated ≡ true)) }
 {}
 
-/// The root shrinks while it has one child: the levels that go are the highest, each of them is one page with one child,
-/// and the highest that stays is not one.
+/// The root shrinks while it has one child: the removed levels are the highest ones, each of them is one page with one
+/// child, and the highest remaining level is not.
 pub fn the_root_shrinks_while_it_has_one_child()
     ensures joined { (ls : List (List (Placed ℕ))) →
         kept_levels ls ++ drop (length (kept_levels ls)) ls ≡ ls }
@@ -94,8 +94,8 @@ pub fn the_root_shrinks_while_it_has_one_child()
         kept_levels ls ≡ lower ++ top ∷ [] → is_lone top ≡ false }
 {}
 
-/// Commands that come to nothing, a batch of gets among them, leave the store as it is: every page, the root, the height,
-/// and what the log has; no pid is outdated.
+/// Commands whose net run is empty, for example a batch of gets, leave the store unchanged: every page, the root, the
+/// height and the log states. No pid is outdated.
 pub fn commands_that_come_to_nothing_change_nothing<A: Allocator>()
     ensures store { (s : Settings) (st : Store) (cs : List (Command A)) → IsProper s st.tree →
         net_run (contents st.tree) cs ≡ [] → plan s st cs ≡ st }
@@ -105,8 +105,8 @@ pub fn commands_that_come_to_nothing_change_nothing<A: Allocator>()
         plan {A = A} s st (map (λ k. Get k) keys) ≡ st }
 {}
 
-/// The pids of new pages are the numbers not in use, from the least on without a gap, in the order in which the pages
-/// stand: level by level from the leaves up, and on a level from left to right.
+/// The pids of new pages are the unused numbers, from the least on and without gaps, in the order of the pages: level
+/// by level from the leaves up, and within a level from left to right.
 pub fn new_pages_are_numbered_in_order<A: Allocator>()
     ensures { (s : Settings) (st : Store) (cs : List (Command A)) →
         first_bad_field s ≡ None → IsProper s st.tree →
@@ -115,8 +115,9 @@ pub fn new_pages_are_numbered_in_order<A: Allocator>()
         ≡ map (unused (keys_of st.tree.pages)) (range_with_len 0 n)) }
 {}
 
-/// What the log has of a page stays true. The plan gives no pid more than the log had of it, and takes away no page from
-/// one that it had none of. A page whose base and runs the log still has stands as it did, with newer runs in front.
+/// Log states stay true. After the batch, a pid has the log state `No` if and only if it had that state before, and
+/// `Upto k` only if it had that state before. A page whose log state is still `Upto k` keeps its contents, with newer
+/// runs in front.
 pub fn what_the_log_has_of_a_page_stays_true<A: Allocator>()
     ensures none { (s : Settings) (st : Store) (cs : List (Command A)) (pid : ℕ) →
         (logged_of st.tree pid ≡ No) ↔ (logged_of (plan s st cs).tree pid ≡ No) }

@@ -1,4 +1,4 @@
-//! One level of a climb: its groups are cut and get their numbers, and its parents are worked.
+//! One level of a climb: rewrites its groups, allocates their page ids, and updates its parents.
 ghost use Rattle.std.specs.Prelude.{◌≡◌, ◌<◌, map, IfOk, OnOk, OnErr};
 ghost use Rattle.mapping.specs.Proper.{AreRisingPids};
 ghost use Rattle.mapping.specs.Table.{pids_in_use};
@@ -19,15 +19,17 @@ use split_plan::Name;
 use std::alloc::{AllocError, Global};
 use std::thread::Threads;
 
-/// What became of a level: its groups, rewritten, with the numbers of their new pieces, and their parents, worked.
+/// The changes of a level: its rewritten groups, with the page ids of their new pages, and its parents, after their
+/// terms.
 #[derive(Drop)]
 pub(crate) struct Changed {
     pub(crate) groups: Vec<Rewritten>,
     pub(crate) parents: Vec<TermDone>,
 }
 
-/// Cuts the groups of a level that are rewritten, draws the numbers of their new pieces, and works their parents, which are `depth`
-/// levels below the root. `dones` are the pages of the level that were worked. Where memory is refused, the tree is as it was.
+/// Rewrites the groups of this level, allocates page ids for the new pages, and applies the resulting terms to their
+/// parents, which are `depth` levels below the root. `dones` are the pages of the level that got runs. If allocation
+/// fails, the tree is unchanged.
 #[inline(never)]
 pub(crate) fn change_level<D: WorkedPage>(
     rt: &(impl Threads + Sync),
@@ -64,8 +66,7 @@ pub(crate) fn change_level<D: WorkedPage>(
     }
 }
 
-// Takes these parents out of the tree, and works each with the terms of its groups. Where memory is refused, the tree is as
-// it was.
+// Checks out these parents, and applies to each the terms of its groups. If allocation fails, the tree is unchanged.
 fn tell_parents(
     rt: &(impl Threads + Sync),
     crew: Crew,
@@ -97,18 +98,16 @@ fn tell_parents(
     work_parents(rt, crew, gate, alloc, settings, tree, termed)
 }
 
-// The groups of a level that are rewritten, cut.
+// The groups of a level that are rewritten, after the split.
 #[derive(Drop)]
 struct CutLevel {
-    // Their parents, with how many of the groups each has.
+    // Their parents, each with the number of its groups.
     parents: Vec<(Pid, usize)>,
-    // The names that are freed in each group.
+    // The freed entries of each group.
     freed: Vec<Vec<Name>>,
-    // The groups.
     groups: Vec<Rewritten>,
 }
 
-// Cuts the groups of a level that are rewritten.
 fn cut_level<D: WorkedPage>(
     rt: &(impl Threads + Sync),
     crew: Crew,

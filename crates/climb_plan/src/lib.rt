@@ -1,8 +1,9 @@
-//! What a batch makes of the levels of a tree, from the leaves up to the root.
+//! The effect of a batch on the levels of a tree, from the leaves up to the root.
 //!
-//! `specs/` has the plan of a batch, and its laws stand in `laws`. The climb makes the tree of that plan, level by level from the
-//! leaves up: which groups of a level are rewritten, what is made of them, and the runs that their parents get; then, from the
-//! root down, what is done to the mapping table. Other crates name items by this root, and laws by the public module `laws`.
+//! `specs/` defines the plan of a batch, and `laws` has the laws about it. The climb makes the tree of that plan, level
+//! by level from the leaves up: it finds the groups that are rewritten, makes their new pages, and computes the runs
+//! for their parents. Then it changes the mapping table, from the root down. Other crates name items by this root, and
+//! laws by the public module `laws`.
 #![tactic(auto)]
 
 mod ascent;

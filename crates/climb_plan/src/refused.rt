@@ -1,13 +1,13 @@
-//! Why a climb is refused.
+//! The errors of a climb.
 ghost use Rattle.std.specs.Prelude.{◌≡◌};
 ghost use Rattle.climb_plan.specs.declared.refused.Refused.TheVariants.{NoMemory};
 
 use std::alloc::AllocError;
 
-/// Why a climb is refused. The tree is as it was then.
+/// Why a climb failed. The tree is unchanged.
 #[derive(Clone, Copy, Debug, PartialEq, Eq)]
 pub enum Refused {
-    /// Memory was refused.
+    /// An allocation failed.
     NoMemory,
     /// The tree would have more than 64 levels.
     TooHigh,

@@ -1,4 +1,4 @@
-//! The root: levels grow above it where it was cut.
+//! New levels above a root that was split.
 ghost use Rattle.std.specs.Prelude.{◌≡◌, ◌+◌, ◌<◌, ◌≤◌, Err, length, IfOk, OnErr};
 ghost use Rattle.keys.specs.Order.{IsRising};
 ghost use Rattle.mapping.specs.Proper.{AreRisingPids};
@@ -21,10 +21,10 @@ use std::alloc::{AllocError, Global};
 // The most levels that a tree may have.
 const MOST_LEVELS: u32 = 64;
 
-/// Grows levels of index pages above pages of these names, until one page is left, and puts them into the tree's table: the
-/// page id of the top, and how many levels the tree has then, where it had `height` with the named pages on top. The tree
-/// keeps its root and height. Where it is refused, for lack of memory or because there would be more than 64 levels, the
-/// tree is as it was.
+/// Adds levels of index pages above the pages with these entries until one page is left, and puts them into the tree's
+/// table. Returns the page id of that page and the number of levels, where the pages with these entries are the top of
+/// a tree of `height` levels. Does not change the tree's root and height. If allocation fails, or there would be more
+/// than 64 levels, the tree is unchanged.
 pub(crate) fn grow(
     alloc: Global,
     settings: &Settings,
@@ -66,7 +66,7 @@ pub(crate) fn grow(
     }
 }
 
-// Draws page ids for these pages, and gives their names. Where memory is refused, the tree is as it was.
+// Allocates page ids for these pages, and returns the pages' entries. If allocation fails, the tree is unchanged.
 fn draw_names(
     alloc: Global,
     tree: &mut Tree<Global>,
@@ -90,7 +90,7 @@ fn draw_names(
     }
 }
 
-// Draws `count` new page ids, whose places are away.
+// Allocates `count` new page ids, which have no pages yet.
 fn draw(tree: &mut Tree<Global>, count: usize) -> Result<Vec<u64>, AllocError>
     requires { AreRisingPids (pids_in_use tree.old.table) }
     ensures pids { IfOk result (λ pids. pids.items ≡
@@ -103,7 +103,7 @@ fn draw(tree: &mut Tree<Global>, count: usize) -> Result<Vec<u64>, AllocError>
     Ok(pids)
 }
 
-// The names of these pages under these page ids.
+// The entries of these pages under these page ids.
 fn names_of(alloc: Global, pages: &[Page<Global>], pids: &[u64]) -> Result<Vec<Name>, AllocError>
     requires { length pages.now ≡ length pids.now }
     ensures { IfOk result (λ names. names.items ≡ named_pages pages.now pids.now) }

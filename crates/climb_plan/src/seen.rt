@@ -1,4 +1,4 @@
-//! The pages of a level after their runs, as their parents see them.
+//! The pages of a level after their runs, as seen by their parents.
 ghost use Rattle.std.specs.Prelude.{◌≡◌, map, IfOk};
 ghost use Rattle.index_page.specs.Page.PageOfKind.{Leaf, Index};
 ghost use Rattle.climb_plan.specs.Changing.{page_seen};
@@ -11,7 +11,7 @@ use keys::Pid;
 use page_runs::{Class, LeafDone, LeafRest, TermDone};
 use std::alloc::{AllocError, Global};
 
-/// A page of a level after its run, as its parent sees it.
+/// A page of a level after its run, as seen by its parent.
 #[derive(Clone, Copy)]
 pub(crate) struct Seen<'a> {
     pub(crate) pid: Pid,
@@ -21,7 +21,7 @@ pub(crate) struct Seen<'a> {
 }
 
 impl<'a> Seen<'a> {
-    /// The same view of the page.
+    /// Returns a copy of this view.
     pub(crate) fn again(&self) -> Seen<'a>
         ensures { result ≡ self.now }
     {
@@ -33,7 +33,7 @@ impl<'a> Seen<'a> {
         }
     }
 
-    /// Whether the page may have to be cut or merged: it is thin or fat.
+    /// Whether the page may have to be split or merged: it is thin or fat.
     pub(crate) fn calls(&self) -> bool
         ensures { result ≡ (is_thin_class self.now.class || is_fat_class self.now.class) }
     {
@@ -41,7 +41,7 @@ impl<'a> Seen<'a> {
     }
 }
 
-/// A page that was worked, of either kind.
+/// A page of either kind after its run.
 pub(crate) trait WorkedPage: Drop {
     ghost use Rattle.std.specs.Prelude.{◌≡◌};
     ghost use Rattle.index_page.specs.Page.{Page, PageOfKind};
@@ -49,34 +49,34 @@ pub(crate) trait WorkedPage: Drop {
     ghost use Rattle.climb_plan.specs.Changing.{SeenPage, page_seen};
     ghost use Rattle.climb_plan.specs.Level.{IsKind};
 
-    // What its pages have at their keys.
+    // The cells of its pages.
     ghost Cells: { Type 0 };
 
     // A page of its kind.
     ghost of: { Page Cells → PageOfKind };
 
-    // What its run made of it.
+    // The page after its run.
     ghost outcome: { Self → Worked Cells };
 
     // The page under its pid, its class, and whether it was replaced.
     ghost seen_page: { Self → SeenPage };
 
-    /// The page, as its parent sees it.
+    /// The page as seen by its parent.
     fn as_seen(&self) -> Seen<'_>
         ensures { seen_now result ≡ seen_page self.now };
 
-    /// The pages' kind is one: a law, which does nothing.
+    /// A law, without effect: the type is one of the two kinds of pages.
     fn is_of_a_kind()
         ensures { IsKind of };
 
-    /// The page, for good, and what is left of a leaf's work.
+    /// Splits into the page and the remains of a leaf's work. The work can no longer be undone.
     fn into_parts(self) -> (Page<Global>, Option<LeafRest>)
         ensures { result.0 ≡ (seen_page self).page };
 
-    /// Room for what is left of the work of `count` pages, as far as there is memory.
+    /// A list with room for the remains of `count` pages, or without room if allocation fails.
     fn room_for_rests(alloc: Global, count: usize) -> Vec<LeafRest>;
 
-    // It is seen as what its run made of it.
+    // The parent's view is that of the page after its run.
     ghost seen_as_worked: { (d : Self) → seen_page d ≡ page_seen of (outcome d) };
 }
 
@@ -148,7 +148,7 @@ impl WorkedPage for TermDone {
     }
 }
 
-/// The pages, as their parents see them.
+/// The pages as seen by their parents.
 pub(crate) fn see_all<D: WorkedPage>(
     alloc: Global,
     dones: &[D],

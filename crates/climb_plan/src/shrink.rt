@@ -1,4 +1,4 @@
-//! The root shrinks while it has one child.
+//! Shrinks the root while it has one child.
 ghost use Rattle.std.specs.Prelude.{◌≡◌, ℕ, ◌-◌, ◌<◌, List, IsSome};
 ghost use Rattle.keys.specs.Bytes.{Bytes};
 ghost use Rattle.keys.specs.Order.{IsRising};
@@ -12,7 +12,7 @@ use keys::Pid;
 use mapping::Tree;
 use std::alloc::Global;
 
-/// While the root is an index page with one child, gives up its place, and the child is the root. It takes no memory.
+/// While the root is an index page with one child, frees the root and makes the child the root. Does not allocate.
 pub(crate) fn shrink(tree: &mut Tree<Global>)
     requires { (level : List (Placed Bytes)) × (ls : List (List (Placed ℕ))) ×
         CanShrink tree.old level ls }
@@ -27,7 +27,7 @@ pub(crate) fn shrink(tree: &mut Tree<Global>)
     }
 }
 
-// Gives up the root and its place: this page, one level below, is the root then.
+// Frees the root, and makes its child, one level below, the root.
 fn lower_root(tree: &mut Tree<Global>, child: Pid)
     requires home { IsSome (page_of tree.old.table tree.old.root) }
     requires some { 1 < tree.old.height }
@@ -43,7 +43,7 @@ fn lower_root(tree: &mut Tree<Global>, child: Pid)
     tree.set_root(child, tree.height() - 1);
 }
 
-// The page id of the root's child, where the root is an index page with just one.
+// The page id of the root's child, if the root is an index page with exactly one.
 fn only_child(tree: &Tree<Global>) -> Option<Pid>
     requires { IsRising (child_entries (page_or_none (page_of tree.now.table tree.now.root))) }
     ensures { result ≡

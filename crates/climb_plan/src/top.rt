@@ -1,4 +1,4 @@
-//! The highest level of a climb: its one page is the root.
+//! The highest level of a climb: its only page is the root.
 ghost use Rattle.std.specs.Prelude.{◌≡◌, ◌<◌, ◌≤◌, ◌+◌, [], ◌∷◌, Err, map, length, IfOk, IfErr, OnOk, OnErr};
 ghost use Rattle.std.specs.List.{filter};
 ghost use Rattle.keys.specs.Order.{IsRising};
@@ -23,8 +23,8 @@ use split_plan::Name;
 use std::alloc::{AllocError, Global};
 use std::thread::Threads;
 
-/// Climbs from the root, which was worked and is the one page of this list: it is cut where it is fat, and levels grow above it. Where it
-/// is refused, the tree is as it was, and the page comes back as it was given.
+/// Climbs from the root, to which a run was applied and which is the only page of this list: splits it if it is fat,
+/// and adds levels above. On failure, the tree is unchanged, and the page is returned as it was given.
 #[inline(never)]
 pub(crate) fn climb_root<D: WorkedPage>(
     rt: &(impl Threads + Sync),
@@ -58,8 +58,8 @@ pub(crate) fn climb_root<D: WorkedPage>(
     }
 }
 
-// Cuts the root where it is fat, draws the numbers of its new pieces, and grows levels above them: the group, if it is one, the new root and
-// the number of levels. Where it is refused, the tree is as it was.
+// Splits the root if it is fat, allocates the page ids of the new pages, and adds levels above them. Returns the group,
+// if the root was split, the new root and the number of levels. On failure, the tree is unchanged.
 fn change_root<D: WorkedPage>(
     rt: &(impl Threads + Sync),
     crew: Crew,
@@ -92,7 +92,7 @@ fn change_root<D: WorkedPage>(
     }
 }
 
-// The root as a group by itself, cut, where it is fat.
+// The root as a group by itself, split, if it is fat.
 fn cut_root<D: WorkedPage>(
     rt: &(impl Threads + Sync),
     crew: Crew,
@@ -115,7 +115,7 @@ fn cut_root<D: WorkedPage>(
     cut_all(rt, crew, gate, alloc, settings, &groups)
 }
 
-// Grows levels above the root's pieces, if it was cut. Where it is refused, the tree is as it was.
+// Adds levels above the new pages of the root, if it was split. On failure, the tree is unchanged.
 fn grow_above(
     alloc: Global,
     settings: &Settings,

@@ -1,4 +1,4 @@
--- Cells that are moved out of a page one by one, and back.
+-- Cells that are moved out of a page one by one, and moved back.
 use Rattle.std.specs.Prelude.{◌≡◌, ◌≢◌, ◌<◌, ◌≤◌, ◌-◌, ℕ, zero, suc, List, [], ◌∷◌, ◌++◌, length, take, drop, slice_get, Option, Some, None}
 use Rattle.std.proofs.Common.{refl, sym, ap, ◌∙◌, arith, Less}
 use Rattle.std.proofs.lemmas.List.{take_all}
@@ -86,7 +86,7 @@ module _ {V : Type 0} where
       ap (λ (x : List ℕ). pair x e.1 ∷ []) s ∙ ap (λ (x : V). pair k x ∷ []) u
   take_one (e ∷ es) (suc at) k w h j = ap (λ (x : List (List ℕ × V)). e ∷ x) (take_one es at k w h j)
 
-  -- what stands at a place, by what stands from there on
+  -- the entry at a place is the first of the entries from that place on
   front_of : (es : List (List ℕ × V)) (n : ℕ) (e : List ℕ × V) (rest : List (List ℕ × V)) → drop n es ≡ e ∷ rest → (slice_get (keys_of es) n ≡ Some e.0) × (slice_get (values_of es) n ≡ Some e.1) × (drop (suc n) es ≡ rest)
   front_of [] zero e rest h = absurd (cc)
   front_of [] (suc n) e rest h = absurd (cc)
@@ -101,7 +101,7 @@ module _ {V : Type 0} where
   put_back-push p [] e = refl
   put_back-push p (f ∷ es) e = ap (λ (q : Layers V). exchanged q f.0 f.1) (put_back-push p es e)
 
-  -- what the page that was holds at the key there is its entry's cell, and the page now holds it as well
+  -- the old page holds the cell of the entry at its key, and so does the page now
   abbrev pub HoldsFrom : Layers V → Layers V → ℕ → Type 0
   HoldsFrom was now at = (m : ℕ) (q : List ℕ) → at ≤ m → slice_get (keys_of (entries_of was)) m ≡ Some q → holds now q ≡ holds was q
 
@@ -130,7 +130,7 @@ module _ {V : Type 0} where
   pub back_one : (p : Layers V) (es : List (List ℕ × V)) (at : ℕ) (k : List ℕ) (w : V) → slice_get (keys_of es) at ≡ Some k → slice_get (values_of es) at ≡ Some w → exchanged (put_back p (drop (suc at) es)) k w ≡ put_back p (drop at es)
   back_one p es at k w h j = ap (λ (x : List (List ℕ × V)). put_back p x) (sym (drop_pair es at k w h j))
 
-  -- one more put back: the last of those that are left in the base
+  -- one more put back: the last of the remaining ones in the base
   pub within_left : (bs es : List (List ℕ × V)) (left : ℕ) → keys_of bs ≡ keys_of es → left ≤ length es → 0 < left → left - 1 < length bs
   within_left bs es left h l z = let n = length-keys bs es h in omega (arith, n, l, z)
 
@@ -166,7 +166,7 @@ module _ {V : Type 0} where
   same_under k v [] base a h = same_base_by (value_at k base) k v base refl a h
   same_under k v (run ∷ runs) base a h = same_run_by (value_at k run) k v run (record { runs = runs; base = base }) refl a.0 h (λ g. same_under k v runs base a.1 g)
 
-  -- each of these is what the page holds at its key
+  -- each of these cells is held by the page at its key
   abbrev AreHeld : Layers V → List (List ℕ × V) → Type 0
   AreHeld p es = AllByRecursion (λ (e : List ℕ × V). holds p e.0 ≡ Some e.1) es
 

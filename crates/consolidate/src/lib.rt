@@ -1,4 +1,4 @@
-//! Consolidation (the Bw-tree's word for it): a page's runs and base become one new base.
+//! Consolidation (the Bw-tree's word): replaces a page's runs and base by one new base.
 #![tactic(auto)]
 
 ghost use Rattle.std.specs.Prelude.{◌≡◌, IfOk, OnErr};
@@ -9,10 +9,11 @@ use delta_chain::{Base, Chain};
 use keys::{Cell, KeyRef};
 use std::alloc::{AllocError, Allocator};
 
-// Each key's cell is looked for in one run after another. Among more runs than these that takes longer than a copy of the cell.
+// `take_base` moves each cell out of the run that holds it, which it searches run by run. With more runs than this the
+// searches cost more than copying the cells.
 const FEW_RUNS: u64 = 8;
 
-/// The base of the page's entries: each key that is present, with a copy of its cell. The chain is only read.
+/// Returns a base of the page's entries: the keys that are present, with copies of their cells. Reads `chain` only.
 pub fn consolidate<V: Cell<A> + Drop, A: Allocator + Copy>(
     alloc: A,
     chain: &Chain<V, A>,
@@ -23,9 +24,9 @@ pub fn consolidate<V: Cell<A> + Drop, A: Allocator + Copy>(
     pairs.copied_base(alloc)
 }
 
-/// Takes the page's entries out of the chain as a base: each key that is present, with the cell itself, which is moved, and with a copy
-/// of it where the chain has many runs. What is left in the chain is to be dropped, or to be filled again by `put_back`. Where memory is
-/// refused the chain is as it was.
+/// Moves the page's entries out of `chain` into a base: the keys that are present, with their cells, or with copies of
+/// the cells if the chain has many runs. The caller must then drop the chain or refill it by `put_back`. If allocation
+/// fails, the chain is unchanged.
 pub fn take_base<V: Cell<A> + Drop, A: Allocator + Copy>(
     alloc: A,
     chain: &mut Chain<V, A>,
@@ -48,7 +49,7 @@ pub fn take_base<V: Cell<A> + Drop, A: Allocator + Copy>(
     Ok(base)
 }
 
-/// Moves the cells of a base that was made by `take_base` into the chain that it was taken out of. This undoes it, and takes no memory.
+/// Undoes `take_base`: moves the cells of the base back into the chain that they were taken from. Does not allocate.
 pub fn put_back<V: Cell<A> + Drop, A: Allocator + Copy>(
     alloc: A,
     chain: &mut Chain<V, A>,

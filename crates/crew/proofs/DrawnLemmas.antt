@@ -1,4 +1,4 @@
--- What workers bring home fills all places.
+-- The results of the workers fill all places.
 use Rattle.std.specs.Prelude.{◌≡◌, ◌≢◌, ◌⊎◌, ℕ, zero, suc, ◌+◌, ◌<◌, ◌≤◌, Bool, true, false, List, [], ◌∷◌, ◌++◌, map, length, take, drop, set, replicate, reverse, slice_get, if◌then◌else◌, ◌==◌, nat_lt, Vec, Option, Some, None, Result, Ok, Err, IfOk, IfErr}
 use Rattle.std.proofs.Common.{refl, sym, ap, subst, ◌∙◌, arith, inl, inr, ⊎_elim, length-set, length-drop}
 use Rattle.std.proofs.lemmas.List.{length-map, map-append, length-replicate, reverse-append}
@@ -160,7 +160,7 @@ module _ {W J D : Type 0} (g : Work.Ghosts W J D) where
       placed_right ts xs (set homes x.number (Some x.made)) (length-set homes x.number (Some x.made) ∙ len) fits.1
       (λ n h. filled_next ts x xs homes n (x.number == n) refl len fits.0 (filled n h))
 
-  -- ---- what nobody drew
+  -- ---- unclaimed pieces
 
   left_fits : (pieces left : List (Vec J Global)) (from : ℕ) → ((n : ℕ) → slice_get left n ≡ slice_get pieces (from + n))
       → AllByRecursion (λ x. slice_get (map (held_in g) pieces) x.number ≡ Some (origins g x.made)) (undrawn {D = D} from left)
@@ -203,7 +203,7 @@ module _ {W J D : Type 0} (g : Work.Ghosts W J D) where
   splits w pieces [] a = (tt, tt)
   splits w pieces (x ∷ xs) a = let h = splits w pieces xs a.1 in ((a.0.0, h.0), (a.0.1, h.1))
 
-  -- ---- a piece that was drawn is worked
+  -- ---- the jobs of a claimed piece are done
 
   -- what becomes of a piece is that
   pub is_worked : (w : W) (pieces : List (Vec J Global)) (number : ℕ) (piece : Vec J Global) (made : Result (Vec D Global) (Vec J Global)) → slice_get pieces number ≡ Some piece
@@ -251,7 +251,7 @@ module _ {W J D : Type 0} (g : Work.Ghosts W J D) where
   held_in_all [] = refl
   held_in_all (piece ∷ pieces) = ap (λ hs. map g.held piece.items ++ hs) (held_in_all pieces) ∙ sym (map-append g.held piece.items (jobs_of pieces))
 
-  -- all that is home is of all jobs
+  -- all collected results are of all jobs
   pub homes_held : (homes : List (Option (Result (Vec D Global) (Vec J Global)))) (pieces : List (Vec J Global)) (jobs : List J) → map (home_origins g) homes ≡ map (held_in g) pieces
       → jobs_of pieces ≡ jobs → flat_map (home_origins g) homes ≡ map g.held jobs
   homes_held homes pieces jobs same e =

@@ -1,4 +1,4 @@
--- Where the jobs of a round are does not depend on the jobs, nor on what is made of them: a round whose jobs are forgotten goes the same way.
+-- The places of a round's jobs depend neither on the jobs nor on their outputs: a round without the jobs' contents takes the same course.
 use Rattle.std.specs.Prelude.{◌≡◌, ℕ, zero, suc, ◌+◌, Bool, true, false, List, [], ◌∷◌, ◌++◌, map, length, set, replicate, eqb, if◌then◌else◌, slice_get, Option, Some, None, option_map}
 use Rattle.std.proofs.Common.{refl, sym, ap, ◌∙◌}
 use Rattle.std.proofs.lemmas.List.{map-set, map_push, map-append, length-map}
@@ -25,7 +25,7 @@ forget_pieces n (piece ∷ pieces) =
     ∙ ap (λ k. numbered n (forgotten piece) ∷ numbered_pieces (n + k) (map forgotten pieces)) (sym (length-map piece (λ j. tt {0})))
 
 module _ {J D : Type 0} where
-  -- what is left of each where jobs and what was made of them are forgotten
+  -- jobs and results without their contents
   abbrev forget_fate : Fate J D → Fate (Unit {0}) (Unit {0})
   forget_fate (Made d) = Made tt
   forget_fate (Kept j) = Kept tt

@@ -5,7 +5,7 @@ use Rattle.std.proofs.lemmas.List.{length-map, map-append}
 
 module _ {J D H : Type 0} (held : J → H) (origin : D → H) (jobs undone back : List J) (dones : List D) (rest all : List H)
     (undo : map held undone ≡ map held jobs ++ map origin dones) (was : map held jobs ++ (map origin dones ++ (map held back ++ rest)) ≡ all) where
-  -- what was made is undone, and the jobs that came back follow it
+  -- the outputs are undone, and the returned jobs follow
   pub taken_back : map held (undone ++ back) ++ ([] ++ rest) ≡ all
   taken_back =
       ap (λ xs. xs ++ rest) (map-append held undone back ∙ ap (λ xs. xs ++ map held back) undo) ∙ append_assoc (map held jobs ++ map origin dones) (map held back) rest
@@ -27,7 +27,7 @@ module _ {J D H : Type 0} (held : J → H) (origin : D → H) (jobs undone back 
         length-map dones origin,
       )
 
--- what was made is kept, and what was made of a piece follows it
+-- the outputs are retained, and the outputs of a piece follow
 module _ {J D H : Type 0} (held : J → H) (origin : D → H) (jobs : List J) (dones made : List D) (rest all : List H)
     (was : map held jobs ++ (map origin dones ++ (map origin made ++ rest)) ≡ all) where
   pub kept_made : map held jobs ++ (map origin (dones ++ made) ++ rest) ≡ all
@@ -52,7 +52,7 @@ made_of_both origin outcome made_of dones made one other =
     map-append outcome dones made ∙ ap (λ xs. xs ++ map outcome made) one ∙ ap (λ xs. map made_of (map origin dones) ++ xs) other
     ∙ sym (map-append made_of (map origin dones) (map origin made)) ∙ ap (map made_of) (sym (map-append origin dones made))
 
--- where no piece is left
+-- if no piece remains
 module _ {J D H : Type 0} (held : J → H) (origin : D → H) (jobs : List J) (dones : List D) (all : List H) (was : map held jobs ++ (map origin dones ++ []) ≡ all) where
   pub all_come_back : (undone : List J) → map held undone ≡ map held jobs ++ map origin dones → map held undone ≡ all
   all_come_back undone undo = undo ∙ ap (λ xs. map held jobs ++ xs) (sym (append-nil (map origin dones))) ∙ was

@@ -1,4 +1,4 @@
--- Jobs on a list, the first on top, and what was made of those before them.
+-- A list of jobs with the first one at the end, and the outputs of the jobs before them.
 use Rattle.std.specs.Prelude.{◌≡◌, List, [], ◌∷◌, ◌++◌, map, reverse}
 use Rattle.std.specs.List.{All}
 use Rattle.std.proofs.Common.{sym, ap, subst, ◌∙◌, arith, append_assoc, length-append}

@@ -1,4 +1,4 @@
--- The table of marks, filled from what is home.
+-- The table of marks, filled from the collected results.
 use Rattle.std.specs.Prelude.{◌≡◌, ℕ, ◌+◌, ◌<◌, Bool, true, false, List, [], ◌∷◌, ◌++◌, length, eqb, get_or, set, take, if◌then◌else◌, Option, Some, None, option_map, is_some}
 use Rattle.std.proofs.Common.{refl, sym, ap, subst, ◌∙◌, inl, inr}
 use Rattle.std.proofs.lemmas.Bool.{cases_eq, eq-eqb, ne_eqb}
@@ -20,13 +20,13 @@ noted-cons : (n : ℕ) (x : ℕ × Mark) (rest : List (ℕ × Mark)) (b : Bool) 
 noted-cons n x rest true e = ap (λ b. option_map mark_of (if b then Some (fate_by x.1) else fate_of n (fates_by rest))) e ∙ ap Some (mark_back x.1)
 noted-cons n x rest false e = ap (λ b. option_map mark_of (if b then Some (fate_by x.1) else fate_of n (fates_by rest))) e
 
--- one more that is noted of another job
+-- one more record for another job
 noted_other : (n : ℕ) (marks : List (ℕ × Mark)) (x : ℕ × Mark) → (x.0 ≡ n → ⊥) → noted n (marks ++ x ∷ []) ≡ noted n marks
 noted_other n [] x ne = noted-cons n x [] false (ne_eqb x.0 n ne)
 noted_other n (y ∷ rest) x ne =
     noted-cons n y (rest ++ x ∷ []) (eqb y.0 n) refl ∙ ap (λ o. if eqb y.0 n then Some y.1 else o) (noted_other n rest x ne) ∙ sym (noted-cons n y rest (eqb y.0 n) refl)
 
--- one more of a job that was noted before
+-- one more record for a job that was recorded before
 noted_before_from : (n : ℕ) (y x : ℕ × Mark) (rest : List (ℕ × Mark)) (mark : Mark) (b : Bool) → eqb y.0 n ≡ b
     → (noted n rest ≡ Some mark → noted n (rest ++ x ∷ []) ≡ Some mark) → noted n (y ∷ rest) ≡ Some mark → noted n (y ∷ (rest ++ x ∷ [])) ≡ Some mark
 noted_before_from n y x rest mark true e later had = noted-cons n y (rest ++ x ∷ []) true e ∙ sym (noted-cons n y rest true e) ∙ had
@@ -36,7 +36,7 @@ noted_before : (n : ℕ) (marks : List (ℕ × Mark)) (x : ℕ × Mark) (mark : 
 noted_before n [] x mark had = absurd (cc)
 noted_before n (y ∷ rest) x mark had = noted_before_from n y x rest mark (eqb y.0 n) refl (noted_before n rest x mark) had
 
--- the first that is noted of a job
+-- the first record for a job
 noted_first_from : (n : ℕ) (y x : ℕ × Mark) (rest : List (ℕ × Mark)) (b : Bool) → eqb y.0 n ≡ b
     → (noted n rest ≡ None → noted n (rest ++ x ∷ []) ≡ Some x.1) → noted n (y ∷ rest) ≡ None → noted n (y ∷ (rest ++ x ∷ [])) ≡ Some x.1
 noted_first_from n y x rest true e later none = let first : Some y.1 ≡ None = sym (noted-cons n y rest true e) ∙ none in absurd (cc)
@@ -50,7 +50,7 @@ noted_first n (y ∷ rest) x e none = noted_first_from n y x rest (eqb y.0 n) re
 
 module _ (marks : List (Option Mark)) (home : List (ℕ × Mark)) (i : ℕ) (d : ℕ × Mark) (there : i < length home)
     (so_far : (n : ℕ) → n < length marks → get_or marks n None ≡ noted n (take i home)) where
-  -- the next that is home
+  -- the next collected result
   abbrev pub next : ℕ × Mark
   next = get_or home i d
 

@@ -1,4 +1,4 @@
--- What the table of marks says of a round.
+-- What the table of marks says about a round.
 use Rattle.std.specs.Prelude.{◌≡◌, ℕ, ◌<◌, ◌≤◌, List, map, length, get_or, drop, Option, None, Vec}
 use Rattle.std.proofs.Common.{sym, ap, ◌∙◌, arith, inl, inr}
 use Rattle.std.proofs.lemmas.Bool.{cases_lt}
@@ -13,7 +13,7 @@ use Rattle.crew.specs.Round.{joined, begun, after_events, round}
 use Rattle.crew.proofs.Forgotten.{forgotten_marks}
 use Rattle.crew.proofs.SoundLemmas.{none_past}
 
--- where each job below their number has its mark in the table, the table has what is home of each
+-- if each job below their number has its mark in the table, the table has the mark of each collected result
 pub all_met : {J : Type 0} (pieces : List (Vec J Global)) (workers : ℕ) (events : List Event) (i jobs : ℕ) (p : Progress) (marks : List (Option Mark))
     → jobs ≡ length (joined (map (λ piece. piece.items) pieces)) → length marks ≡ jobs → ((job : ℕ) → job < jobs → get_or marks job None ≡ mark_at (state_by p) job)
     → length events ≤ i → after_events (λ u. u) (state_by p) (drop i events) ≡ after_events (λ u. u) (begun (map (λ piece. forgotten piece.items) pieces) workers) events

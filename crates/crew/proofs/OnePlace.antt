@@ -1,4 +1,5 @@
--- Each job of a round is at one place: no event changes how often a number stands on the board, in the hands and at home together.
+-- Each job of a round is at one place: no event changes how often a number occurs on the board, with the workers and among the collected results
+-- together.
 use Rattle.std.specs.Prelude.{◌≡◌, ℕ, zero, suc, cond, ◌+◌, ◌<◌, ◌≤◌, ◌⊎◌, ◌==◌, nat_lt, List, [], ◌∷◌, ◌++◌, length, set, replicate, if◌then◌else◌, slice_get, Option, Some, None}
 use Rattle.std.specs.List.{count_by, flat_map, range_with_len}
 use Rattle.std.proofs.Common.{refl, sym, ap, ◌∙◌, arith, inl, inr, zero-add, add-zero, length-append}
@@ -12,7 +13,7 @@ use Rattle.crew.specs.Round.{Fate, Hand, State, joined, numbered, numbered_piece
 use Rattle.crew.specs.Round.Fate.{Made, Kept}
 use Rattle.crew.specs.SoundRound.{numbers, numbers_anywhere}
 
--- how often n stands in a list
+-- how often n occurs in a list
 abbrev count : ℕ → List ℕ → ℕ
 count n xs = count_by (λ m. m == n) xs
 
@@ -78,7 +79,7 @@ module _ {J D : Type 0} where
   abbrev hand_numbers : Hand J D → List ℕ
   hand_numbers hand = numbers hand.unworked ++ numbers hand.worked
 
-  -- how often n stands at each of the three
+  -- how often n occurs at each of the three places
   abbrev in_hands : ℕ → List (Hand J D) → ℕ
   in_hands n hands = count n (flat_map hand_numbers hands)
 
@@ -112,7 +113,7 @@ module _ {J D : Type 0} where
       let after = count-append n (hand_numbers hand) (flat_map hand_numbers (set hands w new)) in
       omega (arith, later, before, after)
 
-  -- ---- no event changes how often a number stands
+  -- ---- no event changes how often a number occurs
 
   draw_keeps : (n : ℕ) (s : State J D) (w : ℕ) (unworked : List (ℕ × J)) (worked : List (ℕ × Fate J D)) (board : List (List (ℕ × J)))
       → slice_get s.hands w ≡ Some (record { unworked = unworked; worked = worked }) → s.board ≡ board
@@ -168,7 +169,7 @@ none_held : (J D : Type 0) (n workers : ℕ) → in_hands {J = J} {D = D} n (rep
 none_held J D n zero = refl
 none_held J D n (suc workers) = none_held J D n workers
 
--- each number of a job stands once among all, and no other number does
+-- the number of each job occurs exactly once in total, and no other number occurs
 pub each_once : {J D : Type 0} (made : J → D) (pieces : List (List J)) (workers : ℕ) (events : List Event) (n : ℕ)
     → count_by (λ m. m == n) (numbers_anywhere (round made pieces workers events)) ≡ (if nat_lt n (length (joined pieces)) then 1 else 0)
 each_once {J} {D} made pieces workers events n =

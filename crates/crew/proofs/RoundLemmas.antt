@@ -1,4 +1,4 @@
--- What a round brings home is what is made of its jobs, whatever its events were.
+-- The collected results of a round are the outputs of its jobs, whatever its events were.
 use Rattle.std.specs.Prelude.{◌≡◌, ℕ, zero, suc, ◌+◌, Bool, true, false, List, [], ◌∷◌, ◌++◌, map, length, set, replicate, eqb, if◌then◌else◌, slice_get, Option, Some, None, Result, Ok, Err, IfOk, IfErr, Vec}
 use Rattle.std.proofs.Common.{refl, sym, ap, subst, ◌∙◌, arith, append_assoc, length-append}
 use Rattle.std.proofs.lemmas.Option.{same_Some}
@@ -38,7 +38,7 @@ module _ {J D : Type 0} (made : J → D) (jobs : List J) where
   abbrev pub IsJob : ℕ × J → Type 0
   IsJob x = slice_get jobs x.0 ≡ Some x.1
 
-  -- it is what was made of the job with the number, or that job
+  -- it is the output of the job with the number, or that job
   abbrev pub IsFate : ℕ → Fate J D → Type 0
   IsFate n (Made d) = (j : J) × (slice_get jobs n ≡ Some j) × (d ≡ made j)
   IsFate n (Kept j) = slice_get jobs n ≡ Some j
@@ -117,7 +117,7 @@ module _ {J D : Type 0} (made : J → D) (jobs : List J) where
   pub round_true : (pieces : List (List J)) (workers : ℕ) (events : List Event) → jobs ≡ joined pieces → IsTrue (round made pieces workers events)
   round_true pieces workers events e = events_true (begun pieces workers) events (begun_true pieces workers e)
 
-  -- ---- what is home
+  -- ---- collected results
 
   fate_cases : (n m : ℕ) (f g : Fate J D) (rest : List (ℕ × Fate J D)) (b : Bool) → eqb m n ≡ b → IsFate m f → AllByRecursion (λ x. IsFate x.0 x.1) rest
       → (AllByRecursion (λ x. IsFate x.0 x.1) rest → fate_of n rest ≡ Some g → IsFate n g)
@@ -145,7 +145,7 @@ module _ {J D : Type 0} (made : J → D) (jobs : List J) where
       (subst (λ k. map (λ n. fate_of n home) (range_with_len k (length js)) ≡ map (λ d. Some (Made d)) ds) (sym n) later) in
       rw (first, rest) refl
 
--- these are what is made of the jobs
+-- these are the outputs of the jobs
 pub home_is_made : {J D : Type 0} (made : J → D) (jobs : List J) (pieces : List (List J)) (workers : ℕ) (events : List Event) (ds : List D) → joined pieces ≡ jobs
     → AreHome (round made pieces workers events) (length jobs) ds → ds ≡ map made jobs
 home_is_made made jobs pieces workers events ds e home =

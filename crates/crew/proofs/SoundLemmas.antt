@@ -1,4 +1,4 @@
--- What is home in a round is true, and nothing is home under a number that no job has.
+-- The collected results of a round are true, and nothing is collected under a number that no job has.
 use Rattle.std.specs.Prelude.{◌≡◌, ℕ, zero, suc, ◌+◌, ◌<◌, ◌≤◌, false, List, [], ◌∷◌, map, length, eqb, if◌then◌else◌, Some, None, option_map}
 use Rattle.std.specs.List.{AllByRecursion, range_with_len}
 use Rattle.std.proofs.Common.{refl, ap, subst, ◌∙◌, arith}
@@ -22,7 +22,7 @@ module _ {J D : Type 0} (made : J → D) (jobs : List J) where
   are_fates [] all = tt
   are_fates (x ∷ rest) all = (is_fate x.0 x.1 all.0, are_fates rest all.1)
 
-  -- ---- no other number is home
+  -- ---- no other number is collected
 
   fate_within : (n : ℕ) (fate : Fate J D) → IsFate made jobs n fate → n < length jobs
   fate_within n (Made d) is = slice_get_within jobs n is.0 is.1
@@ -35,7 +35,7 @@ module _ {J D : Type 0} (made : J → D) (jobs : List J) where
       let other : eqb x.0 n ≡ false = ne_eqb x.0 n (λ e. omega arith) in
       ap (λ b. if b then Some x.1 else fate_of n rest) other ∙ none_under n rest all.1 past
 
-  -- ---- once all are home and made
+  -- ---- after all jobs are collected with outputs
 
   all_home_from : (s : State J D) (k len : ℕ) → ((n : ℕ) → n < k + len → IsMadeAtHome s n)
       → (ds : List D) × (map (λ n. fate_of n s.home) (range_with_len k len) ≡ map (λ d. Some (Made d)) ds)
@@ -58,7 +58,7 @@ round_is_sound {J} {D} made pieces workers events =
           subst (AreHome (round made pieces workers events) (length jobs)) (home_is_made made jobs pieces workers events all.0 refl all.1) all.1;
     }
 
--- no number past those of the jobs is home
+-- no number past those of the jobs is collected
 pub none_past : {J D : Type 0} (made : J → D) (pieces : List (List J)) (workers : ℕ) (events : List Event) (job : ℕ) → length (joined pieces) ≤ job
     → mark_at (round made pieces workers events) job ≡ None
 none_past made pieces workers events job past =

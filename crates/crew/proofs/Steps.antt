@@ -1,4 +1,4 @@
--- What an event does to where the jobs are by their numbers: just what it does to the round whose jobs are forgotten.
+-- An event changes the places of the jobs, given by their numbers, as it changes the round without the jobs' contents.
 use Rattle.std.specs.Prelude.{◌≡◌, ◌==◌, Bool, true, false, cond, not, nat_lt, ℕ, suc, ◌+◌, ◌-◌, ◌<◌, ◌≤◌, List, [], ◌∷◌, ◌++◌, map, length, get_or, set, replicate, slice_get, Option, Some, None, option_map, Vec}
 use Rattle.std.proofs.Common.{refl, sym, ap, ◌∙◌, arith}
 use Rattle.std.specs.Ordering.{is_lt, nat_cmp}
@@ -55,7 +55,7 @@ nobody p event h =
     slice_get_past (map hand_by p.hands.items) (worker_of event) (omega (arith, length-map p.hands.items hand_by)) in
     sym (ap (λ hand. event_of (λ u. u) (state_by p) hand event) none)
 
--- ---- nothing goes home while something lies on the board
+-- ---- nothing is collected while there are pieces on the board
 
 home_waits : (s : State (Unit {0}) (Unit {0})) (w : ℕ) (unworked : List (ℕ × Unit {0})) (worked : List (ℕ × Fate (Unit {0}) (Unit {0}))) (board : List (Range ℕ)) → 0 < length board
     → home_by s w unworked worked (map jobs_in board) ≡ s
@@ -80,7 +80,7 @@ module _ (p : Progress) (w : ℕ) (hand : HandByNumber) (there : w < length p.ha
   held : slice_get (map hand_by p.hands.items) w ≡ Some (hand_by hand)
   held = slice_get-map hand_by p.hands.items w ∙ ap (λ o. option_map hand_by o) (slice_get-get_or p.hands.items w hand there) ∙ ap (λ h. Some (hand_by h)) (sym is)
 
-  -- the event, where the hand is known
+  -- the event, if the hand is known
   by_hand : (event : Event) → worker_of event ≡ w → after (state_by p) event ≡ event_of (λ u. u) (state_by p) (Some (hand_by hand)) event
   by_hand event e =
       ap (λ n. event_of (λ u. u) (state_by p) (slice_get (map hand_by p.hands.items) n) event) e ∙ ap (λ h. event_of (λ u. u) (state_by p) h event) held
@@ -92,7 +92,7 @@ module _ (p : Progress) (w : ℕ) (hand : HandByNumber) (there : w < length p.ha
       let hands : hands_with hand ≡ p.hands.items = ap (λ h. set p.hands.items w h) is ∙ set-get_or p.hands.items w hand in
       ap (λ hands. state_of p.board.items hands p.home.items) hands ∙ sym same ∙ sym (by_hand event e)
 
-  -- ---- it draws
+  -- ---- it claims a piece
 
   pub draws_not : hand.unworked.start < hand.unworked.end → state_of p.board.items (hands_with hand) p.home.items ≡ after (state_by p) (Draw w)
   draws_not h = put_back (Draw w) refl
@@ -113,7 +113,7 @@ module _ (p : Progress) (w : ℕ) (hand : HandByNumber) (there : w < length p.ha
       ∙ ap (λ hands. record { board = map jobs_in rest; hands = hands; home = fates_by p.home.items })
       (sym (map-set hand_by p.hands.items w (record { unworked = piece; worked = hand.worked }))))
 
-  -- ---- it works
+  -- ---- it does a job
 
   works_by : (mark : Mark) (jobs : List (ℕ × Unit {0})) → jobs_in hand.unworked ≡ jobs
       → after (state_by p) (event_by mark w) ≡ work_by (state_by p) w jobs (fates_by hand.worked.items) (λ u. fate_by mark)

@@ -1,4 +1,4 @@
--- Which crews there may be.
+-- The valid crews.
 use Rattle.std.specs.Prelude.{Bool, ◌&&◌, nat_le}
 use Rattle.crew.specs.declared.limits.Crew.{Crew}
 

@@ -1,21 +1,20 @@
--- A round of work as a machine of events. It knows neither threads nor schedules: each job lies on the board in its piece, is held by one
--- worker, or is home.
+-- A round of work as a state machine, without threads and schedules: each job is on the board in its piece, or held by one worker, or collected.
 use Rattle.std.specs.Prelude.{◌≡◌, ℕ, ◌+◌, length, List, [], ◌∷◌, ◌++◌, map, flat_map, set, replicate, eqb, if◌then◌else◌, slice_get, Option, Some, None}
 use Rattle.std.specs.List.{range_with_len}
 use Rattle.crew.specs.declared.machine.Event.{Event}
 use Rattle.crew.specs.declared.machine.Event.TheVariants.{Draw, Work, Back, Home}
 
--- what became of a job: what was made of it, or the job as it was
+-- the result of a job: its output, or the unchanged job
 pub data Fate (J D : Type 0) : Type 0 where
   Made : D → Fate J D
   Kept : J → Fate J D
 
--- what a worker holds: jobs that it has still to work, and what became of others, each with its number
+-- the state of a worker: jobs that it still has to do, and results of others, each with its number
 pub record Hand (J D : Type 0) : Type 0 where
   pub unworked : List (ℕ × J)
   pub worked : List (ℕ × Fate J D)
 
--- the pieces that nobody drew, in order; what each worker holds; and what is home
+-- the unclaimed pieces, in order; the state of each worker; and the collected results
 pub record State (J D : Type 0) : Type 0 where
   pub board : List (List (ℕ × J))
   pub hands : List (Hand J D)
@@ -32,17 +31,17 @@ abbrev pub numbered : {J : Type 0} → ℕ → List J → List (ℕ × J)
 numbered n [] = []
 numbered n (j ∷ js) = (n, j) ∷ numbered (n + 1) js
 
--- so in all pieces
+-- the same for all pieces
 abbrev pub numbered_pieces : {J : Type 0} → ℕ → List (List J) → List (List (ℕ × J))
 numbered_pieces n [] = []
 numbered_pieces n (piece ∷ pieces) = numbered n piece ∷ numbered_pieces (n + length piece) pieces
 
--- what is noted of the number n
+-- the result recorded for the number n
 abbrev pub fate_of : {F : Type 0} → ℕ → List (ℕ × F) → Option F
 fate_of n [] = None
 fate_of n (x ∷ rest) = if eqb x.0 n then Some x.1 else fate_of n rest
 
--- ---- events; one that cannot happen changes nothing
+-- ---- events; an event that is not possible changes nothing
 
 -- the worker of an event
 abbrev pub worker_of : Event → ℕ
@@ -55,25 +54,25 @@ module _ {J D : Type 0} where
   abbrev pub with_hand : State J D → ℕ → Hand J D → State J D
   with_hand s w hand = record { board = s.board; hands = set s.hands w hand; home = s.home }
 
-  -- a worker with no unworked job takes the next piece whole
+  -- a worker without remaining jobs claims the whole next piece
   abbrev pub draw_by : State J D → ℕ → List (ℕ × J) → List (ℕ × Fate J D) → List (List (ℕ × J)) → State J D
   draw_by s w [] worked [] = s
   draw_by s w [] worked (piece ∷ rest) =
       record { board = rest; hands = set s.hands w (record { unworked = piece; worked = worked }); home = s.home }
   draw_by s w (job ∷ jobs) worked board = s
 
-  -- its next job becomes this
+  -- its next job gets this result
   abbrev pub work_by : State J D → ℕ → List (ℕ × J) → List (ℕ × Fate J D) → (J → Fate J D) → State J D
   work_by s w [] worked fate = s
   work_by s w (job ∷ jobs) worked fate = with_hand s w (record { unworked = jobs; worked = worked ++ (job.0, fate job.1) ∷ [] })
 
-  -- where nothing lies on the board, and it has no unworked job, all that it holds goes home
+  -- if the board is empty and the worker has no remaining jobs, all its results are collected
   abbrev pub home_by : State J D → ℕ → List (ℕ × J) → List (ℕ × Fate J D) → List (List (ℕ × J)) → State J D
   home_by s w [] worked [] = record { board = []; hands = set s.hands w (record { unworked = []; worked = [] }); home = s.home ++ worked }
   home_by s w [] worked (piece ∷ rest) = s
   home_by s w (job ∷ jobs) worked board = s
 
-  -- an event of the worker w, where it holds this
+  -- an event of worker w, which has this state
   abbrev pub event_of : (J → D) → State J D → Option (Hand J D) → Event → State J D
   event_of made s None event = s
   event_of made s (Some hand) (Draw w) = draw_by s w hand.unworked hand.worked s.board
@@ -88,15 +87,15 @@ module _ {J D : Type 0} where
   after_events made s [] = s
   after_events made s (event ∷ events) = after_events made (after_event made s event) events
 
-  -- all pieces on the board, and `workers` workers who hold nothing
+  -- the initial state: all pieces are on the board, and `workers` workers have no jobs
   abbrev pub begun : List (List J) → ℕ → State J D
   begun pieces workers =
       record { board = numbered_pieces 0 pieces; hands = replicate workers (record { unworked = []; worked = [] }); home = [] }
 
-  -- the round of these pieces after these events
+  -- the state of the round of these pieces after these events
   abbrev pub round : (J → D) → List (List J) → ℕ → List Event → State J D
   round made pieces workers events = after_events made (begun pieces workers) events
 
-  -- these were made of `jobs` jobs, in the order of the jobs, and all are home
+  -- all `jobs` jobs are collected with outputs, which are these, in the order of the jobs
   abbrev pub AreHome : State J D → ℕ → List D → Type 0
   AreHome s jobs ds = map (λ n. fate_of n s.home) (range_with_len 0 jobs) ≡ map (λ d. Some (Made d)) ds

@@ -1,33 +1,33 @@
--- What holds of a round of work after any events.
+-- The invariant of a round of work after any events.
 use Rattle.std.specs.Prelude.{◌≡◌, ℕ, ◌<◌, ◌==◌, nat_lt, if◌then◌else◌, List, ◌++◌, map, length, Some, slice_get}
 use Rattle.std.specs.List.{All, count_by, flat_map}
 use Rattle.crew.specs.Round.{Fate, Hand, State, fate_of, AreHome}
 use Rattle.crew.specs.Round.Fate.{Made, Kept}
 
--- the numbers of these jobs, or of what became of them
+-- the numbers of these jobs or results
 abbrev pub numbers : {X : Type 0} → List (ℕ × X) → List ℕ
 numbers xs = map (λ x. x.0) xs
 
 module _ {J D : Type 0} where
-  -- the numbers on the board, in the hands (of unworked jobs and of worked ones) and at home, all together
+  -- the numbers on the board, with the workers (of remaining jobs and of results), and collected, all together
   abbrev pub numbers_anywhere : State J D → List ℕ
   numbers_anywhere s =
       (flat_map numbers s.board ++ flat_map (λ (hand : Hand J D). numbers hand.unworked ++ numbers hand.worked) s.hands) ++ numbers s.home
 
-  -- it is what was made of the job with this number, or that job as it was
+  -- the result is the output of the job with this number, or that job unchanged
   abbrev pub IsFateOf : (J → D) → List J → ℕ → Fate J D → Type 0
   IsFateOf made jobs n (Made d) = (j : J) × (slice_get jobs n ≡ Some j) × (d ≡ made j)
   IsFateOf made jobs n (Kept j) = slice_get jobs n ≡ Some j
 
-  -- the job with this number is home, and was made
+  -- the job with this number is collected with an output
   abbrev pub IsMadeAtHome : State J D → ℕ → Type 0
   IsMadeAtHome s n = (d : D) × (fate_of n s.home ≡ Some (Made d))
 
-  -- what holds of a round of these jobs after any events
+  -- the invariant of a round of these jobs
   pub record IsSoundRound (made : J → D) (jobs : List J) (s : State J D) : Type 0 where
-    -- each job is at one place: each number of a job stands once among all, and no other number does
+    -- each job is at one place: the number of each job occurs exactly once in total, and no other number occurs
     pub one_place : (n : ℕ) → count_by (λ m. m == n) (numbers_anywhere s) ≡ (if nat_lt n (length jobs) then 1 else 0)
-    -- what is home was made of the job with its number, or is that job
+    -- each collected result is the output of the job with its number, or is that job
     pub true_home : All (λ x. IsFateOf made jobs x.0 x.1) s.home
-    -- once all jobs are home and none came back, what is home in the order of the jobs is what is made of each
+    -- if all jobs are collected with outputs, these, in the order of the jobs, are the work's outputs
     pub all_made : ((n : ℕ) → n < length jobs → IsMadeAtHome s n) → AreHome s (length jobs) (map made jobs)

@@ -1,4 +1,5 @@
-//! A round that several share: its pieces lie on a board, and each worker draws and works until none is left.
+//! A round shared by several workers: its pieces are on a board, and each worker claims pieces and does their jobs
+//! until none is left.
 ghost use Rattle.std.specs.Prelude.{◌≡◌, ◌+◌, ◌^◌, ◌<◌, ◌≤◌, [], map, length, reverse, replicate, None, IfOk, IfErr, vec_len, vec_capacity};
 ghost use Rattle.std.specs.Int.{div_ceil};
 ghost use Rattle.std.specs.List.{All, AllByRecursion, flat_map};
@@ -16,14 +17,15 @@ use std::alloc::{AllocError, Global};
 use std::thread;
 use std::thread::Threads;
 
-/// What a worker holds: its right to draw, and what became of the pieces that it drew.
+/// The state of a worker: its pass for the board, and the results of the pieces that it claimed.
 #[derive(Drop)]
 pub(crate) struct Hand<J, D> {
     pub(crate) pass: Pass<Vec<J>>,
     pub(crate) worked: Vec<Worked<J, D>>,
 }
 
-/// Works the jobs in pieces of `grain`, drawn by `workers` workers, the caller among them, as `run_round` does.
+/// Does the jobs in pieces of `grain` jobs, which `workers` workers claim, the caller among them. The result is that of
+/// `run_round`.
 pub(crate) fn work_drawn<R: Threads + Sync, G: Gate, W: Work>(
     rt: &R,
     gate: &G,
@@ -55,7 +57,8 @@ pub(crate) fn work_drawn<R: Threads + Sync, G: Gate, W: Work>(
     }
 }
 
-// Works the pieces: what became of each, in its place. Where memory is refused before any is drawn, they come back.
+// Does the pieces' jobs, and returns the result of each piece at its place. If allocation fails before the first claim,
+// returns the pieces.
 fn draw_round<R: Threads + Sync, G: Gate, W: Work>(
     rt: &R,
     gate: &G,
@@ -93,7 +96,6 @@ fn draw_round<R: Threads + Sync, G: Gate, W: Work>(
     Ok(homes)
 }
 
-// Places for `count` pieces, with nothing in them.
 fn no_homes<J: Drop, D: Drop>(alloc: Global, count: usize) -> Result<Vec<Home<J, D>>, AllocError>
     ensures { IfOk result (λ homes. homes.items ≡ replicate count None) }
 {
@@ -104,7 +106,7 @@ fn no_homes<J: Drop, D: Drop>(alloc: Global, count: usize) -> Result<Vec<Home<J,
     Ok(homes)
 }
 
-// Gives each worker its pass. The list stays with its room, emptied.
+// Gives each worker its pass. Empties the list of passes, which keeps its capacity.
 fn deal<J: Drop, D: Drop>(
     alloc: Global,
     passes: &mut Vec<Pass<Vec<J>>>,
@@ -124,8 +126,8 @@ fn deal<J: Drop, D: Drop>(
     }
 }
 
-// All workers draw and work, the caller as one of them. Where the system starts no thread for one, the thread that would have started it
-// draws in its place.
+// Runs all workers, the caller as one of them. If the system does not start a worker's thread, the thread that tried to
+// start it does that worker's part.
 fn draw_all<R: Threads + Sync, G: Gate, W: Work>(
     rt: &R,
     board: &Board<Vec<W::Job>>,
@@ -154,7 +156,8 @@ fn draw_all<R: Threads + Sync, G: Gate, W: Work>(
     )
 }
 
-// Draws pieces and works them until none is left, or until there is no memory to keep one more: that stays on the board.
+// Claims pieces and does their jobs until none is left, or until no result more can be stored; unclaimed pieces stay on
+// the board.
 fn draw_and_work<G: Gate, W: Work>(
     board: &Board<Vec<W::Job>>,
     gate: &G,
@@ -180,7 +183,7 @@ fn draw_and_work<G: Gate, W: Work>(
     }
 }
 
-// Puts what the workers made into its places, and their passes on the list, which has room for them.
+// Puts the workers' results at their pieces' places, and their passes into the list, which has room for them.
 fn bring_home<J: Drop, D: Drop>(
     hands: Vec<Hand<J, D>>,
     passes: &mut Vec<Pass<Vec<J>>>,

@@ -1,11 +1,11 @@
-//! Drops what a round leaves, on several threads.
+//! Drops the remains of a round on several threads.
 use crate::limits::Crew;
 use crate::pieces::cut;
 use std::thread;
 use std::thread::Threads;
 
-/// Drops the items. Where there are more of them than the crew's grain, each worker drops an equal part: freeing much memory takes as
-/// long as filling it. It takes memory for one list per worker; where that is refused, the caller drops all.
+/// Drops the items. If there are more items than the crew's grain, each worker drops an equal part, because freeing
+/// much memory takes as long as filling it. Allocates one list per worker; if that fails, the caller drops all items.
 pub fn drop_all<R: Threads + Sync, T: Send + Drop>(rt: &R, crew: Crew, mut items: Vec<T>) {
     let pieces = items.len().div_ceil((crew.grain as usize).max(1));
     let workers = (crew.workers as usize).min(pieces);

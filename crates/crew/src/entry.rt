@@ -1,12 +1,12 @@
 //! The gate of a round, which is called for each piece before it is worked.
 
-/// A gate is called with the number of each piece of a round, before that piece is worked, in the thread that works it. It may
-/// look on, or let the thread wait: what a round makes doesn't depend on it.
+/// A hook that is called with the number of each piece of a round, in the worker's thread, before the piece's jobs are
+/// done. It may observe the round or block its thread; the result of the round does not depend on it.
 pub trait Gate: Sync {
     fn enter(&self, piece: u64);
 }
 
-/// A gate that lets all in.
+/// A gate that does nothing.
 #[derive(Drop)]
 pub struct NoGate;
 

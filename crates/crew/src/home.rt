@@ -1,4 +1,4 @@
-//! What workers bring home of a round: what became of each piece, in its place.
+//! The results of a round, collected from the workers by piece.
 ghost use Rattle.std.specs.Prelude.{◌≡◌, ◌+◌, ◌^◌, ◌<◌, ◌≤◌, ◌++◌, ◌∷◌, [], map, length, IfOk, IfErr, vec_capacity};
 ghost use Rattle.std.specs.List.{AllByRecursion, flat_map};
 ghost use Rattle.crew.specs.Home.{placed, undrawn, home_origins, IsMadeHome};
@@ -6,17 +6,16 @@ ghost use Rattle.crew.specs.Home.{placed, undrawn, home_origins, IsMadeHome};
 use crate::Work;
 use crate::in_turn::undo_made;
 
-/// What became of the piece with this number: what was made of each of its jobs, or these as they were.
+/// The result of the piece with this number: the outputs of its jobs, or the unchanged jobs.
 #[derive(Drop)]
 pub(crate) struct Worked<J, D> {
     pub(crate) number: u64,
     pub(crate) made: Result<Vec<D>, Vec<J>>,
 }
 
-/// The place of a piece, once it is home.
+/// The result of a piece, once it is collected.
 pub(crate) type Home<J, D> = Option<Result<Vec<D>, Vec<J>>>;
 
-// Puts a piece into its place.
 fn place<J: Drop, D: Drop>(homes: &mut Vec<Home<J, D>>, worked: Worked<J, D>)
     ensures { homes.new.items ≡ placed homes.old.items (worked ∷ []) }
 {
@@ -27,7 +26,6 @@ fn place<J: Drop, D: Drop>(homes: &mut Vec<Home<J, D>>, worked: Worked<J, D>)
     }
 }
 
-/// Puts pieces into their places.
 pub(crate) fn place_all<J: Drop, D: Drop>(homes: &mut Vec<Home<J, D>>, all: Vec<Worked<J, D>>)
     ensures { homes.new.items ≡ placed homes.old.items all.items }
 {
@@ -36,7 +34,7 @@ pub(crate) fn place_all<J: Drop, D: Drop>(homes: &mut Vec<Home<J, D>>, all: Vec<
     }
 }
 
-/// Puts pieces that nobody drew into their places, from this number on.
+/// Puts unclaimed pieces at their places, from number `from` on.
 pub(crate) fn place_left<J: Drop, D: Drop>(
     homes: &mut Vec<Home<J, D>>,
     from: u64,
@@ -53,8 +51,8 @@ pub(crate) fn place_left<J: Drop, D: Drop>(
     }
 }
 
-/// What was made of all jobs, in their order; or, where a piece came back as it was, all jobs. It takes no memory, since both
-/// lists have room for all.
+/// Returns the outputs of all jobs in order; or, if a piece was returned unchanged, undoes the others and returns all
+/// jobs. Does not allocate, because both lists have room for everything.
 pub(crate) fn gather<W: Work>(
     work: &W,
     homes: Vec<Home<W::Job, W::Done>>,

@@ -1,4 +1,4 @@
-//! The jobs of a round, or of a piece of it, one after the other, in one thread.
+//! Does the jobs of a round, or of one piece of it, one after the other in one thread.
 ghost use Rattle.std.specs.Prelude.{◌≡◌, ◌+◌, ◌<◌, ◌≤◌, ◌++◌, [], map, length, IfOk, IfErr, vec_capacity};
 ghost use Rattle.std.specs.List.{All};
 
@@ -6,9 +6,9 @@ use crate::entry::Gate;
 use crate::{Turn, Work};
 use std::alloc::Allocator;
 
-/// Works the jobs one after the other, and returns what was made of each, in the order of the jobs. Where memory was
-/// refused, for the list of results or to a job, nothing stays worked: all jobs come back as they were, in their
-/// order. The way back takes no memory. The gate is called for each piece of `grain` jobs, whose numbers begin at `first`.
+/// Does the jobs one after the other, and returns their outputs in order. If allocation fails, for the list of outputs
+/// or in a job, undoes all work and returns all jobs unchanged, in order; undoing does not allocate. Calls the gate for
+/// each piece of `grain` jobs; the first piece has the number `first`.
 pub(crate) fn work_in_turn<W: Work, G: Gate, A: Allocator + Copy>(
     gate: &G,
     first: u64,
@@ -26,7 +26,7 @@ pub(crate) fn work_in_turn<W: Work, G: Gate, A: Allocator + Copy>(
     let Ok(mut dones) = Vec::with_capacity(*jobs.allocator(), jobs.len()) else {
         return Err(jobs);
     };
-    // The first job lies on top.
+    // The first job is then at the end, where `pop` takes it.
     jobs.reverse();
     while let Some(job) = jobs.pop() {
         if dones.len() % grain == 0 {
@@ -44,8 +44,8 @@ pub(crate) fn work_in_turn<W: Work, G: Gate, A: Allocator + Copy>(
     Ok(dones)
 }
 
-/// Undoes all that was made, and returns the jobs in their order, followed by the given ones. It takes no memory, since the given list
-/// has room for all.
+/// Undoes all work, and returns the jobs in order, followed by the given ones. Does not allocate, because the given
+/// list has room for all.
 pub(crate) fn undo_all<W: Work, A: Allocator>(
     work: &W,
     mut dones: Vec<W::Done, A>,
@@ -62,8 +62,7 @@ pub(crate) fn undo_all<W: Work, A: Allocator>(
     jobs
 }
 
-/// Undoes all that was made, and appends the jobs to the list, in their order. It takes no memory, since the list has
-/// room for all.
+/// Undoes all work, and appends the jobs to the list in order. Does not allocate, because the list has room for all.
 pub(crate) fn undo_made<W: Work>(work: &W, dones: &mut Vec<W::Done>, jobs: &mut Vec<W::Job>)
     requires room { length jobs.old.items + length dones.old.items ≤ vec_capacity jobs.old }
     ensures jobs { map W.held jobs.new.items

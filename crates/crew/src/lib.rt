@@ -1,6 +1,6 @@
-//! What a round of work asks of each kind of work. A job goes in; what is made of it comes out, or the job itself
-//! where memory was refused. Rounds, in one thread or in several, are built on this contract alone.
-//! Other crates name items by this root, and laws by the public module `laws`.
+//! The interface of a kind of work: a job is turned into an output, or is returned unchanged if allocation fails.
+//! Rounds of work, in one thread or in several, need only this contract. Other crates name items by this root, and laws
+//! by the public module `laws`.
 #![tactic(auto)]
 
 ghost use Rattle.std.specs.Prelude.{◌≡◌};
@@ -26,51 +26,50 @@ pub use crate::machine::{Event, Mark};
 pub use crate::marks::Round;
 pub use crate::rounds::run_round;
 
-/// What became of a job.
+/// The result of one job.
 #[derive(Drop)]
 pub enum Turn<J, D> {
-    /// The job is done, and this is what was made of it.
+    /// The output of the job.
     Done(D),
-    /// Memory was refused, and this is the job as it was.
+    /// An allocation failed; this is the unchanged job.
     Back(J),
 }
 
-/// A kind of work. Its jobs and what it makes of them can go from one thread to another, and the work itself can be
-/// shared by threads.
+/// A kind of work. Its jobs and outputs can be sent between threads, and the work itself can be shared by threads.
 pub trait Work: Sync {
-    /// What goes in. It is moved, so that a page is at one place at any time.
+    /// The input of the work. It is moved, so that a page is at one place at any time.
     type Job: Send + Drop;
 
-    /// What comes out. It keeps all that `undo` needs to give the job back.
+    /// The output of the work. It contains everything that `undo` needs to restore the job.
     type Done: Send + Drop;
 
-    // What a job holds and what is made of it, as plain data: capacity and addresses are no part of it.
+    // The input and the output as plain data, without capacities and addresses.
     ghost Held: { Type 0 };
 
     ghost Made: { Type 0 };
 
-    // Which jobs may be worked.
+    // The valid inputs.
     ghost accepts: { Self → Held → Type 0 };
 
     ghost held: { Self.Job → Held };
 
-    // What the job held that this was made of.
+    // The input that led to this output.
     ghost origin: { Self.Done → Held };
 
-    // What was made, as plain data.
+    // The output as plain data.
     ghost outcome: { Self.Done → Made };
 
-    // What the work makes of a job: a function of what the job holds.
+    // The output as a function of the input.
     ghost made: { Self → Held → Made };
 
-    /// Works the job. `Back` comes only where memory was refused, and gives the job back as it was.
+    /// Does the job. Returns `Back` with the unchanged job only if allocation fails.
     fn work(&self, job: Self::Job) -> Turn<Self::Job, Self::Done>
         requires { accepts self.now (held job) }
         ensures origin { IfDone result (λ done. origin done ≡ held job) }
         ensures made { IfDone result (λ done. outcome done ≡ made self.now (held job)) }
         ensures back { IfBack result (λ again. held again ≡ held job) };
 
-    /// Gives back the job that this was made of. It takes no memory.
+    /// Restores the job from its output. Does not allocate.
     fn undo(&self, done: Self::Done) -> Self::Job
         ensures { held result ≡ origin done };
 }

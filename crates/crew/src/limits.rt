@@ -1,4 +1,4 @@
-//! How many share the work of a round.
+//! The number of workers of a round, and how many jobs they take at a time.
 ghost use Rattle.std.specs.Prelude.{IsOk, IsErr};
 ghost use Rattle.std.specs.Bool.{MatchBool};
 ghost use Rattle.crew.specs.Crew.{is_crew};
@@ -6,12 +6,12 @@ ghost use Rattle.crew.specs.Crew.{is_crew};
 use std::error::Error;
 use std::fmt;
 
-/// Who works the rounds of a call. What a round makes is the same for every crew.
+/// The workers of a call's rounds. The result of a round is the same for every crew.
 #[derive(Clone, Copy, Debug, PartialEq, Eq)]
 pub struct Crew {
-    /// Threads that work at once, the caller's among them: 1 to 64.
+    /// The number of threads, including the caller's: 1 to 64.
     pub workers: u32,
-    /// Jobs that a worker draws at a time: 1 to 65,535.
+    /// The number of jobs that a worker claims at a time: 1 to 65,535.
     pub grain: u32,
 }
 
@@ -20,7 +20,7 @@ impl Default for Crew {
 
     ghost is_default = { λ crew. crew ≡ record { workers = 1; grain = 64 } };
 
-    /// The caller's thread alone, as the program has it where nothing is given.
+    /// Returns the program's default: only the caller's thread.
     fn default() -> Crew {
         Crew {
             workers: 1,
@@ -29,7 +29,7 @@ impl Default for Crew {
     }
 }
 
-/// A number of a crew is out of range.
+/// The error of `Crew::check`: a number of the crew is out of range.
 #[derive(Debug, Drop, PartialEq, Eq)]
 pub struct BadCrew;
 
@@ -48,7 +48,7 @@ const MOST_WORKERS: u32 = 64;
 const MOST_GRAIN: u32 = 65_535;
 
 impl Crew {
-    /// Whether both numbers are in range.
+    /// Checks that both numbers are in range.
     pub fn check(&self) -> Result<(), BadCrew>
         ensures { MatchBool (is_crew self.now) (IsOk result) (IsErr result) }
     {

@@ -1,23 +1,23 @@
-//! A round as a machine of events.
+//! The events of a round, as a state machine.
 
-/// What happens in a round, to the worker with this number.
+/// An event of a round, with the number of its worker.
 #[derive(Clone, Copy, Debug, PartialEq, Eq)]
 pub enum Event {
-    /// It takes the next piece, where it holds no job that it has still to work.
+    /// The worker claims the next piece, if it has no job left to do.
     Draw(usize),
-    /// It works its next job.
+    /// The worker does its next job.
     Work(usize),
-    /// Its next job comes back as it was, since memory was refused.
+    /// The worker's next job is returned unchanged, because an allocation failed.
     Back(usize),
-    /// All that it holds goes home, where it has worked it all and nothing lies on the board.
+    /// The worker's results are collected, if it has no job left and the board is empty.
     Home(usize),
 }
 
-/// What of a job is home.
+/// The collected result of a job, without its contents.
 #[derive(Clone, Copy, Debug, PartialEq, Eq)]
 pub enum Mark {
-    /// What was made of it.
+    /// An output.
     Made,
-    /// The job as it was, since memory was refused.
+    /// The unchanged job, because an allocation failed.
     Back,
 }

@@ -1,4 +1,4 @@
-//! Which jobs of a round are home after events, found without working any.
+//! Which jobs of a round are collected after a sequence of events, computed without doing any job.
 ghost use Rattle.std.specs.Prelude.{◌≡◌, ℕ, ◌<◌, ◌^◌, length, map, slice_index_or, IfOk};
 ghost use Rattle.crew.specs.Round.{joined, round};
 ghost use Rattle.crew.specs.Marks.{mark_at};
@@ -8,7 +8,8 @@ use crate::progress::Progress;
 use std::alloc::{AllocError, Global};
 use std::marker::Model;
 
-/// Which jobs of a round are home after events. Contracts see it as the mark of each job in turn, or `None`.
+/// Which jobs of a round are collected after a sequence of events. Contracts see it as the mark of each job in order,
+/// or `None`.
 #[derive(Drop)]
 pub struct Round {
     marks: Vec<Option<Mark>>,
@@ -24,8 +25,9 @@ impl Model for Round {
 }
 
 impl Round {
-    /// The round of these pieces of jobs, shared by `workers` workers, after these events. An event that cannot happen, or of a worker
-    /// that there is not, changes nothing. It fails only for lack of memory, that for a mark of each job included.
+    /// Returns the state of a round of these pieces, shared by `workers` workers, after these events. Events that are
+    /// not possible, or whose worker does not exist, change nothing. `Err` means that allocation failed, for example
+    /// for the list of marks.
     pub fn after<J>(
         alloc: Global,
         pieces: &[Vec<J>],
@@ -46,8 +48,8 @@ impl Round {
         Ok(Round { marks })
     }
 
-    /// What is home of the job with this number, counted from 0 through the pieces joined. `None` where it is not home, or there is no
-    /// such job. It takes no memory.
+    /// Returns the mark of the job with this number, counted from 0 through all pieces, or `None` if it is not
+    /// collected or there is no such job. Does not allocate.
     pub fn home(&self, job: usize) -> Option<Mark>
         ensures { result ≡ slice_index_or self.now job None }
     {
@@ -55,7 +57,7 @@ impl Round {
     }
 }
 
-// How many jobs there are. More than a number can count have no room either.
+// The number of jobs. If it overflows, there is no room for their marks either.
 fn count_jobs<J>(pieces: &[Vec<J>]) -> Result<usize, AllocError>
     ensures { IfOk result (λ jobs. jobs ≡ length (joined (map (λ piece. piece.items) pieces.now))) }
 {

@@ -1,5 +1,5 @@
-//! Where the jobs of a round are, by their numbers. Jobs that nobody has worked lie together, so a range stands for them; no event walks
-//! over all jobs.
+//! The state of a round by the numbers of its jobs. Jobs of one piece that are not done yet have consecutive numbers,
+//! so a range represents them, and no event visits all jobs.
 ghost use Rattle.std.specs.Prelude.{◌≡◌, ℕ, ◌<◌, ◌^◌, [], slice_index_or, length, map, replicate, IfOk};
 ghost use Rattle.crew.specs.Round.{joined, numbered_pieces, begun, after_event};
 ghost use Rattle.crew.specs.Marks.{forgotten, jobs_in, hand_by, state_by, event_by, mark_at};
@@ -9,27 +9,27 @@ use std::alloc::{AllocError, Global};
 use std::collections::VecDeque;
 use std::ops::Range;
 
-/// What a worker holds.
+/// The state of a worker.
 #[derive(Drop)]
 pub(crate) struct Hand {
-    /// The jobs that it has still to work.
+    /// The jobs that it still has to do.
     unworked: Range<usize>,
-    /// What became of others.
+    /// The results of other jobs.
     worked: Vec<(usize, Mark)>,
 }
 
-/// Where all jobs are.
+/// The state of a round.
 #[derive(Drop)]
 pub(crate) struct Progress {
-    /// The pieces that nobody drew, in order.
+    /// The unclaimed pieces, in order.
     board: VecDeque<Range<usize>>,
     hands: Vec<Hand>,
-    /// What is home, in the order in which it came.
+    /// The collected results, in the order in which they were collected.
     home: Vec<(usize, Mark)>,
 }
 
 impl Progress {
-    /// All pieces on the board, and `workers` workers who hold nothing.
+    /// The initial state: all pieces are on the board, and the workers have no jobs.
     pub(crate) fn begun<J>(
         alloc: Global,
         pieces: &[Vec<J>],
@@ -48,7 +48,7 @@ impl Progress {
         })
     }
 
-    /// What there is after this event. One that cannot happen changes nothing.
+    /// Applies an event. An event that is not possible changes nothing.
     pub(crate) fn pass(&mut self, event: Event) -> Result<(), AllocError>
         ensures { IfOk result
             (λ _. state_by self.new ≡ after_event (λ u. u) (state_by self.old) event) }
@@ -104,7 +104,7 @@ impl Progress {
         Ok(())
     }
 
-    /// The mark of each of the first `jobs` jobs, where it is home.
+    /// The mark of each of the first `jobs` jobs, or `None` if it is not collected.
     pub(crate) fn marks(&self, alloc: Global, jobs: usize) -> Result<Vec<Option<Mark>>, AllocError>
         ensures count { IfOk result (λ marks. length marks.items ≡ jobs) }
         ensures marks { IfOk result (λ marks. (job : ℕ) → job < jobs →
@@ -120,7 +120,7 @@ impl Progress {
     }
 }
 
-// The numbers of the jobs of each piece, counted through all of them.
+// The numbers of each piece's jobs, counted through all pieces.
 fn all_on_board<J>(alloc: Global, pieces: &[Vec<J>]) -> Result<VecDeque<Range<usize>>, AllocError>
     requires { length (joined (map (λ piece. piece.items) pieces.now)) < 2 ^ 64 }
     ensures { IfOk result (λ board. map jobs_in board.items

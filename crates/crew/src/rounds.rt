@@ -1,5 +1,5 @@
-//! A round of work: many jobs, each worked once, or else all as they were, by as many workers as there are to be. (PALM: each page is
-//! changed by exactly one thread, and no thread waits for another within a round.)
+//! A round of work: either each of its jobs is done exactly once, or all jobs are returned unchanged. (PALM: each page
+//! is changed by exactly one thread, and no thread waits for another within a round.)
 ghost use Rattle.std.specs.Prelude.{◌≡◌, ℕ, List, length, map, IfOk, IfErr};
 ghost use Rattle.std.specs.List.{All};
 ghost use Rattle.crew.specs.Round.{joined, round, AreHome};
@@ -12,16 +12,17 @@ use crate::in_turn::work_in_turn;
 use crate::limits::Crew;
 use std::thread::Threads;
 
-// The most pieces that lie on a board; jobs in more of them are worked by the caller.
+// The most pieces on a board. A round with more pieces runs in the caller's thread.
 const MOST_PIECES: usize = 1 << 32;
 
-/// Works the jobs, and returns what was made of each, in the order of the jobs. They are cut into pieces of `crew.grain`, which lie on a
-/// board, and as many workers as the crew has, the caller among them, draw pieces until none is left; where one worker is enough the
-/// caller works alone, and no thread is started. The gate is called for each piece before it is worked. A crew that `Crew::check` refuses
-/// works as the nearest one that has some workers and some grain.
+/// Does the jobs, and returns their outputs in order. The jobs are split into pieces of `crew.grain` jobs on a board.
+/// The crew's workers, including the caller, claim pieces until none is left; if one worker is enough, the caller works
+/// alone and no thread is started. `gate` is called for each piece before its jobs are done. If `Crew::check` would
+/// reject the crew, zero workers or a zero grain count as one.
 ///
-/// Where memory was refused, to a job or to the round itself, nothing stays worked: all jobs come back as they were, in their order, and
-/// that takes no memory. Where the system doesn't start a thread, the one that would have started it draws in its place.
+/// If an allocation fails, in a job or in the round itself, all work is undone and all jobs are returned unchanged, in
+/// order; undoing does not allocate. If the system does not start a thread, the thread that tried to start it does the
+/// other's part.
 pub fn run_round<R: Threads + Sync, G: Gate, W: Work>(
     rt: &R,
     crew: Crew,
@@ -34,7 +35,8 @@ pub fn run_round<R: Threads + Sync, G: Gate, W: Work>(
         (λ dones. map W.outcome dones.items ≡ map (W.made work.now) (map W.held jobs.items)) }
     ensures origin { IfOk result (λ dones. map W.origin dones.items ≡ map W.held jobs.items) }
     ensures held { IfErr result (λ again. map W.held again.items ≡ map W.held jobs.items) }
-    // However workers draw, work and bring home: what they bring home, all of it made, is what this gives.
+    // Whatever the order of claims, jobs and collections: if all jobs are collected with outputs, these are the outputs
+    // returned here.
     ensures round { (pieces : List (List W.Held)) (workers : ℕ)
         (events : List Event) (ds : List W.Made) →
         joined pieces ≡ map W.held jobs.items →
@@ -44,7 +46,7 @@ pub fn run_round<R: Threads + Sync, G: Gate, W: Work>(
     work_by_crew(rt, crew, gate, work, jobs)
 }
 
-// The same without the machine of events.
+// `run_round` without the clause about the state machine.
 fn work_by_crew<R: Threads + Sync, G: Gate, W: Work>(
     rt: &R,
     crew: Crew,

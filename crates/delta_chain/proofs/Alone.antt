@@ -1,4 +1,4 @@
--- An entry that stands alone: where a key goes beside it, and what stands there once another is put.
+-- A single entry stored in place: where another key goes beside it, and the result of inserting it.
 use Rattle.std.specs.Prelude.{◌≡◌, ℕ, zero, suc, ◌<◌, ◌≤◌, List, [], ◌∷◌, ◌++◌, length, set, Some, Ok, Err}
 use Rattle.std.proofs.Common.{refl, sym, ap, arith, Less, Equal, Greater}
 use Rattle.std.proofs.lemmas.List.Edits.{insert_end}
@@ -8,7 +8,7 @@ use Rattle.keys.proofs.MapLemmas.{same_key, order_itself, flipped_less, flipped_
 use Rattle.delta_chain.proofs.Setting.{Answer}
 
 module _ {T : Type 0} where
-  -- ---- the place of a key, by how the key that stands there compares
+  -- ---- the place of a key, by how the key at that place compares
 
   compared : (e : List ℕ × T) (i j k : List ℕ) → i ≡ e.0 → j ≡ k → order i j ≡ order e.0 k
   compared e i j k p q = rw (p, q) refl

@@ -1,4 +1,4 @@
--- How many entries a change and a run leave. For the proofs of this crate and of those above it.
+-- The number of entries after a change and after a run. For the proofs of this crate and of those above it.
 use Rattle.std.specs.Prelude.{◌≡◌, ℕ, suc, ◌+◌, ◌≤◌, min, Bool, true, false, cond, List, [], ◌∷◌, length, Option, Some, None}
 use Rattle.std.proofs.Common.{arith, ◌-◌, Ordering, Less, Equal, Greater}
 use Rattle.std.specs.Ordering.{is_eq, match_ordering}
@@ -11,7 +11,7 @@ module _ {V : Type 0} where
   without_by true e es rest h = omega arith
   without_by false e es rest h = omega arith
 
-  -- a key that is taken away is one entry less at most
+  -- a deleted key is at most one entry less
   pub most_without : (m : List (List ℕ × V)) (k : List ℕ) → length m ≤ length (without m k) + 1
   most_without [] k = omega arith
   most_without (e ∷ es) k = without_by (is_eq (order k e.0)) e es (without es k) (most_without es k)
@@ -21,7 +21,7 @@ module _ {V : Type 0} where
   with_pair_by Equal k v e es rest h = omega arith
   with_pair_by Greater k v e es rest h = omega arith
 
-  -- a pair that is put takes none away
+  -- a pair that is put deletes no entry
   pub most_with_pair : (m : List (List ℕ × V)) (k : List ℕ) (v : V) → length m ≤ length (with_pair m k v)
   most_with_pair [] k v = omega arith
   most_with_pair (e ∷ es) k v = with_pair_by (order k e.0) k v e es (with_pair es k v) (most_with_pair es k v)
@@ -30,7 +30,7 @@ module _ {V : Type 0} where
   most_with_change m k None = most_without m k
   most_with_change m k (Some v) = let h = most_with_pair m k v in omega (arith, h)
 
-  -- a run takes away as many as it names at most
+  -- a run deletes at most as many entries as it has keys
   pub most_with_run : (m : List (List ℕ × V)) (run : List (List ℕ × Option V)) → length m ≤ length (with_run m run) + length run
   most_with_run m [] = omega arith
   most_with_run m (c ∷ cs) =
@@ -77,6 +77,6 @@ module _ {V : Type 0} where
   pub still_most : (n most more top : ℕ) (m : List (List ℕ × V)) (run : List (List ℕ × Option V)) → min (length m) top ≤ most → n ≡ length run → more ≡ min (most + n) top → min (length (with_run m run)) top ≤ more
   still_most n most more top m run h e s = let least = least_with_run m run in omega (arith, least, h, e, s)
 
-  -- and where it is taken back
+  -- and if it is undone
   pub most_before : (n most more top : ℕ) (m : List (List ℕ × V)) (run : List (List ℕ × Option V)) → min (length (with_run m run)) top ≤ most → n ≡ length run → more ≡ min (most + n) top → min (length m) top ≤ more
   most_before n most more top m run h e s = let least = most_with_run m run in omega (arith, least, h, e, s)

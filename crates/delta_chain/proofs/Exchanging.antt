@@ -1,4 +1,4 @@
--- A page with another cell in the place of one that it holds, for the proofs of this crate and of those above it.
+-- Replacing a cell that a page holds, for the proofs of this crate and of those above it.
 use Rattle.std.specs.Prelude.{◌≡◌, ◌≢◌, ◌≤◌, ◌-◌, ◌^◌, min, ℕ, zero, suc, Bool, true, false, cond, List, [], ◌∷◌, length, set, slice_get, slice_range, Option, Some, None, is_some}
 use Rattle.std.proofs.Common.{refl, sym, ap, ◌∙◌, arith}
 use Rattle.std.specs.Option.{unwrap_or}
@@ -60,7 +60,7 @@ module _ {T : Type 0} where
   exchanged_at-same (e ∷ es) zero t h = let s : e.1 ≡ t = cc in ap (λ (u : T). (e.0, u) ∷ es) (sym s)
   exchanged_at-same (e ∷ es) (suc at) t h = ap (λ (m : List (List ℕ × T)). e ∷ m) (exchanged_at-same es at t h)
 
-  -- where a key stands there is an item
+  -- if there is a key at a place, there is an item too
   pub item_there : (es : List (List ℕ × T)) (at : ℕ) (k : List ℕ) → slice_get (keys_of es) at ≡ Some k → (t : T) × (slice_get (values_of es) at ≡ Some t)
   item_there [] at k h = absurd (cc)
   item_there (e ∷ es) zero k h = (e.1, refl)
@@ -137,7 +137,7 @@ module _ {V : Type 0} where
   named_run_by (Some None) k v run p q e r ih n = absurd (cc)
   named_run_by (Some (Some w)) k v run p q e r ih n = rw e (ap (λ (t : Option (Option V)). change_or t (holds p q)) (value_at-with_change run k q (Some (Some v)) r) ∙ over_by (is_eq (order q k)) v (value_at q run) (holds p q))
 
-  -- where the page holds a cell at the key it has the other one there afterwards, and at every other key what it had
+  -- if the page holds a cell at the key, it has the other cell there afterwards, and at every other key what it had
   held_named : (k : List ℕ) (v : V) (runs : List (List (List ℕ × Option V))) (base : List (List ℕ × V)) (q : List ℕ) → AllRise runs base → is_some (held_under k runs base) ≡ true → Named k v (record { runs = runs; base = base }) q
   held_named k v [] base q a n = named_base_by (value_at k base) k v base q refl a n
   held_named k v (run ∷ runs) base q a n = named_run_by (value_at k run) k v run (record { runs = runs; base = base }) q refl a.0 (λ m. held_named k v runs base q a.1 m) n
@@ -151,7 +151,7 @@ module _ {V : Type 0} where
   left_run_by (Some None) k v run p e ih n = rw e refl
   left_run_by (Some (Some w)) k v run p e ih n = absurd (cc)
 
-  -- where it holds none, it is as it was
+  -- if the page holds none, it is unchanged
   left_unnamed : (k : List ℕ) (v : V) (runs : List (List (List ℕ × Option V))) (base : List (List ℕ × V)) → is_some (held_under k runs base) ≡ false → exchanged_under k v runs base ≡ record { runs = runs; base = base }
   left_unnamed k v [] base n = left_base_by (value_at k base) k v base refl n
   left_unnamed k v (run ∷ runs) base n = left_run_by (value_at k run) k v run (record { runs = runs; base = base }) refl (λ m. left_unnamed k v runs base m) n
@@ -190,7 +190,7 @@ module _ {V : Type 0} where
   pub most_exchanged : (p : Layers V) (k : List ℕ) (v : V) → IsInOrder p → length (entries_of p) ≤ length (entries_of (exchanged p k v))
   most_exchanged p k v a = most_by (is_some (holds p k)) p k v refl a
 
-  -- ---- other keys, and the way back
+  -- ---- other keys, and undoing a replacement
 
   elsewhere_by : (b : Bool) (p : Layers V) (k q : List ℕ) (v : V) → is_some (holds p k) ≡ b → IsInOrder p → is_eq (order q k) ≡ false → holds (exchanged p k v) q ≡ holds p q
   elsewhere_by false p k q v e a n = ap (λ (x : Layers V). holds x q) (left_unnamed k v p.runs p.base e)
@@ -227,7 +227,7 @@ module _ {V : Type 0} where
       let there : value_at k base ≡ Some w = value_at-found base at k r h ∙ g in
       rw (there, exchanged_at-pair base at k v r h) refl
 
-  -- what a base holds at the key that stands at a place is the cell there
+  -- a base holds at the key of a place the cell of that place
   pub held-base : (base : List (List ℕ × V)) (at : ℕ) (k : List ℕ) (w : V) → IsRising base → slice_get (keys_of base) at ≡ Some k → slice_get (values_of base) at ≡ Some w → Some w ≡ value_at k base
   held-base base at k w r h g = sym (value_at-found base at k r h ∙ g)
 

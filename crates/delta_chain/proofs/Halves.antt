@@ -1,4 +1,4 @@
--- What runs say together, by what two parts of them say, for the proof that merges them by halves.
+-- The merged changes of a list of runs are those of its two halves, merged: for the proof of the recursive merge.
 use Rattle.std.specs.Prelude.{◌≡◌, ℕ, Bool, true, false, cond, List, [], ◌∷◌, ◌++◌, length, nat_eq, reverse, Option, Some, None, Result, Ok, Err, IfOk}
 use Rattle.std.proofs.Common.{refl, sym, ap, ◌∙◌, eqb-true}
 use Rattle.std.specs.Ordering.{is_eq}

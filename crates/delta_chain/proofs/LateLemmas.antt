@@ -1,4 +1,4 @@
--- A page whose oldest runs count as merged with its base is what its chain is. For the proofs of this crate and of those above it.
+-- A page whose oldest runs count as merged into its base has the entries of its chain. For the proofs of this crate and of those above it.
 use Rattle.std.specs.Prelude.{◌≡◌, ℕ, suc, ◌-◌, ◌≤◌, List, [], ◌∷◌, ◌++◌, length, take, drop, reverse, Option}
 use Rattle.std.proofs.Common.{refl, sym, ap, ◌∙◌, arith}
 use Rattle.std.proofs.Math.Seq.{take-length, drop-length, drop-append_seam, take-append_seam}

@@ -1,4 +1,4 @@
--- The place of the first key that isn't below a key: from it on stand the entries of the range that begins there.
+-- The place of the first key that isn't below a key: the entries from that place on are those of the range that begins at the key.
 use Rattle.std.specs.Prelude.{◌≡◌, ℕ, zero, suc, Bool, true, false, cond, List, [], ◌∷◌, drop, slice_get, Some, None}
 use Rattle.std.proofs.Common.{refl, sym, ap, ◌∙◌, Ordering, Less, Equal, Greater}
 use Rattle.std.specs.List.{insert}
@@ -15,7 +15,7 @@ module _ {T : Type 0} where
   kept_by true k e es h = rw h refl
   kept_by false k e es h = rw h refl
 
-  -- where no key is below it, all entries are in the range
+  -- if no key is below it, all entries are in the range
   kept_all : (k : List ℕ) (es : List (List ℕ × T)) → IsBelowAll k (keys_of es) → in_range k None es ≡ es
   kept_all k [] a = refl
   kept_all k (e ∷ es) a = kept_by false k e es (rw (flipped_less k e.0 a.0) refl) ∙ ap (λ (m : List (List ℕ × T)). e ∷ m) (kept_all k es a.1)

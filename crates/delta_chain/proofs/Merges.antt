@@ -17,7 +17,7 @@ pub fewer_changes : (from under at run : ℕ) → at < run → (under - from) + 
 fewer_changes from under at run l = omega arith
 
 module _ {T : Type 0} where
-  -- what stands from a place on rises too
+  -- the entries from a place on rise too
   pub rising_after : (n : ℕ) (es : List (List ℕ × T)) → IsRising es → IsRising (drop n es)
   rising_after zero es r = r
   rising_after (suc n) [] r = r
@@ -101,7 +101,7 @@ module _ {V : Type 0} where
       let w : with_run (drop from es) (drop at run) ≡ pair_if k o ++ with_run (drop from es) (drop (suc at) run) = rw f (change_stays (drop from es) (k, o) (drop (suc at) run) (rising_after from es r) s' (sym h)) in
       append_assoc out (pair_if k o) (with_run (drop from es) (drop (suc at) run)) ∙ ap (λ (m : List (List ℕ × V)). out ++ m) (sym w) ∙ t
 
-  -- where the first pair does not stand above the key there is one
+  -- if the first pair does not compare as Greater, there is a first pair
   pub there_is_one : (es : List (List ℕ × V)) (from : ℕ) (k : List ℕ) (o : Ordering) → o ≡ first_order (drop from es) k → (o ≡ Greater → ⊥) → from < length es
   there_is_one [] zero k o h n = absurd (n h)
   there_is_one [] (suc from) k o h n = absurd (n h)
@@ -114,6 +114,6 @@ module _ {V : Type 0} where
   run_past es (c ∷ cs) zero h = absurd (omega arith)
   run_past es (c ∷ cs) (suc at) h = let l : length cs ≤ at = omega arith in run_past es cs at l
 
-  -- at the run's end the rest of the pairs is what is left
+  -- at the run's end the remaining pairs are unchanged
   pub all_changes : (es : List (List ℕ × V)) (run : List (List ℕ × Option V)) (from at : ℕ) (out all : List (List ℕ × V)) → length run ≤ at → out ++ with_run (drop from es) (drop at run) ≡ all → out ++ drop from es ≡ all
   all_changes es run from at out all h t = ap (λ (m : List (List ℕ × V)). out ++ m) (sym (run_past (drop from es) run at h)) ∙ t

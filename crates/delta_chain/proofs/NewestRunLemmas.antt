@@ -1,4 +1,4 @@
--- What is known of the keys that runs name, by their fingerprints.
+-- Which runs of a page may contain a key, by the key's fingerprint.
 use Rattle.std.specs.Prelude.{◌≡◌, ◌≢◌, ◌⊎◌, ℕ, zero, suc, ◌+◌, ◌<◌, ◌≤◌, Bool, true, false, List, [], ◌∷◌, ◌++◌, length, min, get_or, take, drop, reverse, set, nat_eq, slice_get, Option, Some, None}
 use Rattle.std.proofs.Common.{refl, sym, ap, ◌∙◌, inr, arith, ⊎_elim}
 use Rattle.std.specs.Map.{keys_of}
@@ -26,11 +26,11 @@ module _ {T : Type 0} where
   none_after (e ∷ es) (suc at) k q h n d = none_by (is_eq (order q e.0)) q e (take at es) (take (suc at) es) refl n (λ m. none_after es at k q h m d)
 
 module _ (newest : List ℕ) (print n : ℕ) (within : print < length newest) where
-  -- a fingerprint under which a smaller number stands afterwards is another
+  -- a fingerprint for which a smaller number is stored afterwards is a different fingerprint
   apart : (m : ℕ) → get_or (set newest print n) m 0 < n → m ≢ print
   apart m l e = let less : n < n = rw (e, get_or-set_same newest print n 0 within) at l in absurd (omega (arith, less))
 
-  -- one key more was noted
+  -- one more key was recorded
   pub noted-next : {T : Type 0} (run : List (List ℕ × T)) (at : ℕ) (k : List ℕ) → slice_get (keys_of run) at ≡ Some k → print ≡ fingerprint_of k
       → ((q : List ℕ) → newest_for newest q < n → value_at q (take at run) ≡ None) → (q : List ℕ) → newest_for (set newest print n) q < n → value_at q (take (at + 1) run) ≡ None
   noted-next run at k h is f q l =
@@ -47,14 +47,14 @@ module _ (newest : List ℕ) (print n : ℕ) (within : print < length newest) wh
       by true t = let s : m ≡ print = grind (arith, nat_tests) in rw s (inr (get_or-set_same newest print n 0 within))
       by false t = let s : m ≢ print = grind (arith, nat_tests) in rw (get_or-set_other newest print m n 0 s) (f m)
 
--- all keys were noted
+-- all keys were recorded
 pub noted-all : {T : Type 0} (newest : List ℕ) (run : List (List ℕ × T)) (at n number : ℕ) → length run ≤ at → n ≡ min number 255 → ((q : List ℕ) → newest_for newest q < n → value_at q (take at run) ≡ None)
     → (q : List ℕ) → newest_for newest q < min number 255 → value_at q run ≡ None
 noted-all newest run at n number l e f q less = rw (take_all at run l) at (f q (rw e less))
 
 -- ---- of the runs of a page
 
--- where numbers changed only to one that is greater than those of all the runs, they say of these what they said before
+-- if numbers only increase to one that is greater than those of all the runs, they are still right about these runs
 pub still_known : {V : Type 0} (newest now : List ℕ) (number : ℕ) (runs : List (Changes V)) → length runs < number → ((m : ℕ) → (get_or now m 0 ≡ get_or newest m 0) ⊎ (get_or now m 0 ≡ min number 255))
     → AreKnown newest runs → AreKnown now runs
 still_known newest now number [] l f h = tt
@@ -63,7 +63,7 @@ still_known newest now number (run ∷ older) l f h = (
   still_known newest now number older (omega (arith, l)) f h.1,
 )
 
--- runs in front of others whose numbers are greater than the one under the key's fingerprint don't name the key
+-- runs before others whose numbers are greater than the one under the key's fingerprint don't name the key
 passed : {V : Type 0} (newest : List ℕ) (q : List ℕ) (newer rest : List (Changes V)) (base : List (List ℕ × V)) → newest_for newest q ≤ length rest → newest_for newest q < 255
     → AreKnown newest (newer ++ rest) → held_under q rest base ≡ held_under q (newer ++ rest) base
 passed newest q [] rest base l few h = refl

@@ -1,4 +1,4 @@
--- What runs say together: merged with one another first, and applied to the base once. For the proofs of this crate and of those above it.
+-- The merged changes of runs: merged with each other first, and then applied to the base. For the proofs of this crate and of those above it.
 use Rattle.std.specs.Prelude.{◌≡◌, ℕ, zero, suc, Bool, true, false, cond, List, [], ◌∷◌, length, slice_get, Option, Some}
 use Rattle.std.proofs.Common.{refl, sym, ap, ◌∙◌}
 use Rattle.std.specs.Ordering.{is_eq}

@@ -6,7 +6,7 @@ use Rattle.keys.specs.Order.{order}
 use Rattle.delta_chain.specs.Merging.{first_order}
 
 module _ {T : Type 0} where
-  -- what stands from a place on: the pair of the key and the item there, and then the rest
+  -- the entries from a place on: the pair of the key and the item there, and then the rest
   pub drop_pair : (es : List (List ℕ × T)) (at : ℕ) (k : List ℕ) (v : T) → slice_get (keys_of es) at ≡ Some k → slice_get (values_of es) at ≡ Some v → drop at es ≡ (k, v) ∷ drop (suc at) es
   drop_pair [] at k v h i = absurd (cc)
   drop_pair (e ∷ es) zero k v h i =
@@ -41,7 +41,7 @@ module _ {T : Type 0} where
   item_of_entry (d ∷ es) zero e h = let s : d ≡ e = cc in ap (λ (x : List ℕ × T). Some x.1) s
   item_of_entry (d ∷ es) (suc at) e h = item_of_entry es at e h
 
-  -- the only place of an entry that stands alone
+  -- the only place of a single entry
   pub alone_at : (e : List ℕ × T) (at : ℕ) → at < length (e ∷ []) → slice_get (e ∷ []) at ≡ Some e
   alone_at e zero l = refl
   alone_at e (suc at) l = absurd (omega arith)

@@ -10,7 +10,7 @@ use Rattle.keys.proofs.MapLemmas.{IsBelowAll, total}
 use Rattle.delta_chain.specs.Building.{goes_last}
 use Rattle.delta_chain.proofs.Places.{front_under}
 
--- what stands from a place on is the key there, and then the rest
+-- the keys from a place on: the key there, and then the rest
 key_after : (ks : List (List ℕ)) (at : ℕ) (k : List ℕ) → slice_get ks at ≡ Some k → drop at ks ≡ k ∷ drop (suc at) ks
 key_after [] at k h = absurd (cc)
 key_after (j ∷ ks) zero k h = let s : j ≡ k = cc in ap (λ (i : List ℕ). i ∷ ks) s

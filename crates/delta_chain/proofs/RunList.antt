@@ -1,4 +1,4 @@
--- The list of a chain's runs, the oldest first, and the page that they make.
+-- The list of a chain's runs, oldest first, and the page that they form.
 use Rattle.std.specs.Prelude.{◌≡◌, ◌⊎◌, ℕ, zero, suc, ◌+◌, ◌-◌, ◌<◌, ◌≤◌, ◌^◌, Bool, if◌then◌else◌, List, [], ◌∷◌, ◌++◌, length, min, get_or, take, drop, reverse, slice_get, Option, Some, None}
 use Rattle.std.proofs.Common.{refl, sym, ap, ◌∙◌, arith}
 use Rattle.std.specs.Map.{keys_of, values_of}
@@ -36,7 +36,7 @@ module _ {T : Type 0} where
   reverse-take : (xs : List T) (at : ℕ) (x : T) → slice_get xs at ≡ Some x → reverse (take (suc at) xs) ≡ x ∷ reverse (take at xs)
   reverse-take xs at x h = ap reverse (take-following xs at x h) ∙ reverse-following (take at xs) x
 
-  -- what is lent as a slice and stays as long is all of the list
+  -- a slice that is borrowed from the list and has its length is the whole list
   pub all_of : (len : ℕ) (items lent now rest : List T) → len ≡ length items → lent ≡ items → length now ≡ length lent → take len (now ++ rest) ≡ now
   all_of len items lent now rest e s n = take_at now rest len (n ∙ ap length s ∙ sym e)
 

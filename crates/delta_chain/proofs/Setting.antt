@@ -1,4 +1,4 @@
--- Where a key stands among entries that rise, and what setting it there does.
+-- The place of a key among rising entries, and the effect of setting an item there.
 use Rattle.std.specs.Prelude.{◌≡◌, ℕ, zero, suc, ◌+◌, ◌<◌, ◌≤◌, List, [], ◌∷◌, length, set, slice_get, slice_index_or, true, Some, None, Ok, Err, Result, MatchResult}
 use Rattle.std.proofs.Common.{refl, sym, ap, ◌∙◌, arith, Ordering, Less, Equal, Greater}
 use Rattle.std.specs.List.{insert}
@@ -17,7 +17,7 @@ below_at j [] at k a h = absurd (cc)
 below_at j (i ∷ ks) zero k a h = let s : i ≡ k = cc in rw (← s) a.0
 below_at j (i ∷ ks) (suc at) k a h = below_at j ks at k a.1 h
 
--- a lower key stands no higher to a key
+-- of two keys, the lower one compares no higher to a third key
 no_higher_by : (o p : Ordering) (i j k : List ℕ) → order i k ≡ o → order j k ≡ p → order i j ≡ Less → ordering_index o ≤ ordering_index p
 no_higher_by Less p i j k a b l = omega arith
 no_higher_by Equal Less i j k a b l = absurd (let below : order i k ≡ Less = total.trans i j k l b in let wrong = sym a ∙ below in cc)
@@ -27,7 +27,7 @@ no_higher_by Greater Less i j k a b l = absurd (let below : order i k ≡ Less =
 no_higher_by Greater Equal i j k a b l = absurd (let s : j ≡ k = same_key j k b in let below : order i k ≡ Less = rw s at l in let wrong = sym a ∙ below in cc)
 no_higher_by Greater Greater i j k a b l = omega arith
 
--- where a comparison is no higher than below, or no lower than above, it is that
+-- a comparison that is no higher than Less is Less, and one that is no lower than Greater is Greater
 less_by_index : (o : Ordering) → ordering_index o ≤ ordering_index Less → o ≡ Less
 less_by_index Less h = refl
 less_by_index Equal h = absurd (omega (arith, h))
@@ -44,7 +44,7 @@ module _ {T : Type 0} where
   key_at (e ∷ es) zero d l = refl
   key_at (e ∷ es) (suc at) d l = let m : at < length es = omega arith in key_at es at d m
 
-  -- so the comparisons with a key rise along the entries, as a search by halves asks
+  -- so the comparisons with a key rise along the entries, as a binary search requires
   comparisons_rise : (es : List (List ℕ × T)) (k : List ℕ) → IsRising es → IsNonDecreasingBy (λ (e : List ℕ × T). ordering_index (order e.0 k)) es
   comparisons_rise [] k r i j d le lt = absurd (omega arith)
   comparisons_rise (e ∷ es) k r zero zero d le lt = omega arith
@@ -91,14 +91,14 @@ module _ {T : Type 0} where
   value_at-missing (e ∷ es) (suc at) k b a =
       rw (flipped_less e.0 k (b 0 e (omega arith) (omega arith))) (value_at-missing es at k (λ m d z l. b (suc m) d (omega arith) (omega arith)) (λ m d f l. a (suc m) d (omega arith) (omega arith)))
 
-  -- ---- a step of a search by halves, by how the key at a place compares to the one looked for
+  -- ---- a step of a binary search, by how the key at a place compares to the one looked for
 
   key_there_or : (es : List (List ℕ × T)) (at : ℕ) (j : List ℕ) (d : List ℕ × T) → slice_get (keys_of es) at ≡ Some j → (at < length es) × ((slice_index_or es at d).0 ≡ j)
   key_there_or [] at j d h = absurd (cc)
   key_there_or (e ∷ es) zero j d h = (omega arith, cc)
   key_there_or (e ∷ es) (suc at) j d h = let rest = key_there_or es at j d h in (omega (arith, rest.0), rest.1)
 
-  -- where it is below, all up to it are
+  -- if it is below, all up to it are
   pub below_through : (es : List (List ℕ × T)) (at : ℕ) (k j : List ℕ) → IsRising es → slice_get (keys_of es) at ≡ Some j → order j k ≡ Less → BelowBefore es (at + 1) k
   below_through es at k j r h l m d z n =
       let there = key_there_or es at j d h in
@@ -106,7 +106,7 @@ module _ {T : Type 0} where
       let up = comparisons_rise es k r m at d (omega arith) there.0 in
       less_by_index (order (slice_index_or es m d).0 k) (rw here at up)
 
-  -- where it is above, all from it on are
+  -- if it is above, all from it on are
   pub above_onward : (es : List (List ℕ × T)) (at : ℕ) (k j : List ℕ) → IsRising es → slice_get (keys_of es) at ≡ Some j → order j k ≡ Greater → AboveFrom es at k
   above_onward es at k j r h l m d f n =
       let there = key_there_or es at j d h in
@@ -114,7 +114,7 @@ module _ {T : Type 0} where
       let up = comparisons_rise es k r at m d f n in
       greater_by_index (order (slice_index_or es m d).0 k) (rw here at up)
 
-  -- where it is the same, it is the one
+  -- if it is the same, it is the one looked for
   pub key_there : (es : List (List ℕ × T)) (at : ℕ) (k j : List ℕ) → slice_get (keys_of es) at ≡ Some j → order j k ≡ Equal → slice_get (keys_of es) at ≡ Some k
   key_there es at k j h l = h ∙ ap (λ (x : List ℕ). Some x) (same_key j k l)
 
@@ -126,7 +126,7 @@ module _ {T : Type 0} where
       let n : at ≤ length es = omega arith in
       rw (flipped_less e.0 k (b 0 e (omega arith) (omega arith))) (ap (λ (m : List (List ℕ × T)). e ∷ m) (with_pair-missing es at k v n (λ m d z l. b (suc m) d (omega arith) (omega arith)) (λ m d f l. a (suc m) d (omega arith) (omega arith))))
 
-  -- ---- what a search by halves answers
+  -- ---- the result of a binary search
 
   abbrev pub Answer : List (List ℕ × T) → List ℕ → Result ℕ ℕ → Type 0
   Answer es k r =

@@ -1,4 +1,4 @@
--- Which key may follow others in a list of entries.
+-- Which key may follow the others in a list of entries.
 use Rattle.std.specs.Prelude.{Bool, true, [], ◌∷◌}
 use Rattle.std.specs.Ordering.{is_lt}
 use Rattle.keys.specs.Bytes.{Bytes, Pairs}

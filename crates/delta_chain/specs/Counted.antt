@@ -1,10 +1,10 @@
--- What a chain knows of its page.
+-- What a chain records about its page.
 use Rattle.std.specs.Prelude.{ℕ, ◌≤◌, ◌-◌, ◌^◌, List, length, min}
 use Rattle.delta_chain.specs.Layers.{Layers, entries_of, IsInOrder}
 use Rattle.delta_chain.specs.NewestRuns.{AreKnown}
 
--- all keys rise; the number of entries is at least the one number, and at most the other, where that isn't the greatest usize,
--- which is no bound; and what is known of the keys that the runs name is so
+-- all keys rise; the number of entries is at least `fewest` and at most `most` (unless `most` is the greatest usize, which means no bound); and
+-- `numbers` is right about the keys of the runs
 pub record IsCounted {V : Type 0} (p : Layers V) (fewest most : ℕ) (numbers : List ℕ) : Type 0 where
   pub rising : IsInOrder p
   pub entries : fewest ≤ length (entries_of p)

@@ -1,4 +1,4 @@
--- What pairs of references stand for.
+-- The pairs that a list of references denotes.
 use Rattle.std.specs.Prelude.{List, map}
 use Rattle.std.specs.Borrow.{Bor}
 use Rattle.keys.specs.Bytes.{Bytes, Pairs}

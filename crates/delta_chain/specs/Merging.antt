@@ -1,4 +1,4 @@
--- What one step of applying a run to the pairs under it sees and adds.
+-- One step of applying a run to the pairs below it.
 use Rattle.std.specs.Prelude.{List, [], ◌∷◌, map, Option, Some, None}
 use Rattle.std.specs.declared.cmp.Ordering.{Ordering}
 use Rattle.std.specs.declared.cmp.Ordering.TheVariants.{Greater}
@@ -6,25 +6,25 @@ use Rattle.keys.specs.Bytes.{Bytes, Pairs, Changes}
 use Rattle.keys.specs.Order.{order}
 use Rattle.delta_chain.specs.Layers.{with_run}
 
--- the key with its value, where it has one
+-- the key with its value, if it has one
 abbrev pub pair_if : {V : Type 0} → Bytes → Option V → Pairs V
 pair_if k None = []
 pair_if k (Some v) = (k, v) ∷ []
 
--- how the first key compares to k; where there is none, as one above every key
+-- how the first key compares to k; without a first key, Greater
 abbrev pub first_order : {V : Type 0} → Pairs V → Bytes → Ordering
 first_order [] k = Greater
 first_order (e ∷ es) k = order e.0 k
 
--- a run's changes, each as one that is there, a cell or an absence
+-- a run's changes as present entries, each a value or a deletion
 abbrev pub asserted : {V : Type 0} → Changes V → Changes (Option V)
 asserted {V} run = map {B = Bytes × Option (Option V)} (λ (c : Bytes × Option V). (c.0, Some c.1)) run
 
--- older changes with those of a newer run over them
+-- older changes overlaid with those of a newer run
 abbrev pub overlaid : {V : Type 0} → Changes V → Changes V → Changes V
 overlaid older newer = with_run older (asserted newer)
 
--- the changes of runs joined, the newest run first
+-- the merged changes of runs, which are given newest first
 abbrev pub joined_changes : {V : Type 0} → List (Changes V) → Changes V
 joined_changes [] = []
 joined_changes (run ∷ runs) = overlaid (joined_changes runs) run

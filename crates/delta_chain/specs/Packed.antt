@@ -1,20 +1,20 @@
--- How a base holds its entries: the keys back to back, and a cell for each.
+-- How a base stores its entries: the concatenated keys, the end of each key, and a cell for each key.
 use Rattle.std.specs.Prelude.{◌≡◌, ℕ, ◌≤◌, List, [], ◌∷◌, length, slice_range}
 use Rattle.keys.specs.Bytes.{Bytes, Pairs}
 use Rattle.keys.specs.Order.{IsRising}
 
--- the entries whose keys stand from a place among the bytes on, each from where the one before it ends up to its own end
+-- the entries whose keys begin at a place in the bytes; each key goes from the end of the previous one to its own end
 abbrev pub packed_from : {V : Type 0} → ℕ → Bytes → List ℕ → List V → Pairs V
 packed_from from bytes [] cells = []
 packed_from from bytes (end ∷ ends) [] = []
 packed_from from bytes (end ∷ ends) (cell ∷ cells) = (slice_range bytes from end, cell) ∷ packed_from end bytes ends cells
 
--- the ends lead from a place up to the last one, and none of them back
+-- the ends are not decreasing, from a first place up to a last one
 abbrev pub AreEnds : ℕ → List ℕ → ℕ → Type 0
 AreEnds from [] last = from ≡ last
 AreEnds from (end ∷ ends) last = (from ≤ end) × AreEnds end ends last
 
--- each key has a cell, the ends use up the bytes, and the keys rise
+-- there are as many cells as keys, the ends use up the bytes, and the keys rise
 pub record IsPacked {V : Type 0} (bytes : Bytes) (ends : List ℕ) (cells : List V) : Type 0 where
   pub count : length cells ≡ length ends
   pub cut : AreEnds 0 ends (length bytes)

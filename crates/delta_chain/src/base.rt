@@ -1,4 +1,4 @@
-//! The base of a page: rising keys in one buffer, each with its cell.
+//! The base of a page: rising keys in one buffer, and a cell for each key.
 ghost use Rattle.std.specs.Prelude.{◌≡◌, ◌<◌, ◌≤◌, ◌∷◌, ◌++◌, [], true, length, slice_get, Some, None, IfOk, IfSome, MatchOption, OnOk, OnErr};
 ghost use Rattle.std.specs.Map.{keys_of, values_of};
 ghost use Rattle.keys.specs.Order.{IsRising};
@@ -12,14 +12,14 @@ use std::cmp::Ordering;
 use std::marker::Model;
 use std::mem;
 
-/// The base of a page: its keys, each with a cell (a value, or for an index page a page id), in strictly rising
-/// order of the keys. Contracts see it as the list of these pairs. It is read by place and made by a
-/// `BaseBuilder`. The keys stand in one buffer, so that a search goes through little memory.
+/// The base of a page: strictly rising keys, each with a cell (a value, or a page id in an index page). Contracts see
+/// it as the list of these pairs. A `BaseBuilder` makes it. All keys are in one buffer, so that a search touches little
+/// memory.
 #[derive(Drop)]
 pub struct Base<V, A: Allocator> {
-    // The keys, back to back.
+    // The concatenated keys.
     bytes: Vec<u8, A>,
-    // Where each key ends among the bytes.
+    // The end of each key in `bytes`.
     ends: Vec<usize, A>,
     cells: Vec<V, A>,
 }
@@ -36,7 +36,7 @@ impl<V, A: Allocator> Model for Base<V, A> {
 }
 
 impl<V, A: Allocator + Copy> Base<V, A> {
-    /// The base without entries. It takes no memory.
+    /// Returns a base without entries. Does not allocate.
     pub fn empty(alloc: A) -> Self
         ensures { result ≡ [] }
     {
@@ -47,7 +47,7 @@ impl<V, A: Allocator + Copy> Base<V, A> {
         }
     }
 
-    // A base without entries, with room for `count` of them, whose keys have `bytes` bytes together.
+    // An empty base with room for `count` entries whose keys have `bytes` bytes in total.
     pub(crate) fn with_capacity(alloc: A, count: usize, bytes: usize) -> Result<Self, AllocError>
         ensures { IfOk result (λ base. base ≡ []) }
     {
@@ -61,7 +61,7 @@ impl<V, A: Allocator + Copy> Base<V, A> {
         *self.cells.allocator()
     }
 
-    /// How many entries there are.
+    /// Returns the number of entries.
     pub fn len(&self) -> usize
         ensures count { result ≡ length self.now }
         ensures rising { IsRising self.now }
@@ -69,7 +69,7 @@ impl<V, A: Allocator + Copy> Base<V, A> {
         self.cells.len()
     }
 
-    /// The bytes of the key at this place, counted from 0.
+    /// Returns the bytes of the key at place `at`, counted from 0.
     pub fn key(&self, at: usize) -> &[u8]
         requires { at < length self.now }
         ensures { slice_get (keys_of self.now) at ≡ Some result.now }
@@ -82,7 +82,7 @@ impl<V, A: Allocator + Copy> Base<V, A> {
         }
     }
 
-    /// The cell at this place, counted from 0.
+    /// Returns the cell at place `at`, counted from 0.
     pub fn cell(&self, at: usize) -> &V
         requires { at < length self.now }
         ensures { slice_get (values_of self.now) at ≡ Some result.now }
@@ -90,8 +90,8 @@ impl<V, A: Allocator + Copy> Base<V, A> {
         &self.cells[at]
     }
 
-    // The place of the key, counted from 0, or none where it isn't there. It is looked for at this place first, which is a guess
-    // of the caller's, and then by halves.
+    // The place of the key, or `None` if the base has no such key. Tries the caller's `guess` first, then does a binary
+    // search.
     pub(crate) fn place_near(&self, guess: usize, key: &[u8]) -> Option<usize>
         ensures place { MatchOption result (value_at key.now self.now ≡ None)
             (λ at. slice_get (keys_of self.now) at ≡ Some key.now) }
@@ -110,7 +110,7 @@ impl<V, A: Allocator + Copy> Base<V, A> {
         None
     }
 
-    // Whether the key is above the last one, so that an entry under it may be appended.
+    // Whether `key` is above the last key, so that it may be appended.
     pub(crate) fn takes(&self, key: &[u8]) -> bool
         ensures { result ≡ goes_last key.now self.now }
     {
@@ -123,7 +123,7 @@ impl<V, A: Allocator + Copy> Base<V, A> {
 }
 
 impl<V, A: Allocator + Copy> Base<V, A> {
-    /// Puts another cell in the place of the one that stands there, counted from 0, and gives that one back.
+    /// Replaces the cell at place `at`, counted from 0, and returns the old cell.
     pub fn exchange(&mut self, at: usize, cell: V) -> V
         requires { at < length self.old }
         ensures held { slice_get (values_of self.old) at ≡ Some result }
@@ -132,7 +132,6 @@ impl<V, A: Allocator + Copy> Base<V, A> {
         mem::replace(&mut self.cells[at], cell)
     }
 
-    // Lets the cell and the one that stands there stand in each other's place.
     pub(crate) fn swap_cell(&mut self, at: usize, cell: &mut V)
         requires { at < length self.old }
         ensures cell { slice_get (values_of self.old) at ≡ Some cell.new }
@@ -143,7 +142,7 @@ impl<V, A: Allocator + Copy> Base<V, A> {
 }
 
 impl<V: Drop, A: Allocator + Copy> Base<V, A> {
-    // Appends an entry with a copy of the key. Where memory is refused the entries stay as they are.
+    // Appends an entry with a copy of `key`. If allocation fails, the base is unchanged.
     pub(crate) fn push(&mut self, key: &[u8], cell: V) -> Result<(), AllocError>
         requires { goes_last key.now self.old ≡ true }
         ensures ok { OnOk result (self.new ≡ self.old ++ (key.now, cell) ∷ []) }
@@ -158,7 +157,7 @@ impl<V: Drop, A: Allocator + Copy> Base<V, A> {
     }
 }
 
-// The place to look at next, from low up to high: the guess if it is one of them, and else the one in the middle.
+// The next place to compare, in `low..high`: the guess if it is in that range, else the middle.
 fn next_place(guess: usize, low: usize, high: usize) -> usize
     requires { low < high }
     ensures from { low ≤ result }

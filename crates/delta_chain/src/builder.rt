@@ -1,4 +1,4 @@
-//! Builds a base, entry by entry.
+//! Builds a base entry by entry.
 ghost use Rattle.std.specs.Prelude.{◌≡◌, ◌∷◌, ◌++◌, [], true, false, IfOk, OnOk, OnErr, IsErrOf, ◌↔◌};
 ghost use Rattle.delta_chain.specs.Building.{goes_last};
 
@@ -6,12 +6,12 @@ use crate::base::Base;
 use std::alloc::{AllocError, Allocator};
 use std::marker::Model;
 
-/// Why an entry was not taken. What it was offered to is as it was.
+/// Why an entry was rejected. The run or builder is unchanged.
 #[derive(Clone, Copy, Debug, PartialEq, Eq)]
 pub enum PushError {
     /// The key is not above the last one.
     OutOfOrder,
-    /// Memory was refused.
+    /// An allocation failed.
     NoMemory,
 }
 
@@ -26,8 +26,8 @@ impl From<AllocError> for PushError {
     }
 }
 
-/// Makes a base, entry by entry, in rising order of the keys, which it tests itself. Contracts see it as the
-/// entries so far.
+/// Builds a base from entries in rising order of their keys; `push` checks the order. Contracts see it as the entries
+/// so far.
 #[derive(Drop)]
 pub struct BaseBuilder<V, A: Allocator> {
     base: Base<V, A>,
@@ -42,8 +42,8 @@ impl<V, A: Allocator> Model for BaseBuilder<V, A> {
 }
 
 impl<V, A: Allocator + Copy> BaseBuilder<V, A> {
-    /// A builder without entries, with room for `count` of them, whose keys have `bytes` bytes together. It grows
-    /// beyond that.
+    /// Returns an empty builder with room for `count` entries whose keys have `bytes` bytes in total. It grows beyond
+    /// that if needed.
     pub fn with_capacity(alloc: A, count: usize, bytes: usize) -> Result<Self, AllocError>
         ensures { IfOk result (λ builder. builder ≡ []) }
     {
@@ -51,7 +51,7 @@ impl<V, A: Allocator + Copy> BaseBuilder<V, A> {
         Ok(BaseBuilder { base })
     }
 
-    /// The base of the entries.
+    /// Returns the base of the entries.
     pub fn finish(self) -> Base<V, A>
         ensures { result ≡ self }
     {
@@ -60,8 +60,8 @@ impl<V, A: Allocator + Copy> BaseBuilder<V, A> {
 }
 
 impl<V: Drop, A: Allocator + Copy> BaseBuilder<V, A> {
-    /// Appends an entry, with a copy of the key. An `Err` drops the cell and leaves the builder as
-    /// it was: `OutOfOrder` exactly where the key is not above the last one, and else `NoMemory`.
+    /// Appends an entry with a copy of `key`. Returns `OutOfOrder` if the key is not above the last one, and `NoMemory`
+    /// if allocation fails; both drop the cell and leave the builder unchanged.
     pub fn push(&mut self, key: &[u8], cell: V) -> Result<(), PushError>
         ensures ok { OnOk result (self.new ≡ self.old ++ (key.now, cell) ∷ []) }
         ensures order { IsErrOf result PushError.OutOfOrder ↔ (goes_last key.now self.old ≡ false) }
@@ -74,8 +74,8 @@ impl<V: Drop, A: Allocator + Copy> BaseBuilder<V, A> {
         Ok(())
     }
 
-    /// Appends an entry, with a copy of the key, which is above the last one. Where memory is refused the cell is
-    /// dropped and the builder stays as it was. For a key that may not be above it there is `push`.
+    /// Appends an entry with a copy of `key`, which the caller knows to be above the last key (else use `push`). If
+    /// allocation fails, the cell is dropped and the builder is unchanged.
     pub fn push_next(&mut self, key: &[u8], cell: V) -> Result<(), AllocError>
         requires { goes_last key.now self.old ≡ true }
         ensures ok { OnOk result (self.new ≡ self.old ++ (key.now, cell) ∷ []) }

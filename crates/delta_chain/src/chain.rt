@@ -17,12 +17,12 @@ use keys::{Cell, Key, KeyRef};
 use std::alloc::{AllocError, Allocator};
 use std::marker::Model;
 
-/// The state of a page: runs in front of a base (the Bw-tree's delta chain). Contracts see it as its runs, newest first, and its
-/// base.
+/// The state of a page: runs in front of a base (the Bw-tree's delta chain). Contracts see it as its runs, newest
+/// first, and its base.
 #[derive(Drop)]
 pub struct Chain<V, A: Allocator> {
     base: Base<V, A>,
-    // The oldest first, back to back, so that a look-up goes through one block, and a new one is appended.
+    // Oldest first in one block: a lookup reads contiguous memory, and a new run is appended.
     runs: Vec<Run<V, A>, A>,
     entries: EntryBounds,
     newest_runs: NewestRuns,
@@ -41,19 +41,19 @@ impl<V, A: Allocator> Model for Chain<V, A> {
         c.entries.fewest c.entries.most c.newest_runs.numbers };
 }
 
-/// Bounds on how many entries a page has, known without reading them.
+/// Bounds on the number of entries of a page, known without reading them.
 #[derive(Clone, Copy)]
 pub struct EntryBounds {
-    /// It has at least this many.
+    /// The page has at least this many entries.
     pub fewest: usize,
-    /// It has at most this many. The greatest `usize` is no bound.
+    /// The page has at most this many entries. The greatest `usize` means that no bound is known.
     pub most: usize,
 }
 
-/// A page's runs from one of them down, and its base, lent: what a search goes down through. Contracts see it as a page of these.
+/// A borrowed part of a page: its base and the runs from some run down to the oldest. Contracts see it as a page.
 #[derive(Drop)]
 pub struct ChainRef<'a, V, A: Allocator> {
-    // The oldest first.
+    // Oldest first.
     runs: &'a [Run<V, A>],
     base: &'a Base<V, A>,
 }
@@ -68,7 +68,7 @@ impl<'a, V, A: Allocator> Model for ChainRef<'a, V, A> {
 }
 
 impl EntryBounds {
-    // The bounds after `count` changes were made, or taken back: each adds one entry at most, or takes one away.
+    // The bounds after `count` changes were applied or undone: each one adds or removes at most one entry.
     fn with_changes(self, count: usize) -> EntryBounds
         ensures fewest { result.fewest ≡ self.fewest - count }
         ensures most { result.most ≡ min (self.most + count) usize.MAX }
@@ -81,7 +81,7 @@ impl EntryBounds {
 }
 
 impl<'a, V, A: Allocator + Copy> ChainRef<'a, V, A> {
-    /// The newest run and what lies below it, or none where the base stands alone.
+    /// Returns the newest run and the rest of the page below it, or `None` if there are no runs.
     pub fn newest(&self) -> Option<(&'a Run<V, A>, ChainRef<'a, V, A>)>
         ensures { MatchOption result (self.now.runs ≡ [])
             (λ p. self.now ≡ record { runs = p.0.now ∷ p.1.runs; base = p.1.base }) }
@@ -94,21 +94,22 @@ impl<'a, V, A: Allocator + Copy> ChainRef<'a, V, A> {
         Some((run, below))
     }
 
-    /// How many runs there are, up to the greatest `u64`.
+    /// Returns the number of runs, or the greatest `u64` if there are more.
     pub fn depth(&self) -> u64
         ensures { result ≡ min (depth_of self.now) u64.MAX }
     {
         self.runs.len() as u64
     }
 
-    /// The base under the runs.
+    /// Returns the base below the runs.
     pub fn base(&self) -> &'a Base<V, A>
         ensures { result.now ≡ self.now.base }
     {
         self.base
     }
 
-    /// The entries of the page that these runs and the base make, lent: its present keys with their cells, in key order.
+    /// Returns the entries of this part of the page, borrowed, in key order: the keys that are present, with their
+    /// cells. `Err` means that allocation failed.
     pub fn pairs(&self, alloc: A) -> Result<Pairs<'a, V, A>, AllocError>
         ensures entries { IfOk result (λ pairs. pairs ≡ entries_of self.now) }
         ensures rising { IfOk result (λ pairs. IsRising pairs) }
@@ -117,23 +118,23 @@ impl<'a, V, A: Allocator + Copy> ChainRef<'a, V, A> {
         if self.runs.is_empty() {
             return Ok(under);
         }
-        // The runs are merged with one another first, so that the base, which is mostly longer, is gone through once.
+        // The runs are merged with each other first, so that the base, which is usually longer, is read only once.
         let changes = merged(alloc, self.runs)?;
         with_run(alloc, &under, &changes)
     }
 }
 
-// For how many runs more a chain of at most `FEW_RUNS` gets room where it has none left. Most pages have no more, so what is given
-// without need stays small.
+// How many more runs a chain of at most `FEW_RUNS` reserves room for when it is full. Few pages have more runs, so the
+// unused room stays small.
 const MORE_RUNS: usize = 4;
 
-// A chain with more runs than this has a base that is made late, or was read from a disk that somebody forged. It gets room for as many
-// again as it has: n of them put in front one by one move fewer than 3n in all, where room for four more each time would have them move
-// n * n / 8.
+// A chain with more runs than this has an unmerged base, or was read from a forged disk. Its room doubles when it is
+// full: prepending n runs one by one then moves fewer than 3n runs in total, whereas adding room for four each time
+// would move n * n / 8.
 const FEW_RUNS: usize = 16;
 
 impl<V, A: Allocator + Copy> Chain<V, A> {
-    /// A base without runs.
+    /// Makes a chain of `base` without runs.
     pub fn of_base(base: Base<V, A>) -> Self
         ensures { result ≡ record { runs = []; base = base } }
     {
@@ -152,7 +153,7 @@ impl<V, A: Allocator + Copy> Chain<V, A> {
         }
     }
 
-    /// How many runs there are, up to the greatest `u64`.
+    /// Returns the number of runs, or the greatest `u64` if there are more.
     pub fn depth(&self) -> u64
         ensures count { result ≡ min (depth_of self.now) u64.MAX }
         ensures rising { IsInOrder self.now }
@@ -161,7 +162,7 @@ impl<V, A: Allocator + Copy> Chain<V, A> {
         count as u64
     }
 
-    /// How many runs there are.
+    /// Returns the number of runs.
     pub fn run_count(&self) -> usize
         ensures count { result ≡ depth_of self.now }
         ensures rising { IsInOrder self.now }
@@ -169,15 +170,15 @@ impl<V, A: Allocator + Copy> Chain<V, A> {
         self.runs.len()
     }
 
-    /// How many changes the runs have together, or the greatest `usize` where that is less.
+    /// Returns the total number of changes in the runs, or the greatest `usize` if there are more.
     pub fn change_count(&self) -> usize
         ensures { result ≡ min (sum_by (λ run. length run) self.now.runs) usize.MAX }
     {
         named_by(&self.runs)
     }
 
-    /// How many entries the page has at least and at most, kept without reading them: the base's count, give or take the length of each run
-    /// that is put in front or taken off, unless `bound` has set nearer ones.
+    /// Returns bounds on the number of entries without reading them: the base's count plus or minus the lengths of the
+    /// runs that were prepended or popped, or closer bounds if `bound` has set them.
     pub fn bounds(&self) -> EntryBounds
         ensures fewest { result.fewest ≤ length (entries_of self.now) }
         ensures most { min (length (entries_of self.now)) usize.MAX ≤ result.most }
@@ -185,14 +186,14 @@ impl<V, A: Allocator + Copy> Chain<V, A> {
         self.entries
     }
 
-    /// The lower one of the `bounds`.
+    /// Returns the lower of the two `bounds`.
     pub fn fewest_entries(&self) -> usize
         ensures { result ≤ length (entries_of self.now) }
     {
         self.entries.fewest
     }
 
-    /// Narrows the bounds by these.
+    /// Tightens the bounds to `known`.
     pub fn bound(&mut self, known: EntryBounds)
         requires fewest { known.fewest ≤ length (entries_of self.old) }
         requires most { min (length (entries_of self.old)) usize.MAX ≤ known.most }
@@ -204,7 +205,7 @@ impl<V, A: Allocator + Copy> Chain<V, A> {
         };
     }
 
-    /// The runs and the base, to be searched from the newest run down.
+    /// Borrows all runs and the base, for a search from the newest run down.
     pub fn lent(&self) -> ChainRef<'_, V, A>
         ensures { result ≡ self.now }
     {
@@ -214,7 +215,7 @@ impl<V, A: Allocator + Copy> Chain<V, A> {
         }
     }
 
-    // The oldest `count` runs, and the base.
+    // The base and the oldest `count` runs.
     pub(crate) fn oldest(&self, count: usize) -> ChainRef<'_, V, A>
         requires { count ≤ length self.now.runs }
         ensures { result ≡ record {
@@ -228,7 +229,7 @@ impl<V, A: Allocator + Copy> Chain<V, A> {
         }
     }
 
-    // The runs but for the oldest `count`, and the base.
+    // The base and all runs except the oldest `count`.
     pub(crate) fn newest_above(&self, count: usize) -> ChainRef<'_, V, A>
         requires { count ≤ length self.now.runs }
         ensures { result ≡ record {
@@ -242,7 +243,8 @@ impl<V, A: Allocator + Copy> Chain<V, A> {
         }
     }
 
-    /// The runs and the base without the newest runs that, by their fingerprints, cannot name the key: it holds the same at the key.
+    /// Borrows the page without the newest runs whose fingerprints show that they cannot contain `key`. It holds the
+    /// same cell at `key`.
     pub fn lent_for(&self, key: &[u8]) -> ChainRef<'_, V, A>
         ensures { holds result key.now ≡ holds self.now key.now }
     {
@@ -253,14 +255,15 @@ impl<V, A: Allocator + Copy> Chain<V, A> {
         }
     }
 
-    /// The base under the runs.
+    /// Returns the base below the runs.
     pub fn base(&self) -> &Base<V, A>
         ensures { result.now ≡ self.now.base }
     {
         &self.base
     }
 
-    /// The page's entries, lent: its present keys with their cells, in key order.
+    /// Returns the page's entries, borrowed, in key order: the keys that are present, with their cells. `Err` means
+    /// that allocation failed.
     pub fn pairs(&self, alloc: A) -> Result<Pairs<'_, V, A>, AllocError>
         ensures entries { IfOk result (λ pairs. pairs ≡ entries_of self.now) }
         ensures rising { IfOk result (λ pairs. IsRising pairs) }
@@ -270,7 +273,8 @@ impl<V, A: Allocator + Copy> Chain<V, A> {
 }
 
 impl<V: Drop, A: Allocator + Copy> Chain<V, A> {
-    /// Puts the run in front. Where memory is refused the chain stays as it was and the run comes back.
+    /// Adds `run` as the newest one. If allocation fails, the chain is unchanged and the run is returned with the
+    /// error.
     pub fn prepend(&mut self, run: Run<V, A>) -> Result<(), (AllocError, Run<V, A>)>
         ensures ok { OnOk result (self.new ≡ record self.old { runs = run ∷ self.old.runs }) }
         ensures err { OnErr result (self.new ≡ self.old) }
@@ -286,7 +290,7 @@ impl<V: Drop, A: Allocator + Copy> Chain<V, A> {
         Ok(())
     }
 
-    /// Takes the newest run off, if there is one. This undoes `prepend`, and takes no memory.
+    /// Removes and returns the newest run, if there is one. This undoes `prepend`; it does not allocate.
     pub fn pop(&mut self) -> Option<Run<V, A>>
         ensures { MatchOption result (self.old.runs ≡ [] × self.new ≡ self.old)
             (λ run. self.old ≡ record self.new { runs = run ∷ self.new.runs }) }
@@ -297,9 +301,9 @@ impl<V: Drop, A: Allocator + Copy> Chain<V, A> {
         Some(run)
     }
 
-    /// Lets a cell and the one that the page holds at the key stand in each other's place. That one stands in the newest run that names
-    /// the key, or in the base, where it is looked for at the place `guess` first; `guess` is the place after it afterwards. Where the page
-    /// holds none, both stay as they are.
+    /// Swaps `cell` with the cell that the page holds at `key`: in the newest run that contains the key, or in the
+    /// base, where it is first looked for at place `guess`. Sets `guess` to the place after it. If the page holds no
+    /// cell at the key, neither changes.
     pub fn swap_cell(&mut self, key: &KeyRef<'_>, cell: &mut V, guess: &mut usize)
         ensures cell { cell.new ≡ unwrap_or (holds self.old key.now) cell.old }
         ensures page { self.new ≡ exchanged self.old key.now cell.old }
@@ -313,7 +317,7 @@ impl<V: Drop, A: Allocator + Copy> Chain<V, A> {
         }
     }
 
-    /// The base of a chain without runs. This undoes `of_base`.
+    /// Returns the base of a chain without runs. This undoes `of_base`.
     pub fn into_base(self) -> Base<V, A>
         requires { self.runs ≡ [] }
         ensures { result ≡ self.base }
@@ -323,7 +327,7 @@ impl<V: Drop, A: Allocator + Copy> Chain<V, A> {
 }
 
 impl<V: Cell<A> + Drop, A: Allocator + Copy> Chain<V, A> {
-    /// Copies of the page's entries: its present keys with their cells, in key order.
+    /// Returns copies of the page's entries in key order. `Err` means that allocation failed.
     pub fn entries(&self, alloc: A) -> Result<Vec<(Key<A>, V), A>, AllocError>
         ensures entries { IfOk result (λ all. all.items ≡ entries_of self.now) }
         ensures rising { IfOk result (λ all. IsRising all.items) }
@@ -333,7 +337,7 @@ impl<V: Cell<A> + Drop, A: Allocator + Copy> Chain<V, A> {
     }
 }
 
-// How many changes these runs have together, or the greatest `usize` where that is less.
+// The total number of changes in these runs, or the greatest `usize` if there are more.
 fn named_by<V, A: Allocator + Copy>(runs: &[Run<V, A>]) -> usize
     ensures { result ≡ min (sum_by (λ run. length run) (reverse runs.now)) usize.MAX }
 {
@@ -344,8 +348,8 @@ fn named_by<V, A: Allocator + Copy>(runs: &[Run<V, A>]) -> usize
     named
 }
 
-// Makes room for another run, if there is none. The list is made anew and not grown where it is: for that the C library locks the heap of
-// the thread that made it, which other workers may be using.
+// Makes room for another run if there is none. Allocates a new list instead of growing the old one: to grow a block,
+// the C library locks the heap of the thread that allocated it, which another worker may be using.
 fn make_room<V: Drop, A: Allocator + Copy>(runs: &mut Vec<Run<V, A>, A>) -> Result<(), AllocError>
     ensures kept { runs.new.items ≡ runs.old.items }
     ensures room { OnOk result (vec_len runs.new < vec_capacity runs.new) }
@@ -360,8 +364,8 @@ fn make_room<V: Drop, A: Allocator + Copy>(runs: &mut Vec<Run<V, A>, A>) -> Resu
     Ok(())
 }
 
-// Lets the cell and the one that the newest of these runs that names the key has, if it has one, stand in each other's place, and returns
-// whether one names the key. The runs are given the oldest first.
+// Swaps `cell` with the cell of `key` in the newest run that contains the key, unless that run deletes it. Returns
+// whether a run contains the key. The runs are given oldest first.
 fn swap_in_runs<V: Drop, A: Allocator + Copy>(
     runs: &mut [Run<V, A>],
     key: &KeyRef<'_>,
@@ -382,7 +386,7 @@ fn swap_in_runs<V: Drop, A: Allocator + Copy>(
     let Some((newest, older)) = runs.split_last_mut() else {
         return false;
     };
-    // Only for the proof: its keys rise.
+    // Only for the proof: the keys of the run rise.
     let _rising = newest.len();
     match newest.place_of(key) {
         Some(at) => {

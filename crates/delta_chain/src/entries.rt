@@ -1,4 +1,4 @@
-//! Items under rising keys, as runs keep them: one in place, more in a list.
+//! Items under rising keys, as runs store them: one in place, more in a list.
 ghost use Rattle.std.specs.Prelude.{◌≡◌, ◌<◌, ◌≤◌, ◌∷◌, ◌++◌, [], true, length, set, slice_get, vec_capacity, Some, None, MatchResult, IfOk, OnOk, OnErr};
 ghost use Rattle.std.specs.List.{insert};
 ghost use Rattle.std.specs.Map.{keys_of, values_of};
@@ -14,8 +14,8 @@ use std::cmp::Ordering;
 use std::marker::Model;
 use std::mem;
 
-/// Items under keys that strictly rise. One entry is kept in place, since most runs have one change, and more than one in a list.
-/// The bytes of a long key stand elsewhere, where a search mostly needn't look.
+/// Items under strictly rising keys. A single entry is stored in place, because most runs have one change. The bytes of
+/// long keys are outside the list; a search seldom reads them.
 #[derive(Drop)]
 pub(crate) struct Entries<T, A: Allocator> {
     alloc: A,
@@ -25,7 +25,7 @@ pub(crate) struct Entries<T, A: Allocator> {
 #[derive(Drop)]
 enum KeptEntries<T, A: Allocator> {
     One((KeyWithWord<A>, T)),
-    // Without capacity it takes no memory, and the first entry makes it a `One`.
+    // Without capacity the list is not allocated, and the first entry turns it into `One`.
     Many(Vec<(KeyWithWord<A>, T), A>),
 }
 
@@ -43,7 +43,7 @@ impl<T, A: Allocator> Model for Entries<T, A> {
 }
 
 impl<T, A: Allocator + Copy> Entries<T, A> {
-    // No entries. This takes no memory.
+    // No entries. Does not allocate.
     pub(crate) fn empty(alloc: A) -> Self
         ensures { result ≡ [] }
     {
@@ -53,7 +53,7 @@ impl<T, A: Allocator + Copy> Entries<T, A> {
         }
     }
 
-    // No entries, with room for this many. One is kept in place, so that there is room for it without memory.
+    // No entries, with room for `count` of them. Room for one needs no allocation.
     pub(crate) fn with_capacity(alloc: A, count: usize) -> Result<Self, AllocError>
         ensures { IfOk result (λ entries. entries ≡ []) }
     {
@@ -113,7 +113,7 @@ impl<T, A: Allocator + Copy> Entries<T, A> {
         }
     }
 
-    // The place of the key, or else the place where it goes.
+    // `Ok` with the place of `key`, or `Err` with the place where it would be inserted.
     pub(crate) fn search(&self, key: &KeyRef<'_>) -> Result<usize, usize>
         ensures { MatchResult result
             (λ at. (at < length self.now) × (slice_get (keys_of self.now) at ≡ Some key.now)
@@ -128,7 +128,7 @@ impl<T, A: Allocator + Copy> Entries<T, A> {
                 Ordering::Greater => Err(0),
             },
             KeptEntries::Many(list) => {
-                // Keys mostly come in their order, so the end is looked at first.
+                // Keys mostly arrive in rising order, so the end is tried first.
                 if goes_last(list, key) {
                     return Err(list.len());
                 }
@@ -137,7 +137,7 @@ impl<T, A: Allocator + Copy> Entries<T, A> {
         }
     }
 
-    // Whether the key is above the last one, so that an entry under it may be appended.
+    // Whether `key` is above the last key, so that it may be appended.
     pub(crate) fn takes(&self, key: &[u8]) -> bool
         ensures { result ≡ goes_last key.now self.now }
     {
@@ -150,7 +150,7 @@ impl<T, A: Allocator + Copy> Entries<T, A> {
 }
 
 impl<T, A: Allocator + Copy> Entries<T, A> {
-    // Puts another item in the place of the one that stands there, and gives that one back.
+    // Replaces the item at place `at` and returns the old item.
     pub(crate) fn exchange(&mut self, at: usize, item: T) -> T
         requires { at < length self.old }
         ensures held { slice_get (values_of self.old) at ≡ Some result }
@@ -174,7 +174,7 @@ impl<T, A: Allocator + Copy> KeptEntries<T, A> {
 }
 
 impl<T: Drop, A: Allocator + Copy> Entries<T, A> {
-    // Appends the entry. Where memory is refused the entries stay as they are.
+    // Appends the entry. If allocation fails, the entries are unchanged.
     pub(crate) fn push(&mut self, key: Key<A>, item: T) -> Result<(), AllocError>
         requires { goes_last key self.old ≡ true }
         ensures ok { OnOk result (self.new ≡ self.old ++ (key, item) ∷ []) }
@@ -187,8 +187,8 @@ impl<T: Drop, A: Allocator + Copy> Entries<T, A> {
         Ok(())
     }
 
-    // Sets the item of the key: in the place of the one that it has, or else where the key goes. Where memory is
-    // refused they stay as they are.
+    // Sets the item at `key`: replaces the old item, or inserts a new entry. If allocation fails, the entries are
+    // unchanged.
     pub(crate) fn set(&mut self, key: Key<A>, item: T) -> Result<(), AllocError>
         ensures ok { OnOk result (self.new ≡ with_pair self.old key item) }
         ensures err { OnErr result (self.new ≡ self.old) }
@@ -206,7 +206,6 @@ impl<T: Drop, A: Allocator + Copy> Entries<T, A> {
 }
 
 impl<T: Drop, A: Allocator + Copy> KeptEntries<T, A> {
-    // Writes the entry over the one at this place.
     fn write(&mut self, at: usize, entry: (KeyWithWord<A>, T))
         requires { at < length (entries_kept self.old) }
         ensures { entries_kept self.new ≡ set (entries_kept self.old) at entry }
@@ -217,7 +216,7 @@ impl<T: Drop, A: Allocator + Copy> KeptEntries<T, A> {
         }
     }
 
-    // Puts the entry at this place, before those that stood from there on. Where memory is refused they stay as they are.
+    // Inserts the entry at place `at`. If allocation fails, the entries are unchanged.
     fn insert(&mut self, alloc: A, at: usize, entry: (KeyWithWord<A>, T)) -> Result<(), AllocError>
         requires { at ≤ length (entries_kept self.old) }
         ensures ok { OnOk result (entries_kept self.new ≡ insert (entries_kept self.old) at entry) }
@@ -247,7 +246,7 @@ impl<T: Drop, A: Allocator + Copy> KeptEntries<T, A> {
     }
 }
 
-// The list with an entry that stood alone, and with another at this place beside it. There is room for both.
+// `list`, which has room for two entries, with the entry that was stored alone and another one at place `at` beside it.
 fn with_two<T, A: Allocator + Copy>(
     mut list: Vec<(KeyWithWord<A>, T), A>,
     alone: (KeyWithWord<A>, T),
@@ -269,7 +268,7 @@ fn with_two<T, A: Allocator + Copy>(
     list
 }
 
-// Whether the key is above the last one, if there is one.
+// Whether `key` is above the last key, if there is one.
 fn goes_last<T, A: Allocator + Copy>(items: &[(KeyWithWord<A>, T)], key: &KeyRef<'_>) -> bool
     ensures { result ≡ goes_last key.now items.now }
 {

@@ -1,4 +1,4 @@
-//! The trait of rising keys that are read by place.
+//! The trait of lists of rising keys.
 ghost use Rattle.std.specs.Prelude.{◌≡◌, ◌<◌, List, length, slice_get};
 ghost use Rattle.std.specs.Map.{keys_of};
 ghost use Rattle.keys.specs.Bytes.{Bytes};
@@ -9,21 +9,21 @@ use crate::run::Run;
 use keys::KeyRef;
 use std::alloc::Allocator;
 
-/// A list of strictly rising keys that is read by place, so that search is written once for every such list.
+/// A list of strictly rising keys with access by place. Binary search is written once for all such lists.
 pub trait KeyList {
     ghost keys: { Self → List Bytes };
 
-    /// How many keys there are.
+    /// Returns the number of keys.
     fn len(&self) -> usize
         ensures count { result ≡ length (keys self.now) }
         ensures rising { AreRisingKeys (keys self.now) };
 
-    /// The bytes of the key at this place, counted from 0.
+    /// Returns the bytes of the key at place `at`, counted from 0.
     fn key(&self, at: usize) -> &[u8]
         requires { at < length (keys self.now) }
         ensures { slice_get (keys self.now) at ≡ Some result.now };
 
-    /// The key at this place, counted from 0, with what tells it apart from others at a glance.
+    /// Returns the key at place `at`, counted from 0, with its first word for quick comparisons.
     fn key_ref(&self, at: usize) -> KeyRef<'_>
         requires { at < length (keys self.now) }
         ensures { slice_get (keys self.now) at ≡ Some result };

@@ -1,4 +1,4 @@
-//! A page whose base is made late: what counts as its base stands beside the chain as it lies in memory.
+//! A page whose base is merged late: what counts as its base may still be runs in memory.
 ghost use Rattle.std.specs.Prelude.{◌≡◌, ◌≤◌, ◌∷◌, [], length, min, OnOk, OnErr, IfOk, IfErr, MatchOption};
 ghost use Rattle.keys.specs.Order.{IsRising};
 ghost use Rattle.delta_chain.specs.Late.{below_of, seen};
@@ -12,8 +12,8 @@ use keys::Cell;
 use std::alloc::{AllocError, Allocator};
 use std::marker::Model;
 
-/// A chain, some of whose runs, the oldest ones, count as merged with its base, though they lie in memory as they were. They are merged
-/// when the page is made anew for another reason. Contracts see it as a `Late`, and the page that it stands for as what is `seen` of it.
+/// A chain whose oldest runs may count as merged into its base, although they still lie in memory as runs. They are
+/// merged when the page is next rebuilt. Contracts see it as a `Late`, and the page that it represents as `seen` of it.
 #[derive(Drop)]
 pub struct LateChain<V, A: Allocator> {
     chain: Chain<V, A>,
@@ -33,21 +33,21 @@ impl<V, A: Allocator> Model for LateChain<V, A> {
 }
 
 impl<V, A: Allocator + Copy> LateChain<V, A> {
-    /// The chain, none of whose runs count as merged. The page is as the chain.
+    /// Makes a page of `chain`, none of whose runs count as merged.
     pub fn of(chain: Chain<V, A>) -> Self
         ensures { result ≡ record { chain = chain; settled = 0 } }
     {
         LateChain { chain, settled: 0 }
     }
 
-    /// The chain as it lies in memory. It has the page's entries and holds what the page holds, but it may have more runs.
+    /// Returns the chain in memory. It has the page's entries, but may have more runs than the page.
     pub fn whole(&self) -> &Chain<V, A>
         ensures { result.now ≡ self.now.chain }
     {
         &self.chain
     }
 
-    /// How many of the runs, the oldest ones, count as merged.
+    /// Returns how many of the oldest runs count as merged.
     pub fn settled(&self) -> usize
         ensures count { result ≡ self.now.settled }
         ensures within { self.now.settled ≤ length self.now.chain.runs }
@@ -55,7 +55,7 @@ impl<V, A: Allocator + Copy> LateChain<V, A> {
         self.settled
     }
 
-    /// How many runs the page has, up to the greatest `u64`.
+    /// Returns the number of runs of the page, or the greatest `u64` if there are more.
     pub fn depth(&self) -> u64
         ensures count { result ≡ min (depth_of (seen self.now)) u64.MAX }
         ensures rising { IsInOrder (seen self.now) }
@@ -63,21 +63,21 @@ impl<V, A: Allocator + Copy> LateChain<V, A> {
         (self.chain.run_count() - self.settled) as u64
     }
 
-    /// What counts as the page's base: the runs that count as merged, and the base in memory.
+    /// Returns what counts as the page's base: the base in memory and the runs that count as merged.
     pub fn below(&self) -> ChainRef<'_, V, A>
         ensures { result ≡ below_of self.now }
     {
         self.chain.oldest(self.settled)
     }
 
-    /// The page's runs, to be searched from the newest one down, over the base in memory, which needn't be the page's.
+    /// Returns the page's own runs over the base in memory, which need not be the page's base.
     pub fn open_lent(&self) -> ChainRef<'_, V, A>
         ensures { result ≡ record { runs = (seen self.now).runs; base = self.now.chain.base } }
     {
         self.chain.newest_above(self.settled)
     }
 
-    /// The pairs of the page's base, lent. `AllocError` comes only where memory was refused.
+    /// Returns the entries of the page's base, borrowed. `Err` means that allocation failed.
     pub fn base_pairs(&self, alloc: A) -> Result<Pairs<'_, V, A>, AllocError>
         ensures entries { IfOk result (λ pairs. pairs ≡ (seen self.now).base) }
         ensures rising { IfOk result (λ pairs. IsRising pairs) }
@@ -87,7 +87,7 @@ impl<V, A: Allocator + Copy> LateChain<V, A> {
 }
 
 impl<V: Cell<A> + Drop, A: Allocator + Copy> LateChain<V, A> {
-    /// A copy of the page's base. `AllocError` comes only where memory was refused.
+    /// Returns a copy of the page's base. `Err` means that allocation failed.
     pub fn base_copy(&self, alloc: A) -> Result<Base<V, A>, AllocError>
         ensures { IfOk result (λ base. base ≡ (seen self.now).base) }
     {
@@ -97,7 +97,7 @@ impl<V: Cell<A> + Drop, A: Allocator + Copy> LateChain<V, A> {
 }
 
 impl<V: Drop, A: Allocator + Copy> LateChain<V, A> {
-    /// Puts the run in front. Where memory is refused all stays as it was and the run comes back.
+    /// Adds `run` as the newest one. If allocation fails, the page is unchanged and the run is returned with the error.
     pub fn prepend(&mut self, run: Run<V, A>) -> Result<(), (AllocError, Run<V, A>)>
         ensures ok { OnOk result (self.new ≡ record {
           chain = record { runs = run ∷ self.old.chain.runs; base = self.old.chain.base };
@@ -109,8 +109,8 @@ impl<V: Drop, A: Allocator + Copy> LateChain<V, A> {
         self.chain.prepend(run)
     }
 
-    /// Takes the newest run off, if there is one. Where all runs counted as merged, all that are left do. This undoes `prepend`, and
-    /// takes no memory.
+    /// Removes and returns the newest run, if there is one. If all runs counted as merged, all remaining ones do. This
+    /// undoes `prepend`; it does not allocate.
     pub fn pop(&mut self) -> Option<Run<V, A>>
         ensures chain { MatchOption result (self.old.chain.runs ≡ [] × self.new ≡ self.old)
             (λ run. self.old.chain
@@ -122,7 +122,7 @@ impl<V: Drop, A: Allocator + Copy> LateChain<V, A> {
         popped
     }
 
-    /// From now on all runs count as merged: the page is a base of its entries.
+    /// Declares all runs as merged: the page is now a base of its entries.
     pub fn settle(&mut self)
         ensures { self.new
             ≡ record { chain = self.old.chain; settled = length self.old.chain.runs } }
@@ -130,7 +130,7 @@ impl<V: Drop, A: Allocator + Copy> LateChain<V, A> {
         self.settled = self.chain.run_count();
     }
 
-    /// From now on the oldest `settled` runs count as merged. This undoes `settle`.
+    /// Sets the number of runs that count as merged to the oldest `settled`. This undoes `settle`.
     pub fn unsettle(&mut self, settled: usize)
         requires { settled ≤ length self.old.chain.runs }
         ensures { self.new ≡ record { chain = self.old.chain; settled = settled } }
@@ -138,7 +138,7 @@ impl<V: Drop, A: Allocator + Copy> LateChain<V, A> {
         self.settled = settled;
     }
 
-    /// Narrows the chain's bounds on the number of entries by these.
+    /// Tightens the bounds on the number of entries to `known`.
     pub fn bound(&mut self, known: EntryBounds)
         requires fewest { known.fewest ≤ length (entries_of self.old.chain) }
         requires most { min (length (entries_of self.old.chain)) usize.MAX ≤ known.most }
@@ -147,7 +147,7 @@ impl<V: Drop, A: Allocator + Copy> LateChain<V, A> {
         self.chain.bound(known);
     }
 
-    /// The chain as it lies in memory. This undoes `of`.
+    /// Returns the chain in memory. This undoes `of`.
     pub fn into_chain(self) -> Chain<V, A>
         ensures { result ≡ self.chain }
     {

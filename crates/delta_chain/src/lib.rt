@@ -1,7 +1,7 @@
-//! The state of a page: runs of changes in front of a base. A page is never changed in place; a change is a run
-//! that is put in front of what was there (the Bw-tree's delta), until the page is replaced as a whole. A page that
-//! counts as replaced may lie in memory as it was, since its base can be made late.
-//! Other crates name items by this root, and laws by the public module `laws`.
+//! The state of a page: runs of changes in front of a base. A page is not changed in place: a change is a run that is
+//! prepended (the Bw-tree's delta), until the page is replaced as a whole. A replaced page may still lie in memory as
+//! runs, because its base can be merged later. Other crates name items by this root, and laws by the public module
+//! `laws`.
 #![tactic(auto)]
 
 mod base;

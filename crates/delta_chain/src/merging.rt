@@ -1,4 +1,4 @@
-//! The runs of a page merged with one another, and then applied to its base, each time by one walk over two lists.
+//! Merges the runs of a page with each other, and then with its base. Each merge is one pass over two lists.
 ghost use Rattle.std.specs.Prelude.{◌≡◌, ◌<◌, ◌≤◌, ◌+◌, ◌-◌, ◌++◌, [], length, drop, reverse, vec_len, vec_capacity, IfOk};
 ghost use Rattle.std.specs.Option.{option_copied};
 ghost use Rattle.keys.specs.Order.{IsRising};
@@ -13,7 +13,7 @@ use keys::{Cell, Key, compare};
 use std::alloc::{AllocError, Allocator};
 use std::cmp::Ordering;
 
-/// The pairs of a base.
+/// The entries of a base, borrowed.
 pub(crate) fn lent_base<V, A: Allocator + Copy>(
     alloc: A,
     base: &Base<V, A>,
@@ -29,7 +29,7 @@ pub(crate) fn lent_base<V, A: Allocator + Copy>(
     Ok(Pairs::of_list(lent))
 }
 
-// The changes of a run.
+// The changes of a run, borrowed.
 fn lent_run<V, A: Allocator + Copy>(
     alloc: A,
     run: &Run<V, A>,
@@ -45,9 +45,9 @@ fn lent_run<V, A: Allocator + Copy>(
     Ok(Pairs::of_list(lent))
 }
 
-/// The changes of these runs joined, lent: each key that they name, with the change of the newest run that names it. The runs are given
-/// the oldest first. Each half of them is merged by itself first: a page that was read from a disk may have as many runs as the disk has
-/// room for, and n of them cost n * log n. So the calls go no deeper than the logarithm of their number.
+/// The merged changes of these runs, borrowed: each key that a run contains, with the change of the newest such run.
+/// The runs are given oldest first. Splits the list in two and merges each half first: a page that was read from a disk
+/// may have as many runs as the disk has room for, and n runs then cost n * log n, with a recursion depth of log n.
 pub(crate) fn merged<'a, V, A: Allocator + Copy>(
     alloc: A,
     runs: &'a [Run<V, A>],
@@ -67,7 +67,7 @@ pub(crate) fn merged<'a, V, A: Allocator + Copy>(
     overlaid(alloc, &under, &over)
 }
 
-// Older changes with newer ones over them: each older one whose key the newer ones don't name, and all newer ones.
+// The newer changes, and those older ones whose keys are not among them.
 fn overlaid<'a, V, A: Allocator + Copy>(
     alloc: A,
     older: &Pairs<'a, Option<V>, A>,
@@ -102,7 +102,7 @@ fn overlaid<'a, V, A: Allocator + Copy>(
     Ok(Pairs::of_list(lent))
 }
 
-/// The pairs with the changes to them: each pair that the changes don't name, and each key of the changes that has a
+/// The pairs with the changes applied: the pairs whose keys are not among the changes, and each changed key that has a
 /// cell.
 pub(crate) fn with_run<'a, V, A: Allocator + Copy>(
     alloc: A,
@@ -139,7 +139,7 @@ pub(crate) fn with_run<'a, V, A: Allocator + Copy>(
     Ok(Pairs::of_list(lent))
 }
 
-// How the key of the pair at this place compares to this key; after the last pair, as one above every key.
+// Compares the key of the pair at place `at` to `key`. Past the last pair, returns `Greater`.
 fn order_at<V, A: Allocator + Copy>(pairs: &Pairs<'_, V, A>, at: usize, key: &[u8]) -> Ordering
     ensures { result ≡ first_order (drop at pairs.now) key.now }
 {
@@ -150,7 +150,7 @@ fn order_at<V, A: Allocator + Copy>(pairs: &Pairs<'_, V, A>, at: usize, key: &[u
     }
 }
 
-// Appends the key with its cell, where the change has one. There is room for it.
+// Appends the key with its cell, unless the change deletes the key. The list has room for it.
 fn push_change<'a, V, A: Allocator + Copy>(
     lent: &mut Vec<(&'a [u8], &'a V), A>,
     key: &'a [u8],
@@ -167,7 +167,7 @@ fn push_change<'a, V, A: Allocator + Copy>(
     }
 }
 
-// Appends the lower pairs from this place on. There is room for them.
+// Appends the lower pairs from place `at` on. The list has room for them.
 fn push_rest<'a, V, A: Allocator + Copy>(
     lent: &mut Vec<(&'a [u8], &'a V), A>,
     under: &Pairs<'a, V, A>,
@@ -181,7 +181,6 @@ fn push_rest<'a, V, A: Allocator + Copy>(
     }
 }
 
-/// Copies of the pairs.
 pub(crate) fn copied<V: Cell<A> + Drop, A: Allocator + Copy>(
     alloc: A,
     pairs: &Pairs<'_, V, A>,

@@ -1,4 +1,4 @@
-//! What a page knows of the keys that its runs name, by their fingerprints.
+//! Which runs of a page may contain a key, by the key's fingerprint.
 ghost use Rattle.std.specs.Prelude.{◌≡◌, ◌⊎◌, ℕ, ◌<◌, ◌≤◌, min, get_or};
 ghost use Rattle.keys.specs.Bytes.{Bytes};
 ghost use Rattle.delta_chain.specs.NewestRuns.{newest_for, NamesKnown};
@@ -7,25 +7,25 @@ use crate::run::Run;
 use keys::{FINGERPRINTS, fingerprint_of};
 use std::alloc::Allocator;
 
-// It stands for all runs that a byte has no number for.
+// Represents all run numbers that do not fit into a byte.
 const ALL: u8 = 255;
 
-/// For each fingerprint the number of the newest run that has named a key with it, where the oldest run has the number 1, and 0 where none
-/// has. So a look-up skips the runs that are newer, without reading them.
+/// For each fingerprint, the number of the newest run (popped runs included) that contains a key with it, or 0 if there
+/// is none; the oldest run has number 1. A lookup skips all newer runs without reading them.
 #[derive(Drop)]
 pub(crate) struct NewestRuns {
     numbers: [u8; 64],
 }
 
 impl NewestRuns {
-    /// No run has named a key.
+    /// No run contains any key.
     pub(crate) fn none() -> Self {
         NewestRuns {
             numbers: [0; FINGERPRINTS],
         }
     }
 
-    /// How many of the oldest of these `runs` runs may name the key.
+    /// How many of the oldest of `runs` runs may contain `key`.
     pub(crate) fn reach(&self, key: &[u8], runs: usize) -> usize
         ensures within { result ≤ runs }
         ensures reached { ((newest_for self.now.numbers key.now ≤ result)
@@ -39,7 +39,7 @@ impl NewestRuns {
         runs.min(usize::from(number))
     }
 
-    /// Notes the keys of a run that gets this number.
+    /// Records the keys of a run that gets this number.
     pub(crate) fn note<V, A: Allocator + Copy>(&mut self, run: &Run<V, A>, number: usize)
         ensures named { NamesKnown self.new.numbers number run.now }
         ensures kept { (f : ℕ) →

@@ -11,7 +11,7 @@ use keys::Cell;
 use std::alloc::{AllocError, Allocator};
 use std::marker::Model;
 
-/// A page's entries, lent out of its runs and its base. Contracts see them as the list of pairs.
+/// A page's entries, borrowed from its runs and its base. Contracts see them as the list of pairs.
 #[derive(Drop)]
 pub struct Pairs<'a, V, A: Allocator> {
     lent: Vec<(&'a [u8], &'a V), A>,
@@ -29,21 +29,20 @@ impl<'a, V, A: Allocator> Model for Pairs<'a, V, A> {
 }
 
 impl<'a, V, A: Allocator + Copy> Pairs<'a, V, A> {
-    // The pairs of this list.
     pub(crate) fn of_list(lent: Vec<(&'a [u8], &'a V), A>) -> Self
         ensures { result ≡ pairs_lent lent.entry.items }
     {
         Pairs { lent }
     }
 
-    /// How many pairs there are.
+    /// Returns the number of pairs.
     pub fn len(&self) -> usize
         ensures { result ≡ length self.now }
     {
         self.lent.len()
     }
 
-    /// The bytes of the key at this place, counted from 0.
+    /// Returns the bytes of the key at place `at`, counted from 0.
     pub fn key(&self, at: usize) -> &'a [u8]
         requires { at < length self.now }
         ensures { slice_get (keys_of self.now) at ≡ Some result.now }
@@ -51,7 +50,7 @@ impl<'a, V, A: Allocator + Copy> Pairs<'a, V, A> {
         self.lent[at].0
     }
 
-    /// The cell at this place, counted from 0.
+    /// Returns the cell at place `at`, counted from 0.
     pub fn cell(&self, at: usize) -> &'a V
         requires { at < length self.now }
         ensures { slice_get (values_of self.now) at ≡ Some result.now }
@@ -61,7 +60,7 @@ impl<'a, V, A: Allocator + Copy> Pairs<'a, V, A> {
 }
 
 impl<'a, V: Cell<A> + Drop, A: Allocator + Copy> Pairs<'a, V, A> {
-    /// A base of the pairs' keys, copied, each with a blank cell.
+    /// Returns a base with copies of the keys, each with a blank cell. `Err` means that allocation failed.
     pub fn blank_base(&self, alloc: A) -> Result<Base<V, A>, AllocError>
         requires { IsRising self.now }
         ensures { IfOk result (λ base. keys_of base ≡ keys_of self.now) }
@@ -73,7 +72,7 @@ impl<'a, V: Cell<A> + Drop, A: Allocator + Copy> Pairs<'a, V, A> {
         Ok(builder.finish())
     }
 
-    /// The base of the pairs, copied.
+    /// Returns a base with copies of the pairs. `Err` means that allocation failed.
     pub fn copied_base(&self, alloc: A) -> Result<Base<V, A>, AllocError>
         requires { IsRising self.now }
         ensures { IfOk result (λ base. base ≡ self.now) }
@@ -82,7 +81,7 @@ impl<'a, V: Cell<A> + Drop, A: Allocator + Copy> Pairs<'a, V, A> {
     }
 }
 
-/// The base of these entries, copied.
+/// Returns a base with copies of `entries`. `Err` means that allocation failed.
 pub fn copied_base<V: Cell<A> + Drop, A: Allocator + Copy>(
     alloc: A,
     entries: &[(&[u8], &V)],
@@ -98,7 +97,7 @@ pub fn copied_base<V: Cell<A> + Drop, A: Allocator + Copy>(
     Ok(builder.finish())
 }
 
-// How many bytes the keys of these entries have together, or the greatest `usize` where that is less.
+// The total number of bytes of these keys, or the greatest `usize` if there are more.
 fn key_bytes<V>(entries: &[(&[u8], &V)]) -> usize
     ensures { result ≡ min (sum_by (λ e. length e.0) (pairs_lent entries.now)) usize.MAX }
 {

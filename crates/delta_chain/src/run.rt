@@ -15,8 +15,8 @@ use std::alloc::{AllocError, Allocator};
 use std::marker::Model;
 use std::mem;
 
-/// A run of changes to a page: keys in strictly rising order, each with the cell that it has from now on, or with
-/// none where it is absent from now on. Contracts see it as the list of these pairs.
+/// A run of changes to a page: strictly rising keys, each with its new cell, or `None` if the run deletes the key.
+/// Contracts see it as the list of these pairs.
 #[derive(Drop)]
 pub struct Run<V, A: Allocator> {
     changes: Entries<Option<V>, A>,
@@ -31,7 +31,7 @@ impl<V, A: Allocator> Model for Run<V, A> {
 }
 
 impl<V, A: Allocator + Copy> Run<V, A> {
-    /// A run without changes. It takes no memory.
+    /// Returns a run without changes. Does not allocate.
     pub fn empty(alloc: A) -> Self
         ensures { result ≡ [] }
     {
@@ -40,7 +40,7 @@ impl<V, A: Allocator + Copy> Run<V, A> {
         }
     }
 
-    /// A run without changes, with room for this many. Room for one takes no memory.
+    /// Returns a run without changes, with room for `count` of them. Room for one needs no allocation.
     pub fn with_capacity(alloc: A, count: usize) -> Result<Self, AllocError>
         ensures { IfOk result (λ run. run ≡ []) }
     {
@@ -48,7 +48,7 @@ impl<V, A: Allocator + Copy> Run<V, A> {
         Ok(Run { changes })
     }
 
-    /// How many keys the run names.
+    /// Returns the number of changes.
     pub fn len(&self) -> usize
         ensures count { result ≡ length self.now }
         ensures rising { IsRising self.now }
@@ -56,7 +56,7 @@ impl<V, A: Allocator + Copy> Run<V, A> {
         self.changes.len()
     }
 
-    /// The bytes of the key at this place, counted from 0.
+    /// Returns the bytes of the key at place `at`, counted from 0.
     pub fn key(&self, at: usize) -> &[u8]
         requires { at < length self.now }
         ensures { slice_get (keys_of self.now) at ≡ Some result.now }
@@ -64,7 +64,7 @@ impl<V, A: Allocator + Copy> Run<V, A> {
         self.changes.key(at)
     }
 
-    /// The key at this place, counted from 0, with what tells it apart from others at a glance.
+    /// Returns the key at place `at`, counted from 0, with its first word for quick comparisons.
     pub fn key_ref(&self, at: usize) -> KeyRef<'_>
         requires { at < length self.now }
         ensures { slice_get (keys_of self.now) at ≡ Some result }
@@ -72,7 +72,7 @@ impl<V, A: Allocator + Copy> Run<V, A> {
         self.changes.key_ref(at)
     }
 
-    /// The change at this place: a cell, or none where the key is absent.
+    /// Returns the change at place `at`: a cell, or `None` if the run deletes the key.
     pub fn change(&self, at: usize) -> Option<&V>
         requires { at < length self.now }
         ensures { slice_get (values_of self.now) at ≡ Some (option_copied result) }
@@ -80,7 +80,6 @@ impl<V, A: Allocator + Copy> Run<V, A> {
         self.changes.item(at).as_ref()
     }
 
-    // The change at this place, as it is kept.
     pub(crate) fn item(&self, at: usize) -> &Option<V>
         requires { at < length self.now }
         ensures { slice_get (values_of self.now) at ≡ Some result.now }
@@ -88,8 +87,8 @@ impl<V, A: Allocator + Copy> Run<V, A> {
         self.changes.item(at)
     }
 
-    /// The place of the key, counted from 0, or none where the run doesn't name it. It is found by halves, and a key
-    /// above all of them by one comparison.
+    /// Returns the place of `key`, counted from 0, or `None` if the run does not contain it. Takes a binary search, or
+    /// one comparison if `key` is above all keys.
     pub fn place(&self, key: &[u8]) -> Option<usize>
         ensures place { MatchOption result (value_at key.now self.now ≡ None)
             (λ at. slice_get (keys_of self.now) at ≡ Some key.now) }
@@ -100,7 +99,7 @@ impl<V, A: Allocator + Copy> Run<V, A> {
         self.place_of(&KeyRef::new(key))
     }
 
-    // The same for a key that is looked for in many runs.
+    // `place` of a key with its first word, which is computed once for a lookup in many runs.
     pub(crate) fn place_of(&self, key: &KeyRef<'_>) -> Option<usize>
         ensures place { MatchOption result (value_at key.now self.now ≡ None)
             (λ at. slice_get (keys_of self.now) at ≡ Some key.now) }
@@ -111,8 +110,8 @@ impl<V, A: Allocator + Copy> Run<V, A> {
         self.changes.search(key).ok()
     }
 
-    /// The place, counted from 0, of the first key that isn't below this one; where all are, how many there are. It is found
-    /// by halves, and for a key above all of them by one comparison.
+    /// Returns the place, counted from 0, of the first key that is not below `key`, or the number of keys if all are.
+    /// Takes a binary search, or one comparison if `key` is above all keys.
     pub fn lower(&self, key: &[u8]) -> usize
         ensures { drop result self.now ≡ in_range key.now None self.now }
     {
@@ -125,7 +124,7 @@ impl<V, A: Allocator + Copy> Run<V, A> {
 }
 
 impl<V: Drop, A: Allocator + Copy> Run<V, A> {
-    // Lets the cell and the one that the key at this place has, if it has one, stand in each other's place.
+    // Swaps `cell` with the cell at place `at`, unless the change there deletes its key.
     pub(crate) fn swap_cell(&mut self, at: usize, cell: &mut V)
         requires { at < length self.old }
         ensures cell { (o : Option V) → slice_get (values_of self.old) at ≡ Some o →
@@ -139,8 +138,8 @@ impl<V: Drop, A: Allocator + Copy> Run<V, A> {
         }
     }
 
-    /// Appends a change. An `Err` drops the change and leaves the run as it was: `OutOfOrder` exactly where the key is not
-    /// above the last one, and else `NoMemory`.
+    /// Appends a change. Returns `OutOfOrder` if the key is not above the last one, and `NoMemory` if allocation fails;
+    /// both drop the change and leave the run unchanged.
     pub fn push(&mut self, key: Key<A>, change: Option<V>) -> Result<(), PushError>
         ensures ok { OnOk result (self.new ≡ self.old ++ (key, change) ∷ []) }
         ensures order { IsErrOf result PushError.OutOfOrder ↔ (goes_last key self.old ≡ false) }
@@ -153,8 +152,8 @@ impl<V: Drop, A: Allocator + Copy> Run<V, A> {
         Ok(())
     }
 
-    /// Appends a change, under a key that is above the last one. Where memory is refused the change is dropped and the run
-    /// stays as it was. For a key that may not be above it there is `push`.
+    /// Appends a change whose key the caller knows to be above the last key (else use `push`). If allocation fails, the
+    /// change is dropped and the run is unchanged.
     pub fn push_next(&mut self, key: Key<A>, change: Option<V>) -> Result<(), AllocError>
         requires { goes_last key self.old ≡ true }
         ensures ok { OnOk result (self.new ≡ self.old ++ (key, change) ∷ []) }
@@ -163,8 +162,8 @@ impl<V: Drop, A: Allocator + Copy> Run<V, A> {
         self.changes.push(key, change)
     }
 
-    /// Sets the run's change of the key: in the place of the one that it has, or else where the key goes, so that the keys
-    /// may come in any order. Where memory is refused the change is dropped and the run stays as it was.
+    /// Sets the run's change of `key`: replaces the old change, or inserts a new one, so that keys may come in any
+    /// order. If allocation fails, the change is dropped and the run is unchanged.
     pub fn set(&mut self, key: Key<A>, change: Option<V>) -> Result<(), AllocError>
         ensures ok { OnOk result (self.new ≡ with_pair self.old key change) }
         ensures err { OnErr result (self.new ≡ self.old) }

@@ -1,4 +1,4 @@
--- Why a commit is refused, by its tail.
+-- Why a commit fails, by its tail.
 use Rattle.std.proofs.Common.{◌≡◌, ℕ, Bool, true, false, if◌then◌else◌, List, Option, Some, None, Result, Ok, Err, refl, sym, ap, ◌∙◌}
 use Rattle.keys.specs.declared.settings.Settings.{Settings}
 use Rattle.keys.specs.declared.fault.Fault.{Fault}
@@ -40,7 +40,7 @@ admits t tail is_full full = of (is_spent t)
 pub full_at : (s : Settings) (t : Slot) (head tail : ℕ) → t.head ≡ head → tail ≡ t.tail → is_full_for_flush s head tail ≡ is_full_for_flush s t.head t.tail
 full_at s t head tail h is = ap (λ (n : ℕ). is_full_for_flush s n tail) (sym h) ∙ ap (λ (n : ℕ). is_full_for_flush s t.head n) is
 
--- ---- what is left, by the answer
+-- ---- the result, by the answer
 
 -- of a commit that is admitted with this tail
 pub record IsAdmitted (t : Slot) (is_full : Bool) (n : ℕ) : Type 0 where

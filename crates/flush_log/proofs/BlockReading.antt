@@ -1,4 +1,4 @@
--- What the settings block says, as a reading of it finds it step by step.
+-- The contents of the settings block, as a reading finds them step by step.
 use Rattle.std.proofs.Common.{◌≡◌, ◌≢◌, Bool, true, false, ◌&&◌, if◌then◌else◌, is_none, is_ok, length, Option, Some, None, Result, Ok, Err, MatchOption, bytes_eq, refl, sym, ap, ap₂, ◌∙◌}
 use Rattle.std.proofs.lemmas.Slice.Eq.{bytes_eq-Decides}
 use Rattle.keys.specs.Bytes.{Bytes}

@@ -38,7 +38,7 @@ found = refl
 in_segments : found_in_text S 179 text_of_row_4 ≡ map (λ f. record { segment = 0; frame = f }) (take 2 text_of_row_4) ++ map (λ f. record { segment = 1; frame = f }) (drop 2 text_of_row_4)
 in_segments = refl
 
--- a byte of the padding isn't 0: the fault stands where the padding begins
+-- a byte of the padding isn't 0: the fault is where the padding begins
 padding_with_a_7 : log_between (in_version S One) (overlay file 767 (7 ∷ [])) 0 310 ≡ Err (BadFrame 0 244)
 padding_with_a_7 = refl
 

@@ -1,4 +1,4 @@
--- What a crash may leave during calls that are made one after another.
+-- What a crash may leave during a sequence of calls.
 use Rattle.std.proofs.Common.{◌≡◌, ◌⊎◌, inl, inr, ⊎_elim, ℕ, zero, suc, List, [], ◌∷◌, ◌++◌, length, map, take, refl}
 use Rattle.keys.specs.declared.settings.Settings.{Settings}
 use Rattle.flush_log.specs.Overlay.{overlay, IsBeside, AgreeAt}
@@ -12,7 +12,7 @@ use Rattle.flush_log.proofs.OverlayLemmas.{agree_same, agree_then, agree_less}
 abbrev pub During : List Call → List ℕ → (List ℕ → Type 0) → List ℕ → Type 0
 During calls seen might c = (k : ℕ) × MayLeave (take k calls) seen might c
 
--- what was possible before a write, with any bytes where it wrote
+-- the outcomes before a write, with any bytes where it wrote
 abbrev pub TornFrom : (List ℕ → Type 0) → ℕ → List ℕ → List ℕ → Type 0
 TornFrom might at bytes e = (d : List ℕ) × might d × Torn at (length bytes) d e
 

@@ -16,7 +16,7 @@ use Rattle.flush_log.proofs.CallLemmas.{TornFrom, seen_after-append, leave-appen
 pub one_in_range : (n : ℕ) (calls : List Call) (x : Call) → AreCalls n calls → end_of_call x ≤ n → AreCalls n (calls ++ x ∷ [])
 one_in_range n calls x fit here = all-append (λ call. end_of_call call ≤ n) calls (x ∷ []) fit (here, tt)
 
--- what a read gives is one of what a crash may leave
+-- a crash may leave the readable contents
 pub may_stay : (calls : List Call) (seen : List ℕ) (might : List ℕ → Type 0) → AreCalls (length seen) calls → might seen → MayLeave calls seen might (seen_after calls seen)
 may_stay [] seen might fit here = here
 may_stay (Write at bytes ∷ calls) seen might fit here =
@@ -25,14 +25,14 @@ may_stay (Write at bytes ∷ calls) seen might fit here =
 may_stay (Sync ∷ calls) seen might fit here = may_stay calls seen (λ e. e ≡ seen) fit.1 refl
 
 module _ (file : List ℕ) (calls : List Call) (fit : AreCalls (length file) calls) where
-  -- what a read gives is one of what the calls may leave
+  -- the calls may leave the readable contents
   pub now_may : (c : List ℕ) → LeftNow file calls c → MayLeave calls file (λ d. d ≡ file) c
   now_may c left =
       ⊎_elim
       (λ is. subst (λ (f : List ℕ). MayLeave calls file (λ d. d ≡ file) f) (sym is) (may_stay calls file (λ d. d ≡ file) fit refl))
       (λ may. may) left
 
-  -- what a crash at any moment leaves is what one during the calls may leave
+  -- a crash at any moment leaves an outcome of a crash during the calls
   pub left_during : (c : List ℕ) → LeftNow file calls c ⊎ LeftEarlier file calls 0 c → LeftDuring calls file c
   left_during c left =
       ⊎_elim (λ now. after_all calls file (λ d. d ≡ file) c (now_may c now)) (λ earlier. (earlier.0, earlier.3)) left
@@ -52,7 +52,7 @@ module _ (file : List ℕ) (calls : List Call) (fit : AreCalls (length file) cal
     one_longer : length more ≡ length calls + 1
     one_longer = length-append calls (x ∷ [])
 
-    -- what is now is a moment before, once there is one call more
+    -- after one more call, the present is an earlier moment
     now_earlier : (t : ℕ) (c : List ℕ) → t ≤ length calls → LeftNow file calls c → LeftEarlier file more t c
     now_earlier t c before now =
         let long = one_longer in

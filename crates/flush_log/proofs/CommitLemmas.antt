@@ -1,4 +1,4 @@
--- What a crash leaves of a commit: what was there before, or all of it.
+-- What a crash leaves of a commit: the old state, or everything that was committed.
 use Rattle.std.proofs.Common.{◌≡◌, ◌⊎◌, inl, inr, ⊎_elim, ℕ, zero, suc, ◌+◌, ◌%◌, ◌<◌, ◌≤◌, Bool, true, false, ◌==◌, List, [], ◌∷◌, ◌++◌, length, get_or, refl, sym, ap, subst, ◌∙◌, arith, eqb-true, mod-lt}
 use Rattle.std.proofs.lemmas.Bool.{cases_eq, cases_lt, cases_Bool}
 use Rattle.keys.specs.declared.settings.Settings.{Settings}
@@ -13,12 +13,12 @@ use Rattle.flush_log.proofs.CallLemmas.{During, seen_after-append, leave-append,
 
 -- ---- places
 
--- the slots stand in the first 256 bytes
+-- the slots are in the first 256 bytes
 pub slot_low : (n : ℕ) → slot_place n + 64 ≤ 256
 slot_low n = let two : n % 2 < 2 = mod-lt n (omega arith) in omega arith
 
 module _ (s : Settings) where
-  -- spans stand after the first 512
+  -- spans are after the first 512 bytes
   pub span_high : (r : Span) → 512 ≤ place_of_span s r
   span_high r = omega arith
 
@@ -67,7 +67,7 @@ module _ (s : Settings) (file : List ℕ) (spans : List Span) (t : Slot) (long :
   gate_fits : place + 1 ≤ length file
   gate_fits = let low = place_low in omega arith
 
-  -- the gate is being closed, where it is to be
+  -- the gate is being closed, if it is to be
   abbrev Closing : Bool → List ℕ → Type 0
   Closing b c = IsClosing b place file c
 
@@ -81,7 +81,7 @@ module _ (s : Settings) (file : List ℕ) (spans : List Span) (t : Slot) (long :
   closing true c (suc zero, (d, is, torn)) = subst (λ (f : List ℕ). Torn place 1 f c) is torn
   closing true c (suc (suc k), (d, is, torn)) = subst (λ (f : List ℕ). Torn place 1 f c) is torn
 
-  -- a gate that stands open as it did: nothing was torn
+  -- a gate that is as open as before: nothing was torn
   untorn : (d : List ℕ) → Torn place 1 file d → get_or d place 0 ≡ get_or file place 0 → AgreeAt (IsBesideSpans s spans) file d
   untorn d torn gate = record { long = torn.long; same = λ i out. each i }
     where
@@ -113,7 +113,7 @@ module _ (s : Settings) (file : List ℕ) (spans : List Span) (t : Slot) (long :
     | inr shut ↦ inr (shut, slot_agree d c torn same)
   ]
 
-  -- ---- once the gate is closed and the spans are written
+  -- ---- after the gate is closed and the spans are written
 
   module _ (b : Bool) (was : is_open t.sequence file ≡ b) where
     abbrev shut_file : List ℕ
@@ -297,7 +297,7 @@ module _ (s : Settings) (file : List ℕ) (spans : List Span) (t : Slot) (long :
     all_leave : (c : List ℕ) → MayLeave (first_calls ++ open_gate t) file (λ d. d ≡ file) c → c ≡ committed s file spans t
     all_leave c h = open_end (seen_after first_calls file) c first_seen (leave-append first_calls (open_gate t) file (λ d. d ≡ file) c h)
 
-  -- ---- what is left
+  -- ---- the outcomes of a crash
 
   pub left-before : (c : List ℕ) → LeftDuring (prepare s file spans t) file c → Before c
   left-before c h = first_before (is_open t.sequence file) refl c h

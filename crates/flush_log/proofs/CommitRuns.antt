@@ -1,4 +1,4 @@
--- The two halves of a commit on any disk, and what they leave.
+-- The two halves of a commit on any disk, and their effects.
 use Rattle.std.proofs.Common.{◌≡◌, ◌⊎◌, inl, inr, ⊎_elim, ℕ, suc, ◌+◌, ◌≤◌, Bool, true, false, ◌==◌, List, [], ◌∷◌, length, map, refl, sym, ap, subst, ◌∙◌, arith, eqb-true}
 use Rattle.keys.specs.declared.settings.Settings.{Settings}
 use Rattle.keys.specs.declared.version.Version.TheVariants.{One}
@@ -27,16 +27,16 @@ overlay_over a b at bytes fits same =
     fits_b : at + length bytes ≤ length b
     fits_b = let long = same.long in omega (arith, long, fits)
 
--- ---- a text, where there may be no images
+-- ---- a commit that may have no images
 
--- no images are the frames of the empty text, for which nothing is written
+-- no images are the encoding of no frames, for which nothing is written
 pub no_spans : (s : Settings) (tail : ℕ) (images : List (List (List ℕ))) (text : List Frame) (file : List ℕ) → (length images == 0) ≡ true → AreOfText images text
     → file ≡ with_spans s file (spans s tail text)
 no_spans s tail [] [] file none of = refl
 no_spans s tail [] (f ∷ text) file none of = let long : 0 ≡ suc (length (map {B = List ℕ} (λ f. bytes_of f) text)) = ap length of in absurd (omega (arith, long))
 no_spans s tail (image ∷ images) text file none of = let long = eqb-true (length (image ∷ images)) 0 none in absurd (omega (arith, long))
 
--- where there are images, there is a text
+-- if there are images, there are frames
 pub some_text : (images : List (List (List ℕ))) (size : ℕ) → (length images == 0) ≡ false → (images ≡ []) ⊎ (1 ≤ size) → 1 ≤ size
 some_text [] size some either = absurd (cc)
 some_text (image ∷ images) size some either = ⊎_elim (λ none. absurd (cc)) (λ text. text) either

@@ -1,4 +1,4 @@
--- What a crash leaves of a disk for tests: it is one of what may be left, and follows from the bytes as of the last sync.
+-- What a crash leaves of a test disk: it is one of the possible outcomes, and follows from the bytes at the last sync.
 use Rattle.std.proofs.Common.{◌≡◌, inr, ℕ, ◌+◌, ◌-◌, ◌<◌, ◌≤◌, List, [], ◌∷◌, ◌++◌, length, get_or, take, drop, replicate, refl, sym, ap, subst, ◌∙◌, arith, length-append, Result, Ok, Err, IsErr, IfOk, OnOk, OnErr}
 use Rattle.std.proofs.lemmas.List.{length-map, length-replicate, take-append-drop, drop-append-le, drop_all, drop-map, take_rest, append-nil}
 use Rattle.std.proofs.lemmas.Bool.{false≢true}
@@ -30,7 +30,7 @@ torn-beside (Byte b) at bytes file fits =
 
 -- ---- the calls
 
--- what is left is one of what the calls may leave
+-- the outcome is one that the calls may leave
 pub left-may : (fill : Fill) (calls : List Call) (seen left : List ℕ) (might : List ℕ → Type 0) → AreCalls (length seen) calls → length left ≡ length seen → might left
     → MayLeave calls seen might (left_with fill calls seen left)
 left-may fill [] seen left might fit same here = here
@@ -40,7 +40,7 @@ left-may fill (Write at bytes ∷ calls) seen left might fit same here =
     left-may fill calls (overlay seen at bytes) (torn_by fill at bytes left) (TornFrom might at bytes) (subst (λ (n : ℕ). AreCalls n calls) (sym long) fit.1) (torn.long ∙ same ∙ sym long) (left, here, torn)
 left-may fill (Sync ∷ calls) seen left might fit same here = left-may fill calls seen seen (λ e. e ≡ seen) fit.1 refl refl
 
--- where all was written, it is what a read gives
+-- if everything was written, the readable contents are left
 pub left-written : (calls : List Call) (seen : List ℕ) → left_with Written calls seen seen ≡ seen_after calls seen
 left-written [] seen = refl
 left-written (Write at bytes ∷ calls) seen = left-written calls (overlay seen at bytes)
@@ -69,11 +69,11 @@ front_call cs at c l is =
     ∙ ap (λ xs. calls_of xs) (front_item cs at c l is)
     ∙ ap (λ (xs : List Call). call_of c ∷ xs) (sym (drop-map call_of (at + 1) cs))
 
--- those from a place on of a record that was lent
+-- those from a place on of a borrowed record
 pub calls_after : {A : Type 0} (cs held : List (RecordedCall A)) (since : ℕ) → held ≡ cs → calls_of (take (length held - since) (drop since held)) ≡ drop since (calls_of cs)
 calls_after cs held since is = ap (λ xs. calls_of xs) (take_rest held since) ∙ sym (drop-map call_of since held) ∙ ap (λ xs. drop since (calls_of xs)) is
 
--- a file in which the calls before this place are torn: those that are left lie within it, and make of it what all make of it as it was
+-- a file in which the calls before this place are torn: the remaining ones lie within it, and have on it the outcome of all calls on the original
 pub record IsTearing (fill : Fill) (calls : List Call) (start : List ℕ) (at : ℕ) (file : List ℕ) : Type 0 where
   pub fits : AreCalls (length file) (drop at calls)
   pub torn : all_torn fill (drop at calls) file ≡ all_torn fill calls start
@@ -104,7 +104,7 @@ module _ (fill : Fill) (calls : List Call) (start : List ℕ) (at : ℕ) (file :
 
 -- ---- the bytes as of the last sync
 
--- all of a file was written anew
+-- the whole file was overwritten
 pub over-all : (n : ℕ) (bytes : List ℕ) → length bytes ≡ n → overlay (replicate n 0) 0 bytes ≡ bytes
 over-all n bytes all =
     let long : length {A = ℕ} (replicate n 0) ≡ n = length-replicate n 0 in
@@ -132,7 +132,7 @@ module _ {A : Type 0} (cs held : List (RecordedCall A)) (is : held ≡ cs) (n si
   pub since-within : since ≤ length (calls_of cs) → since ≤ length held
   since-within within = let long = length-map cs call_of in let same = ap (λ xs. length xs) is in omega (arith, within, long, same)
 
-  -- with these writes torn they are what is left
+  -- the outcome is these bytes with these writes torn
   pub tear-left : (fill : Fill) (bytes now : List ℕ) → bytes ≡ settled → IsSettledAt (replicate n 0) (calls_of cs) since settled
       → now ≡ all_torn fill (calls_of (take (length held - since) (drop since held))) bytes → now ≡ left_with fill (calls_of cs) (replicate n 0) (replicate n 0)
   tear-left fill bytes now copied at torn =
@@ -177,7 +177,7 @@ module _ (file : List ℕ) (calls more : List Call) (since : ℕ) (settled : Lis
 pub since-following : (calls more : List Call) (x : Call) (since : ℕ) → more ≡ calls ++ x ∷ [] → since ≤ length calls → since ≤ length more
 since-following calls more x since is within = let long = ap length is ∙ length-append calls (x ∷ []) in omega (arith, within, long)
 
--- a sync of a disk of n zeros: m is the disk's length after it, and its record is lent twice
+-- a sync of a disk of n zeros: m is the disk's length after it, and its record is borrowed twice
 pub settled-tear : {A : Type 0} (cs held counted : List (RecordedCall A)) (n m : ℕ) (calls : List Call) (since : ℕ) (settled now : List ℕ) → held ≡ cs → counted ≡ cs → m ≡ n
     → calls_of cs ≡ calls ++ Sync ∷ [] → IsSettledAt (replicate n 0) calls since settled
     → now ≡ all_torn Written (calls_of (take (length held - since) (drop since held))) settled → length now ≡ length settled → IsSettledAt (replicate m 0) (calls_of cs) (length counted) now
@@ -186,7 +186,7 @@ settled-tear cs held counted n m calls since settled now is again same more was 
     (settled-sync (replicate n 0) calls (calls_of cs) since settled was (length counted) now more
     (ap (λ xs. length xs) again ∙ sym (length-map cs call_of)) (torn ∙ ap (λ (xs : List Call). all_torn Written xs settled) (calls_after cs held since is)) long)
 
--- a write of a disk of n zeros, made or refused; m is the disk's length after it
+-- a write to a disk of n zeros, which succeeds or fails; m is the disk's length after it
 pub settled-either : {T E : Type 0} (result : Result T E) (n m : ℕ) (calls more : List Call) (since : ℕ) (settled : List ℕ) (at : ℕ) (bytes : List ℕ) → m ≡ n
     → OnOk result (more ≡ calls ++ Write at bytes ∷ []) → OnErr result (more ≡ calls) → IsSettledAt (replicate n 0) calls since settled → IsSettledAt (replicate m 0) more since settled
 settled-either result n m calls more since settled at bytes same done refused was =
@@ -205,7 +205,7 @@ settled-still n m calls more since settled same is was =
 pub whole-still : (before now k m : ℕ) → m ≡ k → before ≡ k → before ≤ now → now ≤ m → now ≡ m
 whole-still before now k m same was grew short = omega (arith, same, was, grew, short)
 
--- what is left now, of a disk of n zeros
+-- the outcome now, for a disk that began as n zeros
 pub left-now : (fill : Fill) (n : ℕ) (calls : List Call) (c : List ℕ) → AreCalls n calls → c ≡ left_with fill calls (replicate n 0) (replicate n 0)
     → LeftNow (replicate n 0) calls c
 left-now fill n calls c fit is =

@@ -1,4 +1,4 @@
--- What was made of a job may cross threads: the page is lent, and the image owns its text.
+-- The output of a job may cross threads: the page is borrowed, and the image owns its frames.
 use denote.Ref.{NamedLft}
 use denote.Struct.Declared.{shape}
 use denote.Param.Send.{IsSend, view_send, recorded_send, struct_send, sendable}

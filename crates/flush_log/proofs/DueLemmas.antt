@@ -1,4 +1,4 @@
--- The text of a flush, where it is looked for under the pids that are due alone.
+-- The frames of a flush, computed from the due pids alone.
 use Rattle.std.specs.Prelude.{◌≡◌, ℕ, zero, suc, eqb, ◌<◌, ◌≤◌, ◌⊎◌, ◌↔◌, ◌||◌, Bool, true, false, cond, nat_eq, List, [], ◌∷◌, ◌++◌, map, flat_map, get_or, length, Option, Some, None, is_some, Result, Ok, Err, IfOk}
 use Rattle.std.proofs.Common.{refl, sym, ap, ap₂, ◌∙◌, arith, subst, inl, inr, le-leb}
 use mathlib.Core.Bool.{false≢true}
@@ -104,7 +104,7 @@ module _ {X : Type 0} (f : ℕ → List X) where
   one_by true n m ms e h none ih = ap f (eqb-true n m e) ∙ (no_parts (f m) (flat_map f ms) none).0
   one_by false n m ms e h none ih = ih h (no_parts (f m) (flat_map f ms) none).1
 
-  -- nothing of each, where there is nothing of all
+  -- nothing of each, if there is nothing of all
   none_of_one : (ns : List ℕ) (n : ℕ) → is_among n ns ≡ true → flat_map f ns ≡ [] → f n ≡ []
   none_of_one [] n h none = absurd (false≢true h)
   none_of_one (m ∷ ms) n h none = one_by (nat_eq n m) n m ms refl h none (none_of_one ms n)
@@ -141,7 +141,7 @@ module _ (ns sorted once : List ℕ) (same_ones : IsPermutation ns sorted) (orde
       let there = Contains-dedup_nat sorted n (Contains-permutation ns sorted n same_ones (at_place n ns h)) in
       subst (λ (xs : List ℕ). is_among n xs ≡ true) (sym is) (among_place n (dedup eqb sorted) there.0 there.1 there.2)
 
--- ---- what is written of a pid
+-- ---- the frames written for a pid
 
 frames_none : (pid : ℕ) (cs : List Content) → cs ≡ [] → frames_of pid cs ≡ []
 frames_none pid cs e = ap (frames_of pid) e
@@ -175,7 +175,7 @@ among_olds (l ∷ ls) n h =
     ap (λ (ns : List ℕ). is_among n ns) (old_keys (is_old l.1) l (filter (λ l. is_old l.1) ls))
     ∙ old_by (is_eq (nat_cmp n l.0)) (is_old l.1) n l.0 l.1 (lookup (is_same_pid n) ls) (keys_of (filter (λ l. is_old l.1) ls)) refl refl h (among_olds ls n)
 
--- of what isn't there nothing is written, where the log hasn't `Old` of it
+-- nothing is written for a pid without a page, unless the log has `Old` of it
 not_there : (version : Version) (page : Option PageOfKind) (l : Logged) → is_some page ≡ false → (l ≡ Old → ⊥) → lacking (spelling_of version) page l ≡ []
 not_there version (Some p) l h old = absurd (false≢true (sym h))
 not_there version None No h old = refl
@@ -183,7 +183,7 @@ not_there version None Old h old = absurd (old refl)
 not_there version None (Upto k) h old = refl
 
 module _ (version : Version) (t : TreeInMemory) (home : AreAllHome t) (proper : IsOfStore (tree_of t)) where
-  -- nothing is written of a pid where the log has what it would have then
+  -- nothing is written for a pid whose log state is already the one after the flush
   none_due : (pid : ℕ) → IsInLog t.table pid → pid_text (Flush version) (tree_of t) pid ≡ []
   none_due pid h =
       let page : at_home (place_of t.table pid) ≡ page_at (tree_of t).pages pid = page-home t.table.places pid home in
@@ -191,7 +191,7 @@ module _ (version : Version) (t : TreeInMemory) (home : AreAllHome t) (proper : 
       frames_none pid (lacking (spelling_of version) (page_at (tree_of t).pages pid) (logged_of (tree_of t) pid))
       (ap (λ (o : Option PageOfKind). lacking (spelling_of version) o (logged_of (tree_of t) pid)) (sym page) ∙ none_here version (place_of t.table pid) (log_of t.table pid) few h)
 
-  -- and nothing of one that a flush doesn't look at
+  -- and nothing of a pid that a flush doesn't examine
   none_unknown : (pid : ℕ) → is_among pid (pids_to_write (tree_of t)) ≡ false → pid_text (Flush version) (tree_of t) pid ≡ []
   none_unknown pid h =
       let olds : List ℕ = keys_of (filter (λ l. is_old l.1) (tree_of t).logged) in
@@ -204,7 +204,7 @@ module _ (version : Version) (t : TreeInMemory) (home : AreAllHome t) (proper : 
   rising_to_write : AreRisingPids (pids_to_write (tree_of t))
   rising_to_write = rising-with_numbers (keys_of (filter (λ l. is_old l.1) (tree_of t).logged)) (keys_of (tree_of t).pages) proper.2.tree.rising
 
-  -- so a flush's text is that of rising pids that have all that are due
+  -- so the frames of a flush are those of rising pids that include all due ones
   pub text-due : (due pids : List ℕ) → AreDue t.table due → AreRisingPids pids → ((n : ℕ) → is_among n due ≡ true → is_among n pids ≡ true)
       → flat_map (pid_text (Flush version) (tree_of t)) pids ≡ flush_text version (tree_of t)
   text-due due pids h r all =
@@ -231,7 +231,7 @@ module _ (version : Version) (t : TreeInMemory) (home : AreAllHome t) (proper : 
       unseen n true e none = none_of_one (pid_text (Flush version) (tree_of t)) (pids_to_write (tree_of t)) n e none
       unseen n false e none = none_unknown n e
 
--- the jobs of such pids are those of the text
+-- the jobs of such pids are those for the frames of the flush
 pub jobs-due : {V E : Type 0} (items : V → List ImageJob) (r : Result V E) (text : Text) (version : Version) → text ≡ Flush version → (t : TreeInMemory) → AreAllHome t → IsOfStore (tree_of t)
     → (due pids : List ℕ) → AreDue t.table due → AreRisingPids pids → ((n : ℕ) → is_among n due ≡ true → is_among n pids ≡ true)
     → IfOk r (λ jobs. flat_map held_text (map job_held (items jobs)) ≡ flat_map (pid_text text (tree_of t)) pids)

@@ -1,4 +1,4 @@
--- What the calls of the disks for tests have left where they failed.
+-- The effects of failed calls of the test disks.
 use Rattle.std.proofs.Common.{◌≡◌, ◌⊎◌, inl, inr, ℕ, min, List, length, take, sym, ap, subst, ◌∙◌, arith, take_all, Result, Ok, Err, OnOk, OnErr}
 use Rattle.std.proofs.lemmas.Bool.{cases_lt}
 use Rattle.flush_log.specs.Overlay.{overlay}

@@ -1,4 +1,4 @@
--- What settings that pass their check say of segments; a frame within them fits into a segment, after its header.
+-- Consequences of valid settings for segments; a frame within the settings fits into a segment, after its header.
 use Rattle.std.specs.Prelude.{◌≡◌, ℕ, ◌+◌, ◌*◌, ◌≤◌, max, Bool, true, ◌&&◌, nat_lt, List, [], ◌∷◌, length, Option, Some, None}
 use Rattle.std.specs.List.{list_all, sum_by}
 use Rattle.std.proofs.Common.{arith, leb-true}

@@ -1,4 +1,4 @@
--- How bytes are gathered for a segment, and what the gathered spans are.
+-- How bytes are collected for a segment, and the resulting spans.
 use Rattle.std.proofs.Common.{◌≡◌, ℕ, zero, suc, ◌+◌, ◌-◌, ◌*◌, ◌/◌, ◌%◌, ◌<◌, ◌≤◌, Bool, true, false, nat_le, if◌then◌else◌, List, [], ◌∷◌, ◌++◌, length, length-append, map, drop, replicate, slice_range, refl, sym, ap, ◌∙◌, arith, le-leb, add-one}
 use Rattle.std.proofs.lemmas.Bool.{lt-leb}
 use Rattle.std.proofs.lemmas.List.{places, same_lists, length-take-le, length-drop, length-replicate}
@@ -102,7 +102,7 @@ module _ (s : Settings) where
       ap (λ (n : ℕ). with_bytes p (slice_range buffer p.from p.end ++ replicate (s.seg_size - n) 0)) (end_of_part p buffer is room)
       ∙ ap (with_bytes p) (sym h)
 
-  -- a frame that fits in leaves nothing, and the part goes on with it
+  -- a frame that fits in leaves nothing, and the part continues with it
   pub left-part : (p : Part) (buffer bytes : Bytes) → IsInside s p → s.seg_size ≤ length buffer → p.end + length bytes ≤ s.seg_size → left_by s (span_of p buffer) (bytes ∷ []) ≡ []
   left-part p buffer bytes is room fits = let end = end_of_part p buffer is room in left-here (span_of p buffer) bytes (omega (arith, end, fits))
 
@@ -134,7 +134,7 @@ module _ (s : Settings) where
       ∙ ap (λ (n : ℕ). made n (segment_header n ++ bytes)) (add-one p.segment)
       ∙ sym (open-there (span_of p buffer) bytes (omega (arith, end, over)))
 
-  -- ---- all that is gathered for a text
+  -- ---- all collected bytes of a commit
 
   longer-end : (r : Span) (bytes : Bytes) → end_of (longer r bytes) ≡ end_of r + length bytes
   longer-end r bytes = let long = length-append r.bytes bytes in omega (arith, long)
@@ -164,7 +164,7 @@ module _ (s : Settings) where
           ∙ ap (λ (m : ℕ). filled s r ∷ spans_from s (begun (suc r.segment) (bytes_of f)) (placed_from s (suc r.segment) m fs)) (sym (begun-end (suc r.segment) (bytes_of f)))
           ∙ ap (λ (rs : List Span). filled s r ∷ rs) there
 
-  -- the spans of a text
+  -- the spans of a commit
   pub text-spans : (tail : ℕ) (frames : List Bytes) (text : List Frame) → frames ≡ map (λ f. bytes_of f) text → 1 ≤ length text
       → left_by s (opened (tail / s.seg_size) (tail % s.seg_size)) frames ++ open_after s (opened (tail / s.seg_size) (tail % s.seg_size)) frames ∷ [] ≡ spans s tail text
   text-spans tail frames [] h some = absurd (omega arith)
@@ -207,7 +207,7 @@ module _ (s : Settings) where
       let end = text_tail s tail frames text h in
       omega (arith, same, above, one, end)
 
--- what a text begins with, where its segment is begun
+-- the first bytes of a commit, if its segment is new
 pub begun_is : (n at : ℕ) (buffer empty header : Bytes) → at ≤ 0 → header ≡ segment_header n → slice_range buffer 0 16 ≡ slice_range empty 0 0 ++ header
     → span_of (record { segment = n; from = 0; end = 16 }) buffer ≡ opened n at
 begun_is n zero buffer empty header none h is = ap (λ (bs : Bytes). begun_with n bs) (is ∙ h)

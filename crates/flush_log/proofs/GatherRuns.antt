@@ -1,4 +1,4 @@
--- A walk over frames that gathers and writes them: what is written, and what a crash leaves meanwhile.
+-- A pass over frames that collects and writes them: the written bytes, and what a crash during the pass leaves.
 use Rattle.std.proofs.Common.{◌≡◌, ℕ, ◌≤◌, IsTrue, Result, Ok, Err, OnOk, List, [], ◌∷◌, ◌++◌, length, refl, sym, ap, subst, ◌∙◌, arith, ◌⊎◌, inl, inr}
 use Rattle.keys.specs.Bytes.{Bytes}
 use Rattle.keys.specs.declared.settings.Settings.{Settings}

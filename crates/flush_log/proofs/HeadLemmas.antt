@@ -1,4 +1,4 @@
--- The log from the next segment on: what was found, without the frames of the head segment.
+-- The log from the next segment on: the frames found, without those of the head segment.
 use Rattle.std.specs.Prelude.{◌≡◌, ℕ, zero, suc, ◌+◌, ◌-◌, ◌*◌, ◌/◌, ◌%◌, ◌≤◌, ◌<◌, Bool, true, false, not, nat_eq, List, [], ◌∷◌, ◌++◌, length, if◌then◌else◌, map, take, drop, Result, Ok, Err}
 use Rattle.std.specs.List.{AllByRecursion, filter, starts_with}
 use Rattle.std.proofs.Common.{refl, sym, ap, ◌∙◌, arith, subst, append_assoc, append-nil}
@@ -51,7 +51,7 @@ all-in : (n : ℕ) (fs : List Frame) → AreIn n n (all_in n fs)
 all-in n [] = tt
 all-in n (f ∷ fs) = ((omega arith, omega arith), all-in n fs)
 
--- what is found in segment n stands there
+-- the frames found in segment n are there
 segment-ok : (g : Format) (is_end : List ℕ → Bool) (n : ℕ) (bytes : List ℕ) (found : List Found) → read_segment g is_end n bytes ≡ ok found → (fs : List Frame) × (found ≡ all_in n fs)
 segment-ok g is_end n bytes found = of (starts_with nat_eq bytes (segment_header n))
   where
@@ -109,7 +109,7 @@ filter-all n high [] above = refl
 filter-all n high (f ∷ found) above = rw (ne_eqb f.segment n (λ e. let one = above.0 in omega (arith, one, e))) (ap (λ (xs : List Found). f ∷ xs) (filter-all n high found above.1))
 
 module _ (g : Format) (file : List ℕ) (head tail : ℕ) (found : List Found) (more : head < last_segment g.settings tail) (read : log_between g file head tail ≡ ok found) where
-  -- what was found in the head segment, and the rest, which is what is found from the next one on
+  -- the frames found in the head segment, and the rest, which are those found from the next segment on
   pub record HeadOff : Type 0 where
     pub here : List Frame
     pub rest : List Found
@@ -149,7 +149,7 @@ module _ (g : Format) (file : List ℕ) (head tail : ℕ) (found : List Found) (
       ∙ filter-all head (last_segment g.settings tail) off.rest off.later))
 
 module _ (g : Format) where
-  -- all that is found stands in a segment from the head to the last
+  -- all frames found are in segments from the head to the last one
   pub found-in : (file : List ℕ) (head tail : ℕ) (found : List Found) → 0 < g.settings.seg_size → head * g.settings.seg_size < tail → log_between g file head tail ≡ ok found
       → AllByRecursion (λ f. (head ≤ f.segment) × (f.segment ≤ last_segment g.settings tail)) found
   found-in file head tail found some h read =
@@ -165,7 +165,7 @@ module _ (s : Settings) where
       (λ n offset f fs ps fit later. (omega arith, later))
       (λ n offset f fs ps later. (omega arith, all_weaker (λ f. suc n ≤ f.segment) (λ f. n ≤ f.segment) (λ f l. omega arith) (map found_at ps) later))
 
-  -- a text's frames stand in no segment before that of the tail
+  -- new frames are in no segment before that of the tail
   pub text-in : (tail : ℕ) (text : List Frame) → 0 < s.seg_size → 0 < tail → AllByRecursion (λ f. last_segment s tail ≤ f.segment) (found_in_text s tail text)
   text-in tail text some h =
       let split = split-tail s 0 tail some (omega arith) in

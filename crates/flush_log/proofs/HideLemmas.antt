@@ -72,7 +72,7 @@ module _ (g : Format) where
       }) same
       ∙ sym (take-take used g.settings.seg_size (drop (place_of_segment g.settings (head + k)) file) high))
 
--- ---- where a text is written
+-- ---- the places where frames are written
 
 module _ (g : Format) where
   -- a span of the segment q from the byte `used` on, or of a later segment that is free
@@ -162,7 +162,7 @@ module _ (g : Format) where
         starts-following head (last_segment g.settings tail) (bytes_in_use g.settings tail) (tail / g.settings.seg_size) (tail % g.settings.seg_size) (f ∷ fs)
         (starts g.settings (last_segment g.settings tail) (bytes_in_use g.settings tail) tail split.is split.high (omega arith)) split.low (omega arith) all (omega (arith, last, free))
 
-    -- no place of the log is in a span of a text that finds room
+    -- no place of the log is in a span of frames for which there is room
     pub text-beside : (head tail : ℕ) (text : List Frame) → head * g.settings.seg_size < tail → AllByRecursion (λ f. is_frame g f ≡ true) text → last_segment g.settings (tail_after g.settings tail text) < head + g.settings.segments
         → (place : ℕ) → IsInLog g.settings head tail place → IsBesideSpans g.settings (spans g.settings tail text) place
     text-beside head tail text h within free place in_log =

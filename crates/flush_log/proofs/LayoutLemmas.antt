@@ -1,4 +1,4 @@
--- Where a text's frames stand: laws of places and of tails.
+-- The places of frames: laws of places and of tails.
 use Rattle.std.specs.Prelude.{◌≡◌, ℕ, zero, suc, ◌+◌, ◌-◌, ◌*◌, ◌%◌, ◌/◌, ◌≤◌, ◌<◌, Bool, true, false, nat_le, replicate, if◌then◌else◌, List, [], ◌∷◌, length}
 use Rattle.std.specs.List.{AllByRecursion}
 use Rattle.std.proofs.Common.{refl, sym, ap, ◌∙◌, arith, subst, inl, inr, leb-true, length-append}
@@ -17,7 +17,7 @@ abbrev pub end_point : ℕ → ℕ → List PlacedFrame → ℕ × ℕ
 end_point n offset [] = (n, offset)
 end_point n offset (p ∷ ps) = end_point p.segment (offset_after p) ps
 
--- a frame as it is found where it stands
+-- a frame as it is found at its place
 abbrev pub found_at : PlacedFrame → Found
 found_at p = record { segment = p.segment; frame = p.frame }
 
@@ -26,7 +26,7 @@ module _ (s : Settings) where
   abbrev pub AllFit : List Frame → Type 0
   AllFit fs = AllByRecursion (λ f. 16 + length (bytes_of f) ≤ s.seg_size) fs
 
-  -- what is so of every text, from every place on, is shown by cases: no frame is left; the next one fits in; it doesn't
+  -- a property of all lists of frames, from every place on, is shown by cases: no frame remains; the next one fits; it doesn't
   module _ (P : ℕ → ℕ → List Frame → List PlacedFrame → Type 0)
       (none : (n offset : ℕ) → P n offset [] [])
       (fits : (n offset : ℕ) (f : Frame) (fs : List Frame) (ps : List PlacedFrame) → offset + length (bytes_of f) ≤ s.seg_size → P n (offset + length (bytes_of f)) fs ps
@@ -51,7 +51,7 @@ module _ (s : Settings) where
   tail-following n offset [] = refl
   tail-following n offset (p ∷ ps) = tail-following p.segment (offset_after p) ps
 
-  -- so a text's tail doesn't hang on the tail before it
+  -- so the tail after new frames doesn't depend on the exact tail before them
   pub tail-text : (n offset : ℕ) (fs : List Frame) (tail : ℕ) → 1 ≤ length fs
       → end_of_frames s tail (placed_from s n offset fs) ≡ position s (end_point n offset (placed_from s n offset fs)).0 (end_point n offset (placed_from s n offset fs)).1
   tail-text =
@@ -75,7 +75,7 @@ module _ (s : Settings) where
       (λ n offset f fs ps room later low high all. later (omega arith) room all.1)
       (λ n offset f fs ps later low high all. later (omega arith) (let fit = all.0 in omega (arith, fit)) all.1)
 
-  -- a text's end as its tail gives it
+  -- the end of new frames as their tail gives it
   pub last-is : (n offset : ℕ) → 1 ≤ offset → offset ≤ s.seg_size → last_segment s (position s n offset) ≡ n
   last-is n offset low high =
       let one_less : n * s.seg_size + offset - 1 ≡ n * s.seg_size + (offset - 1) = omega arith in
@@ -107,7 +107,7 @@ module _ (s : Settings) where
         high = omega (arith, d, m, h);
       }
 
-  -- where what follows the tail begins: in its segment, or where that is full, in the next one
+  -- where what follows the tail begins: in its segment, or if that is full, in the next one
   pub data Start (q used : ℕ) : ℕ → ℕ → Type 0 where
     Inside : used < s.seg_size → Start q used q used
     Following : used ≡ s.seg_size → Start q used (suc q) 0
@@ -127,7 +127,7 @@ module _ (s : Settings) where
             subst (λ (n : ℕ). Start q used n (tail % s.seg_size)) quotient (subst (λ (at : ℕ). Start q used (suc q) at) rest (Following full)))
       ]
 
--- ---- the span that a text begins with
+-- ---- the first span of a commit
 
 pub opened-segment : (n at : ℕ) → (opened n at).segment ≡ n
 opened-segment n zero = refl
@@ -146,7 +146,7 @@ past_header-within size zero low room = (omega arith, room)
 past_header-within size (suc at) low room = (omega arith, omega arith)
 
 module _ (s : Settings) where
-  -- a text's end, where it has a frame
+  -- the end of new frames, if there is one
   pub text-end : (tail : ℕ) (fs : List Frame) → 16 ≤ s.seg_size → 1 ≤ length fs → AllFit s fs
       → (let n : ℕ = tail / s.seg_size in let at : ℕ = past_header (tail % s.seg_size) in
       (tail_after s tail fs ≡ position s (end_point n at (placed s tail fs)).0 (end_point n at (placed s tail fs)).1) × EndsWithin s n at (placed s tail fs))

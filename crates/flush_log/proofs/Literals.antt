@@ -1,4 +1,4 @@
--- What the worked rows of the log are written in: pages, trees, frames.
+-- Notation for the worked rows of the log: pages, trees, frames.
 use Rattle.std.specs.Prelude.{ℕ, List, [], ◌∷◌, map, Option, Some, None, codes}
 use Prim.Native.String.{String}
 use Rattle.index_page.specs.Page.{PageOfKind}
@@ -8,7 +8,7 @@ use Rattle.frame_codec.specs.declared.format.Spelling.TheVariants.{Whole, Shared
 use Rattle.frame_codec.specs.Frame.{Content, Frame}
 use Rattle.frame_codec.specs.Frame.Content.{FullLeaf, DeltaLeaf, FullIndex}
 
--- a pair of a key and a value, by their letters; a change that sets it, and one that takes the key away
+-- a pair of a key and a value, by their letters; a change that sets it, and one that deletes the key
 abbrev pub pair : String → String → List ℕ × List ℕ
 pair k v = (codes k, codes v)
 
@@ -47,7 +47,7 @@ base_2 = ([], 0) ∷ (codes "c", 1) ∷ []
 abbrev pub pages_of_row_4 : List (ℕ × PageOfKind)
 pages_of_row_4 = leaf 0 "" [] base_0 ∷ leaf 1 "c" [] base_1 ∷ index 2 "" [] base_2 ∷ []
 
--- its text, once page 0 was replaced and the others are new
+-- the frames of its flush, after page 0 was replaced; the others are new
 abbrev pub text_of_row_4 : List Frame
 text_of_row_4 = frame 0 (FullLeaf Whole [] base_0) ∷ frame 1 (FullLeaf Whole (codes "c") base_1) ∷ frame 2 (FullIndex Whole [] base_2) ∷ []
 

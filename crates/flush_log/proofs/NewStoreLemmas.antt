@@ -1,4 +1,4 @@
--- What is read of a disk on which a store was made.
+-- Reading a disk with a new store.
 use Rattle.std.proofs.Common.{◌≡◌, ℕ, ◌+◌, ◌-◌, ◌*◌, ◌≤◌, true, List, [], ◌∷◌, ◌++◌, length, take, drop, None, Ok, refl, ap, ap₂, ◌∙◌, arith, le-leb}
 use Rattle.std.proofs.Math.Nat.{mul-le-mul, zero-mod}
 use Rattle.std.proofs.lemmas.Bool.{and_from}

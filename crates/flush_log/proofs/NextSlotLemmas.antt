@@ -43,7 +43,7 @@ module _ (s : Settings) where
       let start = starts s (last_segment s t.tail) (bytes_in_use s t.tail) t.tail split.is split.high (omega arith) in
       record { is = split.is; low = used_low (last_segment s t.tail) (bytes_in_use s t.tail) (t.tail / s.seg_size) (t.tail % s.seg_size) start size split.low f.ends; high = split.high }
 
-  -- a text's frames end after the header of a segment
+  -- new frames end after the header of a segment
   ends_high : (n offset : ℕ) (fs : List Frame) → 16 ≤ offset → (16 < offset) ⊎ (1 ≤ length fs) → 16 < (end_point n offset (placed_from s n offset fs)).1
   ends_high =
       by_places s (λ n offset fs ps. 16 ≤ offset → (16 < offset) ⊎ (1 ≤ length fs) → 16 < (end_point n offset ps).1)
@@ -55,7 +55,7 @@ module _ (s : Settings) where
   header_low zero is = omega arith
   header_low (suc at) is = ⊎_elim (λ zero_is. absurd (let e = eqb-true (suc at) 0 zero_is in omega arith)) (λ above. let h = ltb-true 16 (suc at) above in omega arith) (or_cases (suc at == 0) (nat_lt 16 (suc at)) is)
 
-  -- the tail after a text, and its segment, which is that of the tail before or a later one
+  -- the tail after new frames, and its segment, which is that of the tail before or a later one
   record NewEnd (tail new : ℕ) : Type 0 where
     ends : EndsIn new (last_segment s new) (bytes_in_use s new)
     rises : last_segment s tail ≤ last_segment s new
@@ -85,7 +85,7 @@ module _ (g : Format) where
         rises = omega (arith, last, rise, less);
       }
 
--- where its number and its tail are not spent, and its segments are free
+-- if its number and its tail are not spent, and its segments are free
 pub next_good : (g : Format) (n : ℕ) (t u : Slot) (text : List Frame) → first_bad_field g.settings ≡ None → IsSlot g.settings n t → AllByRecursion (λ f. is_frame g f ≡ true) text →
     u.sequence ≡ suc t.sequence → u.sequence ≤ greatest → u.tail ≡ tail_after g.settings t.tail text → u.tail ≤ greatest → t.head ≤ u.head → u.head ≤ last_segment g.settings t.tail →
     last_segment g.settings u.tail < u.head + g.settings.segments → u.root < 2 ^ 64 → 1 ≤ u.height → u.height ≤ 64 → is_slot g.settings u.sequence u ≡ true

@@ -1,4 +1,4 @@
--- How great the numbers of a log become.
+-- Upper bounds on the numbers of a log.
 use Rattle.std.proofs.Common.{◌≡◌, ◌↔◌, ℕ, suc, true, ◌+◌, ◌-◌, ◌*◌, ◌/◌, ◌^◌, ◌<◌, ◌≤◌, List, length, None, arith}
 use Rattle.std.specs.List.{AllByRecursion}
 use Rattle.std.proofs.Math.Nat.{le-div_iff_mul-le, mul-le-mul, mul-le-mul_left, mul-le-mul_right}
@@ -44,7 +44,7 @@ module _ (s : Settings) (head tail : ℕ) (good : first_bad_field s ≡ None) (f
       let parts : (head + s.segments) * s.seg_size ≡ head * s.seg_size + s.segments * s.seg_size = omega arith in
       omega arith
 
--- a text of 2^41 frames at the most moves the tail by 2^62 at the most
+-- at most 2^41 frames move the tail by at most 2^62
 pub tail_small : (g : Format) (tail : ℕ) (text : List Frame) → first_bad_field g.settings ≡ None → tail ≤ greatest → AllByRecursion (λ f. is_frame g f ≡ true) text → length text ≤ 2 ^ 41 → tail_after g.settings tail text < 2 ^ 63
 tail_small g tail text good small within few =
     let most = (are_sized g.settings good).most_size in

@@ -1,4 +1,4 @@
--- What a log of version 1 holds it holds as one of version 2 too.
+-- The contents of a log of version 1 are the same when it is read as a log of version 2.
 use Rattle.std.specs.Prelude.{◌≡◌, ℕ, zero, suc, ◌+◌, ◌-◌, Bool, true, false, nat_eq, if◌then◌else◌, List, [], length, take, drop, Option, Some, None, Result, Ok, Err}
 use Rattle.std.specs.List.{starts_with}
 use Rattle.std.proofs.Common.{sym, ap, ap₂, ◌∙◌, refl}

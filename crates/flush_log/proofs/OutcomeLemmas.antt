@@ -1,4 +1,4 @@
--- What is read of a disk while a commit isn't done, and after it.
+-- Reading a disk during a commit, and after it.
 use Rattle.std.proofs.Common.{◌≡◌, ◌⊎◌, inl, inr, ⊎_elim, ℕ, suc, ◌+◌, ◌-◌, ◌*◌, ◌%◌, ◌<◌, ◌≤◌, Bool, true, ◌==◌, if◌then◌else◌, nat_le, List, ◌++◌, length, take, drop, Option, Some, None, Result, Ok, Err, sym, ap, ap₂, subst, ◌∙◌, arith}
 use Rattle.std.proofs.lemmas.Bool.{cases_eq}
 use Rattle.keys.specs.declared.settings.Settings.{Settings}
@@ -50,7 +50,7 @@ apart n i low high = elim (cases_eq (n % 2) 0) [ inl even ↦ inl (omega arith) 
 -- ---- before
 
 module _ (s : Settings) (n : ℕ) (spans : List Span) (file c : List ℕ) (long : 512 ≤ length file) where
-  -- all but the slot and the spans is as it was
+  -- all but the slot and the spans is unchanged
   pub all_but : IsUncommitted s n spans file c → AgreeAt (IsBesideSlot s n spans) file c
   all_but (inl same) = agree_less (IsBesideSpans s spans) (IsBesideSlot s n spans) file c (λ i out. out.1) same
   all_but (inr (shut, same)) = same
@@ -109,13 +109,13 @@ module _ (s : Settings) (file : List ℕ) (spans : List Span) (u : Slot) (long :
       slot-back s u.sequence u after some good (overlay-part (with_spans s file spans) (slot_place u.sequence) (slot_bytes u) slot_fits) in
       store_slot-next s after t u (kept ∙ store_slot-read s file t is) (ap (λ (n : ℕ). read_slot s n after) (sym next) ∙ new) (omega arith)
 
-  -- what lies after the first 512 bytes is what the spans left
+  -- after the first 512 bytes, only the spans changed
   pub after-following : AgreeAt (λ i. 512 ≤ i) (with_spans s file spans) after
   after-following =
       let low = slot_low u.sequence in
       agree_less (IsBeside (slot_place u.sequence) 64) (λ i. 512 ≤ i) (with_spans s file spans) after (λ i high. inr (omega arith)) written_beside
 
--- the log stands there alone
+-- the log is in those places only
 pub log-following : (g : Format) (file other : List ℕ) → 0 < g.settings.segments → HasSegments g.settings file → AgreeAt (λ i. 512 ≤ i) file other → (head tail : ℕ) → log_between g other head tail ≡ log_between g file head tail
 log-following g file other some whole same head tail =
     log-same g file other head (last_segment g.settings tail - head) (bytes_in_use g.settings tail) (λ m h. bytes (head + m))
@@ -132,7 +132,7 @@ after-log g file spans u whole fit some head tail =
     let long = (spans-beside g.settings spans file fit).long in
     log-following g (with_spans g.settings file spans) (committed g.settings file spans u) some (omega (arith, whole, long)) (after-following g.settings file spans u (omega (arith, whole)) fit) head tail
 
--- ---- the commit of a text
+-- ---- the commit of some frames
 
 pub within_more : (s : Settings) (m n : ℕ) (rs : List Span) → m ≤ n → AreWithin s m rs → AreWithin s n rs
 within_more s m n rs more fit = all_weaker (λ r. place_of_span s r + length r.bytes ≤ m) (λ r. place_of_span s r + length r.bytes ≤ n) (λ r h. omega arith) rs fit
@@ -147,7 +147,7 @@ module _ (g : Format) (file : List ℕ) (t : Slot) (text : List Frame) (h : HasR
       let following = slot_good.following in
       within_more g.settings (512 + g.settings.segments * g.settings.seg_size) (length file) (spans g.settings t.tail text) h.whole (text-inside g h.good t.head t.tail text (omega arith) h.within h.free)
 
-  -- the log is as it was
+  -- the log is unchanged
   pub before-log : (c : List ℕ) → IsUncommitted g.settings (suc t.sequence) (spans g.settings t.tail text) file c → log g.settings c t ≡ log g.settings file t
   before-log c before =
       let following = slot_good.following in
@@ -160,7 +160,7 @@ module _ (g : Format) (file : List ℕ) (t : Slot) (text : List Frame) (h : HasR
       (λ i in_log. (inr (let high = (in-segments g.settings t.head t.tail i (omega arith) in_log).0 in omega arith), text-beside g h.good t.head t.tail text (omega arith) h.within h.free i in_log))
       (all_but g.settings (suc t.sequence) (spans g.settings t.tail text) file c (let all = h.whole in omega arith) before))
 
-  -- the text is read after what was there
+  -- the new frames are read after the old ones
   pub after-text : (u : Slot) (found : List Found) → log_between g file t.head t.tail ≡ Ok found → log_between g (committed g.settings file (spans g.settings t.tail text) u) t.head (tail_after g.settings t.tail text) ≡ Ok (found ++ found_in_text g.settings t.tail text)
   after-text u found read =
       let following = slot_good.following in

@@ -1,4 +1,4 @@
--- What a write leaves of each segment, and where the segments stand.
+-- The effect of a write on each segment, and the places of the segments.
 use Rattle.std.specs.Prelude.{◌≡◌, ◌≢◌, ◌⊎◌, ℕ, ◌+◌, ◌*◌, ◌%◌, ◌/◌, ◌≤◌, ◌<◌, List, ◌++◌, length, take, drop}
 use Rattle.std.proofs.Common.{arith, inl, inr}
 use Rattle.std.proofs.Math.Nat.{mul-le-mul_right}
@@ -42,7 +42,7 @@ module _ (s : Settings) where
       let p : (n % s.segments + 1) * s.seg_size ≤ s.segments * s.seg_size = mul-le-mul_right s.seg_size l in
       omega arith
 
-  -- segments that are in use at one time stand beside one another
+  -- segments that are in use at the same time do not overlap
   pub places-beside : (m n : ℕ) → m % s.segments ≢ n % s.segments → (place_of_segment s m + s.seg_size ≤ place_of_segment s n) ⊎ (place_of_segment s n + s.seg_size ≤ place_of_segment s m)
   places-beside m n h =
       elim (cases_lt (m % s.segments) (n % s.segments)) [

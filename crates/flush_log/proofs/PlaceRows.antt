@@ -1,4 +1,4 @@
--- Where the frames of the worked rows stand, and the tails after them.
+-- The places of the frames of the worked rows, and the tails after them.
 use Rattle.std.specs.Prelude.{◌≡◌, ℕ, true, false, List, [], ◌∷◌, ◌++◌, flat_map, replicate, map, codes}
 use Prim.Native.String.{String}
 use Rattle.std.proofs.Common.{refl}
@@ -10,11 +10,11 @@ use Rattle.flush_log.specs.Layout.{placed, tail_after, spans, is_full_for_flush,
 use Rattle.flush_log.specs.Segments.{segment_header, position}
 use Rattle.flush_log.proofs.Literals.{pair, set, gone, frame, base_0, base_1, base_2, text_of_row_4, shared_text_of_row_4, ones, sixteen, run, base, three}
 
--- the positions of the frames of a text, and the tail after it
+-- the positions of the frames of a commit, and the tail after them
 abbrev laid : ℕ → List Frame → List ℕ × ℕ
 laid tail text = (map (λ p. position S p.segment p.offset) (placed S tail text), tail_after S tail text)
 
--- the tails of texts that are written one after the other
+-- the tails of commits that are written one after the other
 abbrev tails : ℕ → List (List Frame) → List ℕ
 tails tail [] = []
 tails tail (text ∷ texts) = tail_after S tail text ∷ tails (tail_after S tail text) texts

@@ -1,4 +1,4 @@
--- What is known of a commit that is planned, and what it leaves.
+-- Facts about a planned commit, and its effect.
 use Rattle.std.specs.Prelude.{◌≡◌, ◌⊎◌, ℕ, suc, ◌+◌, ◌*◌, ◌<◌, ◌≤◌, Bool, List, Result, Ok, OnOk, None}
 use Rattle.std.proofs.Common.{refl, sym, ap, ◌∙◌, arith, subst}
 use Rattle.std.proofs.Math.Nat.{mul-le-mul_left}
@@ -65,7 +65,7 @@ module _ (s : Settings) (t : Slot) (text : List Frame) (p : CommitPlan) (is : Is
 pub gate-still : (open_as : Bool) (n : ℕ) (old mid : View) → Same old mid → open_as ≡ is_open n old.seen → open_as ≡ is_open n mid.seen
 gate-still open_as n old mid same gate = subst (λ (f : List ℕ). open_as ≡ is_open n f) (sym same.seen) gate
 
--- what is left of a commit of this slot, of these bytes
+-- what a crash leaves of a commit of this slot, on these bytes
 abbrev Leaves : Settings → Slot → ℕ → List Frame → List ℕ → List ℕ → Type 0
 Leaves s u tail text file c = IsUncommitted s u.sequence (spans s tail text) file c ⊎ (c ≡ committed s file (spans s tail text) u)
 

@@ -4,7 +4,7 @@ use Rattle.std.proofs.lemmas.List.{take_at, drop_at}
 use Rattle.keys.specs.Bytes.{Bytes}
 use borrow.Rule.Slice.PartMut.{put_mid}
 
--- a part that stands between two others
+-- a part between two others
 put_between : (before part following new : Bytes) (at size : ℕ) → length before ≡ at → length part ≡ size → put_mid at size (before ++ (part ++ following)) new ≡ before ++ (new ++ following)
 put_between before part following new at size a b =
     ap₂ (λ (front back : Bytes). front ++ (new ++ back)) (take_at before (part ++ following) at a)

@@ -1,4 +1,4 @@
--- How far frames bring the end of a log.
+-- How far frames move the end of a log.
 use Rattle.std.proofs.Common.{◌≡◌, ℕ, suc, ◌+◌, ◌*◌, ◌/◌, ◌%◌, ◌<◌, ◌≤◌, Bool, true, false, nat_le, nat_lt, if◌then◌else◌, List, [], ◌∷◌, ◌++◌, length, map, drop, Option, Some, None, refl, sym, ap, ◌∙◌, arith, leb-true, lt-ltb, ltb-true, ltb-false, le-ltb, add-one, zero, get_or, slice_get, subst}
 use Rattle.std.proofs.lemmas.Nat.{div-add-mod', mod_below}
 use Rattle.std.specs.List.{AllByRecursion}
@@ -57,7 +57,7 @@ module _ (s : Settings) where
   frames-append r [] vs = refl
   frames-append r (u ∷ us) vs = frames-append (after_frame s r (length u)) us vs
 
-  -- where a text begins
+  -- where new frames begin
   pub start-is : (tail : ℕ) → 16 ≤ s.seg_size → IsReached s (from_tail s tail)
   start-is tail room =
       let below = mod_below tail s.seg_size (omega arith) in
@@ -69,7 +69,7 @@ module _ (s : Settings) where
       upto zero start tail is = omega arith
       upto (suc at) start tail is = omega arith
 
-  -- the tail after a text is reached by its frames
+  -- the tail after new frames is reached frame by frame
   abbrev Ends : Reached → List Frame → Type 0
   Ends r text = (after_frames s r (map (λ f. bytes_of f) text)).tail ≡ end_of_frames s r.tail (placed_from s r.segment r.offset text)
 
@@ -153,7 +153,7 @@ module _ (s : Settings) where
           let tails = ap (λ (x : Reached). x.tail) same in
           (same, omega (arith, low, tails))
 
-  -- ---- the tail after a text
+  -- ---- the tail after new frames
 
   abbrev pub tail_read : ℕ → Bool → Option ℕ
   tail_read t b = if b then None else Some t
@@ -170,7 +170,7 @@ module _ (s : Settings) where
       let tail : r.tail ≡ t = ap (λ (x : Reached). x.tail) is ∙ same in
       sym (ap (tail_read r.tail) (le-ltb greatest r.tail low)) ∙ ap (λ (n : ℕ). tail_read n (nat_lt greatest n)) tail
 
--- the frames of a text that a store may have fit
+-- frames that a store may have fit into segments
 pub text-fits : (g : Format) → first_bad_field g.settings ≡ None → (images : List (List Bytes)) (text : List Frame) → AreOfText images text → AllByRecursion (λ f. is_frame g f ≡ true) text → FitSegments g.settings (frames_in images)
 text-fits g good images text of within = subst (FitSegments g.settings) (sym of) (each text within)
   where

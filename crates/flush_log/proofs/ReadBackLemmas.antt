@@ -1,4 +1,4 @@
--- A text that is written from the tail on is read again, after what was read before.
+-- Frames that are written from the tail on are read back, after the older ones.
 use Rattle.std.specs.Prelude.{◌≡◌, ℕ, zero, suc, ◌+◌, ◌-◌, ◌*◌, ◌%◌, ◌/◌, ◌≤◌, ◌<◌, true, List, [], ◌∷◌, ◌++◌, length, map, take, drop, replicate, None, Result, Ok, Err}
 use Rattle.std.specs.List.{AllByRecursion}
 use Rattle.std.proofs.Common.{refl, sym, ap, ◌∙◌, arith, subst, append_assoc, append-nil, length-append}
@@ -45,7 +45,7 @@ followed_by-ok (Ok before) (Err fault) found h = absurd (cc)
 followed_by-ok (Err fault) y found h = absurd (cc)
 
 module _ (g : Format) (good : first_bad_field g.settings ≡ None) where
-  -- a disk whose log reads as this once a span, in the segment k after the head, is written too
+  -- a disk whose log reads as this after a span, in the segment k after the head, is written too
   pub record Stands (file : List ℕ) (head k : ℕ) (r : Span) (found : List Found) : Type 0 where
     pub before : List Found
     pub here : List Frame
@@ -135,7 +135,7 @@ module _ (g : Format) (good : first_bad_field g.settings ≡ None) where
         free = free;
       }
 
-  -- ---- a text after it
+  -- ---- new frames after it
 
   -- with the spans of these frames written, the log up to their end reads as they do, after what was found
   abbrev pub Leaves : List ℕ → ℕ → List Found → ℕ → ℕ → Span → List PlacedFrame → Type 0

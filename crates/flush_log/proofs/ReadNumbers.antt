@@ -1,4 +1,4 @@
--- A number that the library reads of bytes is the one that the definitions read there.
+-- A number that the library decodes from bytes is the one that the definitions decode.
 use Rattle.std.proofs.Common.{◌≡◌, ℕ, zero, suc, ◌+◌, ◌*◌, ◌^◌, ◌≤◌, [], ◌∷◌, length, length-drop, take, drop, Option, Some, refl, sym, ap, ◌∙◌, arith}
 use Rattle.byteorder.specs.Endian.{big_from}
 use Rattle.byteorder.specs.Numbers.{big_from-cons, big_from-take}

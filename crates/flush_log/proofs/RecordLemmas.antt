@@ -1,4 +1,4 @@
--- A record of calls that gets one more, in the words of a disk of zeros.
+-- Adding a call to a record, for a disk that began as zeros.
 use Rattle.std.proofs.Common.{◌≡◌, inl, inr, ⊎_elim, ℕ, ◌+◌, ◌-◌, ◌≤◌, min, List, [], ◌∷◌, ◌++◌, length, take, drop, replicate, refl, sym, ap, subst, ◌∙◌, arith, length-append, take_all, false, is_err, true≢false, Result, Ok, Err, OnOk, OnErr}
 use Rattle.std.proofs.Math.Seq.{drop-append-add, take-append-add}
 use Rattle.std.proofs.lemmas.Bool.{cases_lt}
@@ -53,7 +53,7 @@ zeros-longer n end kept now short within is =
     ∙ ap (λ (xs : List ℕ). kept ++ xs) (replicate-append-replicate (end - length kept) (n - end) 0)
     ∙ ap (λ (k : ℕ). kept ++ replicate k 0) (let k : (end - length kept) + (n - end) ≡ n - length kept = omega (arith, short, within) in k)
 
--- what a read gives: first what is kept there, and then zeros
+-- the readable contents: first the stored bytes, and then zeros
 pub zeros-read : (n : ℕ) (kept : List ℕ) (at long from here : ℕ) → length kept ≤ n → at + long ≤ n → from ≡ min at (length kept) → here ≡ min long (length kept - from)
     → take here (drop from kept) ++ drop here (replicate long 0) ≡ take long (drop at (with_zeros n kept))
 zeros-read n kept at long from here short within start count = elim (cases_lt (length kept) at) [
@@ -113,7 +113,7 @@ module _ (n m : ℕ) (calls more : List Call) (same : m ≡ n) where
     pub write_in_range : AreCalls n calls → AreCalls m more
     write_in_range fit = subst (λ (k : ℕ). AreCalls k more) (sym same) (subst (λ (xs : List Call). AreCalls n xs) (sym is) (one_in_range n calls (Write at bytes) fit here))
 
-    -- of what a read gives before and after
+    -- the readable contents before and after
     pub write_recorded : (file new : List ℕ) → file ≡ seen_after calls (replicate n 0) → new ≡ overlay file at bytes → new ≡ seen_after more (replicate m 0)
     write_recorded file new was wrote =
         wrote
@@ -122,7 +122,7 @@ module _ (n m : ℕ) (calls more : List Call) (same : m ≡ n) where
         ∙ ap (λ (xs : List Call). seen_after xs (replicate n 0)) (sym is)
         ∙ ap (λ (k : ℕ). seen_after more (replicate k 0)) (sym same)
 
-    -- what a read gives after it
+    -- the readable contents after it
     pub write_seen : seen_after more (replicate m 0) ≡ overlay (seen_after calls (replicate n 0)) at bytes
     write_seen =
         ap (λ (k : ℕ). seen_after more (replicate k 0)) same

@@ -1,4 +1,4 @@
--- Calls that change nothing of a disk, and what comes after them.
+-- Calls that change nothing of a disk, and later calls.
 use Rattle.std.proofs.Common.{inl, inr, ⊎_elim, ℕ, ◌≤◌, List, IsTrue, sym, subst, ◌∙◌, arith}
 use Rattle.flush_log.specs.Disk.{View, Lawful, IsSettled, Kept, Same, LeavesOnly}
 
@@ -23,7 +23,7 @@ left_still a b c P run same = record {
   before = λ t x le left. run.before t x le ((same.left_since t x).0 left);
 }
 
--- of a settled disk a crash leaves what is read, where no call was made
+-- a crash leaves the readable contents of a synced disk, if no call was made
 pub leaves_itself : (v : View) (P : List ℕ → Type 0) → Lawful v → IsSettled v → P v.seen → LeavesOnly v v P
 leaves_itself v P law settled p = record {
   later = omega arith;

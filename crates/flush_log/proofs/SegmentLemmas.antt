@@ -1,4 +1,4 @@
--- What the bytes of one segment are read as.
+-- Reading the bytes of one segment.
 use Rattle.std.specs.Prelude.{◌≡◌, ℕ, zero, suc, ◌≤◌, Bool, true, false, nat_eq, if◌then◌else◌, List, [], ◌∷◌, ◌++◌, length, drop, replicate, Option, Some, None, Result, Ok, Err}
 use Rattle.std.specs.List.{starts_with}
 use Rattle.std.proofs.Common.{refl, sym, ap, ◌∙◌, arith, append_assoc, append-nil, length-append, subst}
@@ -33,7 +33,7 @@ pub in_segment-ok : (n long : ℕ) (r : Result (List Frame) ℕ) (found : List F
 in_segment-ok n long (Ok fs) found h = (fs, refl, cc)
 in_segment-ok n long (Err left) found h = absurd (cc)
 
--- a header stands at the front just where its test says so
+-- the bytes begin with a header if and only if the test says so
 pub header-there : (n : ℕ) (following : List ℕ) → starts_with nat_eq (segment_header n ++ following) (segment_header n) ≡ true
 header-there n following = (starts_is Decides-eqb (segment_header n ++ following) (segment_header n) (starts_with nat_eq (segment_header n ++ following) (segment_header n)) refl).1 following refl
 

@@ -1,4 +1,4 @@
--- The settings block is read back, and what is read is what stands there.
+-- The settings block is decoded again, and decoded settings are encoded in the bytes.
 use Rattle.std.proofs.Common.{◌≡◌, ℕ, ◌+◌, ◌*◌, ◌≤◌, Bool, true, false, ◌&&◌, if◌then◌else◌, nat_le, is_none, List, ◌++◌, length, take, replicate, Option, Some, None, Result, Ok, Err, refl, sym, ap, ◌∙◌, subst, arith, bytes_eq, le-leb, leb-true}
 use Rattle.std.proofs.lemmas.Bool.{and_parts, and_from}
 use Rattle.std.proofs.lemmas.Slice.Eq.{bytes_eq-Decides}
@@ -24,7 +24,7 @@ same_settings s t a b c d e f =
     ∙ ap (λ x. made t.fan t.chain t.max_key t.max_value t.seg_size x) f
 
 module _ (s : Settings) where
-  -- what stands after each number of the block
+  -- the bytes after each number of the block
   abbrev after_segments : List ℕ
   after_segments = replicate 40 0
 
@@ -68,7 +68,7 @@ none_is : (o : Option Field) → is_none o ≡ true → o ≡ None
 none_is None h = refl
 none_is (Some f) h = absurd (cc)
 
--- what is read stands there, and may be
+-- decoded settings are encoded in the bytes, and are valid
 pub settings-stand : (bytes : List ℕ) (s : Settings) → read_settings bytes ≡ Some s → (bytes ≡ settings_block s) × (first_bad_field s ≡ None)
 settings-stand bytes s h =
     let (passed, is) = chosen _ (settings_in bytes) s h in

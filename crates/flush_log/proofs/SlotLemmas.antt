@@ -1,4 +1,4 @@
--- A slot is read back, and what is read is what stands there; the store's slot.
+-- A slot is decoded again, and a decoded slot is encoded in the bytes; the store's slot.
 use Rattle.std.proofs.Common.{◌≡◌, ◌⊎◌, inl, inr, ⊎_elim, ℕ, suc, ◌+◌, ◌*◌, ◌%◌, ◌^◌, ◌<◌, ◌≤◌, Bool, true, false, ◌&&◌, ◌==◌, if◌then◌else◌, nat_le, nat_lt, List, ◌++◌, get_or, take, drop, replicate, Option, Some, None, Result, Ok, Err, refl, sym, ap, ◌∙◌, subst, arith, bytes_eq, le-leb, leb-true, ltb-true, ltb-false, lt-ltb, le-ltb, eqb-true, eq-eqb, ap₂, rules}
 use Rattle.std.proofs.lemmas.Bool.{and_parts, and_from}
 use Rattle.std.proofs.lemmas.Bool.{cases_eq}
@@ -20,7 +20,7 @@ use Rattle.flush_log.specs.Ends.{ends_in, AreEnds}
 use Rattle.flush_log.specs.Slot.{Slot, greatest, slot_place, version_number, version_in, slot_bytes, slot_in, is_tail, is_slot, is_open, read_open, read_slot, newer, store_slot}
 use Rattle.keys.proofs.LimitLemmas.{within}
 
--- ---- what is asked of a slot, as facts
+-- ---- the requirements on a slot, as facts
 
 pub record IsSlot (s : Settings) (n : ℕ) (t : Slot) : Type 0 where
   pub sequence : (1 ≤ t.sequence) × (t.sequence ≤ 2 ^ 62)
@@ -97,7 +97,7 @@ version_small One = omega arith
 version_small Two = omega arith
 
 module _ (s : Settings) (n : ℕ) (t : Slot) (some : 0 < s.seg_size) where
-  -- what stands after each number of the slot
+  -- the bytes after each number of the slot
   abbrev after_version : List ℕ
   after_version = replicate 16 0
 
@@ -281,7 +281,7 @@ no_less_than (Ok (Some x)) (Ok (Some y)) t u h (inr same) =
     let both = no_less (nat_lt x.sequence y.sequence) x y t refl h in
     omega (arith, e, both.1)
 
--- no slot that stands open has a greater number than the store's
+-- no open slot has a greater number than the store's
 pub store_slot-newest : (s : Settings) (disk : List ℕ) (t u : Slot) (n : ℕ) → store_slot s disk ≡ Ok t → read_slot s n disk ≡ said u → u.sequence ≤ t.sequence
 store_slot-newest s disk t u n h read =
     no_less_than (read_slot s 0 disk) (read_slot s 1 disk) t u h

@@ -1,4 +1,4 @@
--- What a slot's 64 bytes say, as a reading of them finds it step by step.
+-- The contents of a slot's 64 bytes, as a reading finds them step by step.
 use Rattle.std.proofs.Common.{◌≡◌, ◌≢◌, ℕ, ◌+◌, ◌*◌, ◌%◌, ◌^◌, ◌<◌, Bool, true, false, ◌&&◌, ◌==◌, nat_lt, nat_le, lt-ltb, refl, if◌then◌else◌, get_or, take, drop, None, Ok, Err, bytes_eq, sym, ap, ap₂, ◌∙◌}
 use Rattle.std.proofs.lemmas.Bool.{eq-eqb, ne_eqb}
 use Rattle.keys.specs.Bytes.{Bytes}
@@ -24,7 +24,7 @@ regrouped true true true true false f p h numbers log pid = absurd (cc)
 regrouped true true true true true false p h numbers log pid = absurd (cc)
 regrouped true true true true true true false h numbers log pid = absurd (cc)
 
--- where the other tests hold, and the root is a machine number, the height decides
+-- if the other tests hold, and the root is a machine number, the height decides
 pub height_decides : (s : Settings) (n : ℕ) (t : Slot) → is_in_limits 1 greatest t.sequence && t.sequence % 2 == n % 2 ≡ true
     → nat_lt (t.head * s.seg_size + segment_header_size) t.tail && nat_le t.tail greatest && is_tail s t.tail && nat_lt (last_segment s t.tail) (t.head + s.segments) ≡ true
     → t.root < 2 ^ 64 → is_in_limits 1 most_levels t.height ≡ is_slot s n t

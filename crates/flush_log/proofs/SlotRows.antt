@@ -1,4 +1,4 @@
--- The slots of byte rows 2, 7, 8 and 9, and of row 21; and slots that are not well formed.
+-- The slots of byte rows 2, 7, 8 and 9, and of row 21; and malformed slots.
 use Rattle.std.specs.Prelude.{◌≡◌, ℕ, Bool, true, false, List, ◌++◌, take, drop, replicate, Ok, Err}
 use Rattle.std.proofs.Common.{refl}
 use Rattle.keys.specs.declared.fault.Fault.TheVariants.{NoSlot}
@@ -86,7 +86,7 @@ tail_of_51 = refl
 both_closed : store_slot S (overlay (overlay (with_slot slot_of_row_7 (new_bytes S)) 128 (hex "00")) 192 (hex "00")) ≡ Err NoSlot
 both_closed = refl
 
--- an open slot that is not well formed is refused beside one that is; what is after a closed gate is not looked at
+-- an open slot that is malformed is rejected beside one that is well formed; the bytes after a closed gate are not examined
 byte_of_zeros : store_slot S (overlay (with_slot slot_of_row_7 (new_bytes S)) 135 (hex "01")) ≡ Err NoSlot
 byte_of_zeros = refl
 

@@ -1,4 +1,4 @@
--- What may be left while a slot is written with its gate closed.
+-- What a crash may leave while a slot is written with its gate closed.
 use Rattle.std.proofs.Common.{◌≡◌, ◌⊎◌, inl, inr, ⊎_elim, ℕ, zero, suc, ◌+◌, ◌*◌, ◌<◌, ◌≤◌, false, ◌==◌, List, [], ◌∷◌, length, get_or, take, drop, refl, sym, ap, subst, ◌∙◌, arith, eqb-true}
 use Rattle.std.proofs.lemmas.Bool.{cases_Bool}
 use Rattle.keys.specs.declared.settings.Settings.{Settings}
@@ -55,7 +55,7 @@ module _ (t : Slot) (file : List ℕ) (long : 512 ≤ length file) where
           (overlay-beside staged place (1 ∷ []) gate_fits).same (place + suc i) (inr (omega arith))
           ∙ overlay-at file (place + 1) (slot_body t) (place + suc i) i body_fits (omega arith) (omega arith)
 
-  -- the bytes stand while the gate is opened
+  -- the contents while the gate is being opened
   gate_torn : (c : List ℕ) → Torn place 1 staged c → LeavesGateClosed t.sequence file c ⊎ (c ≡ written)
   gate_torn c torn = elim (cases_Bool (is_open t.sequence c)) [
     | inl stands ↦ inr (

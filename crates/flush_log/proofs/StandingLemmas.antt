@@ -1,4 +1,4 @@
--- A segment is read as it stands: what is found is spelled there, and where something is wrong, it is wrong at the offset reported.
+-- Reading a segment: the frames found are encoded in it, and a reported fault is at its offset.
 use Rattle.std.specs.Prelude.{◌≡◌, ◌⊎◌, ℕ, zero, suc, ◌+◌, ◌-◌, ◌*◌, ◌≤◌, ◌<◌, Bool, true, false, nat_eq, if◌then◌else◌, List, [], ◌∷◌, ◌++◌, length, flat_map, take, drop, replicate, Option, Some, None, Result, Ok, Err}
 use Rattle.std.specs.List.{AllByRecursion, starts_with}
 use Rattle.std.proofs.Common.{refl, sym, ap, ◌∙◌, arith, append_assoc, append-nil, length-append, subst, inl, inr}
@@ -145,7 +145,7 @@ module _ (g : Format) where
         of true starts h = found-of n bytes found (read_frames g is_end (length bytes) (drop 16 bytes)) (after_header n bytes are starts) (header-following n bytes starts) h
         of false starts h = absurd (cc)
 
-    -- and what is no frame stands where the fault says
+    -- and at the reported offset there is no frame
     pub segment-broken : (n : ℕ) (bytes : List ℕ) (m offset : ℕ) → AreBytes bytes → read_segment g is_end n bytes ≡ Err (BadFrame m offset) → (m ≡ n) × IsBrokenAt g is_end n offset bytes
     segment-broken n bytes m offset are = of (starts_with nat_eq bytes (segment_header n)) refl
       where
@@ -190,7 +190,7 @@ module _ (g : Format) where
         f.all,
       )
 
-  -- ---- and what stands so is read
+  -- ---- and such bytes are read
 
   module _ (good : first_bad_field g.settings ≡ None) (n : ℕ) where
     frames-hold : (bytes : List ℕ) (here fs : List Frame) → AllByRecursion (λ f. is_frame g f ≡ true) fs → Holds g n bytes here → Holds g n (bytes ++ flat_map bytes_of fs) (here ++ fs)

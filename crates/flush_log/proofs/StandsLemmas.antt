@@ -1,4 +1,4 @@
--- Each frame of a text stands at its place once the text is written.
+-- Each frame of a commit is at its place after the commit is written.
 use Rattle.std.specs.Prelude.{◌≡◌, ℕ, suc, ◌+◌, ◌-◌, ◌*◌, ◌/◌, ◌%◌, ◌≤◌, ◌<◌, true, List, [], ◌∷◌, ◌++◌, length, take, drop, replicate, None}
 use Rattle.std.specs.List.{AllByRecursion}
 use Rattle.std.proofs.Common.{refl, sym, ap, ◌∙◌, arith, subst, append_assoc, length-append}
@@ -40,7 +40,7 @@ module _ (s : Settings) where
   start-long file n offset whole some room =
       let within = place-within s n some in grind (arith, places, within, whole, room)
 
-  -- what the spans of a span that is being written leave: they lie in segments from its own on; what it has stands, and so does each frame
+  -- the effect of the spans from an open span on: they lie in segments from its own on, and its bytes and each frame are at their places
   record AllStand (head n : ℕ) (file : List ℕ) (r : Span) (rs : List Span) (ps : List PlacedFrame) : Type 0 where
     spans : AllByRecursion (λ q. (n ≤ q.segment) × (q.segment < head + s.segments) × (end_of q ≤ s.seg_size)) rs
     span : take (end_of r) (segment_bytes s (with_spans s file rs) r.segment) ≡ take r.offset (segment_bytes s file r.segment) ++ r.bytes
@@ -135,7 +135,7 @@ module _ (s : Settings) where
             (stand-over head n file r (spans_from s (begun (suc n) (bytes_of f)) ps) ps f number (omega (arith, end, room)) whole some from (omega (arith, rise, free)) h),
       ))
 
--- each frame of a text that finds room stands at its place
+-- each frame of a commit for which there is room is at its place
 pub text-stands : (g : Format) → first_bad_field g.settings ≡ None → (file : List ℕ) (head tail : ℕ) (text : List Frame) → HasSegments g.settings file → AllByRecursion (λ f. is_frame g f ≡ true) text → head * g.settings.seg_size < tail
     → last_segment g.settings (tail_after g.settings tail text) < head + g.settings.segments
     → AllByRecursion (λ p. take (length (bytes_of p.frame)) (drop p.offset (segment_bytes g.settings (with_spans g.settings file (spans g.settings tail text)) p.segment)) ≡ bytes_of p.frame) (placed g.settings tail text)

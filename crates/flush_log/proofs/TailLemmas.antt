@@ -1,4 +1,4 @@
--- Tails: how far a text moves them, and what it means that a log is full.
+-- Tails: how far new frames move them, and what it means that a log is full.
 use Rattle.std.specs.Prelude.{◌≡◌, ℕ, zero, suc, ◌+◌, ◌-◌, ◌*◌, ◌%◌, ◌/◌, ◌≤◌, ◌<◌, Bool, true, false, nat_le, List, [], ◌∷◌, length, None}
 use Rattle.std.specs.List.{AllByRecursion, sum_by}
 use Rattle.std.proofs.Common.{refl, ap, arith, leb-true, le-leb}
@@ -17,7 +17,7 @@ use Rattle.flush_log.proofs.LayoutLemmas.{end_point, by_places, AllFit, text-end
 use Rattle.flush_log.proofs.ReadBackLemmas.{all_fit}
 
 module _ (s : Settings) where
-  -- ---- how far a text moves a tail
+  -- ---- how far new frames move a tail
 
   end-above : (n offset : ℕ) (fs : List Frame) → offset ≤ s.seg_size → AllFit s fs
       → position s n offset + sum_by (λ f. length (bytes_of f)) fs ≤ position s (end_point n offset (placed_from s n offset fs)).0 (end_point n offset (placed_from s n offset fs)).1
@@ -55,7 +55,7 @@ module _ (s : Settings) where
   tail-parts tail = let parts = div-add-mod' tail s.seg_size in omega arith
 
 module _ (g : Format) (good : first_bad_field g.settings ≡ None) where
-  -- a text's bytes lie between its tails
+  -- the bytes of new frames lie between their tails
   pub tail-rises : (tail : ℕ) (text : List Frame) → AllByRecursion (λ f. is_frame g f ≡ true) text → tail + sum_by (λ f. length (bytes_of f)) text ≤ tail_after g.settings tail text
   tail-rises tail [] within = omega arith
   tail-rises tail (f ∷ fs) within =
@@ -90,7 +90,7 @@ module _ (s : Settings) (good : first_bad_field s ≡ None) where
       let most : (last_segment s tail + 1) * s.seg_size ≤ (head + s.segments) * s.seg_size = mul-le-mul_right s.seg_size (omega arith) in
       omega arith
 
--- ---- what is full
+-- ---- full logs
 
 pub room-for-clean : (s : Settings) (head tail : ℕ) → is_full_for_clean s head tail ≡ false → last_segment s tail < head + s.segments
 room-for-clean s head tail h = leb-false (head + s.segments) (last_segment s tail) h
@@ -99,7 +99,7 @@ room-for-clean s head tail h = leb-false (head + s.segments) (last_segment s tai
 pub room-for-flush : (s : Settings) (head tail : ℕ) → is_full_for_flush s head tail ≡ false → last_segment s tail + 1 < head + s.segments
 room-for-flush s head tail h = let room = leb-false (head + s.segments - 1) (last_segment s tail) h in omega arith
 
--- a text of as many bytes as all segments have finds no room
+-- there is no room for frames as large as all segments together
 pub too-long : (g : Format) (head tail : ℕ) (text : List Frame) → first_bad_field g.settings ≡ None → AllByRecursion (λ f. is_frame g f ≡ true) text → head * g.settings.seg_size < tail
     → g.settings.segments * g.settings.seg_size ≤ sum_by (λ f. length (bytes_of f)) text → is_full_for_clean g.settings head (tail_after g.settings tail text) ≡ true
 too-long g head tail text good within less long = of (is_full_for_clean g.settings head (tail_after g.settings tail text)) refl
@@ -112,10 +112,10 @@ too-long g head tail text good within less long = of (is_full_for_clean g.settin
         let parts : (head + g.settings.segments) * g.settings.seg_size ≡ head * g.settings.seg_size + g.settings.segments * g.settings.seg_size = omega arith in
         absurd (omega (arith, rises, room, parts, long, less))
 
--- what is full for a clean is full for a flush
+-- a log that is full for a clean is full for a flush
 pub full-for-flush : (s : Settings) (head tail : ℕ) → is_full_for_clean s head tail ≡ true → is_full_for_flush s head tail ≡ true
 full-for-flush s head tail h = let full = leb-true (head + s.segments) (last_segment s tail) h in le-leb (head + s.segments - 1) (last_segment s tail) (omega arith)
 
--- what is full for a clean is full for a flush of the log that begins one segment later
+-- a log that is full for a clean is full for a flush of the log that begins one segment later
 pub clean-is-flush : (s : Settings) (head tail : ℕ) → is_full_for_clean s head tail ≡ is_full_for_flush s (suc head) tail
 clean-is-flush s head tail = let same : head + s.segments ≡ suc head + s.segments - 1 = omega arith in ap (λ (n : ℕ). nat_le n (last_segment s tail)) same

@@ -1,4 +1,4 @@
--- The text of a flush, job by job.
+-- The frames of a flush, job by job.
 use Rattle.std.proofs.Common.{◌≡◌, ◌≢◌, ℕ, zero, suc, ◌^◌, ◌<◌, true, List, [], ◌∷◌, ◌++◌, length, map, flat_map, reverse, drop, Option, Some, None, IsSome, Result, Ok, Err, IfOk, IsTrue, ◌↔◌, Bool, false, nat_le, get_or, refl, sym, ap, ap₂, ◌∙◌, arith, subst, leb-true, le-leb, append_assoc, append-nil}
 use Rattle.std.specs.List.{AllByRecursion, filter}
 use Rattle.std.specs.Map.{keys_of}
@@ -41,7 +41,7 @@ keys-home [] a = refl
 keys-home ((n, Some p) ∷ es) a = ap (λ (ns : List ℕ). n ∷ ns) (keys-home es a.1)
 keys-home ((n, None) ∷ es) a = absurd (cc)
 
--- where no page is away, the pids that a table knows are those that a flush looks at
+-- if no page is checked out, the pids that a table knows are those that a flush examines
 pub known-pids : (t : TreeInMemory) → AreAllHome t → pids_in_use_or_old t.table ≡ pids_to_write (tree_of t)
 known-pids t home = ap (λ (ns : List ℕ). with_numbers (keys_of (filter (λ l. is_old l.1) t.table.logged)) ns) (keys-home t.table.places home)
 
@@ -140,7 +140,7 @@ can_be_written text t pid (s, good, proper) =
       few = few_by s good page (λ p e. page-is_good s t proper pid p e);
     }
 
--- a text whose page ids are words is one of frames that the store may have
+-- if all page ids have 64 bits, the store may have the frames of the commit
 pub text-frames : (text : Text) (t : Tree) → AllByRecursion HasWords (text_of text t) → (s : Settings) → IsProper s t → HasFrames s text t
 text-frames text t words s proper = frames_by (format_with s text) (text_of text t) (fit (pids_to_write t)) words
   where
@@ -158,7 +158,7 @@ text-frames text t words s proper = frames_by (format_with s text) (text_of text
 
 -- ---- the jobs
 
--- the text so far, and that of the pids that are left
+-- the frames so far, and those of the remaining pids
 abbrev pub text_with : Text → Tree → List ImageHeld → List ℕ → List Frame
 text_with text t hs left = flat_map held_text hs ++ flat_map (pid_text text t) left
 

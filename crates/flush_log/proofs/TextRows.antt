@@ -1,4 +1,4 @@
--- The texts of the flushes of the worked rows.
+-- The frames of the flushes of the worked rows.
 use Rattle.std.specs.Prelude.{◌≡◌, [], ◌∷◌, codes, drop}
 use Rattle.std.proofs.Common.{refl}
 use Rattle.keys.specs.declared.version.Version.TheVariants.{One, Two}
@@ -13,7 +13,7 @@ use Rattle.flush_log.proofs.Literals.{pair, set, gone, leaf, index, tree, frame,
 row_1 : flush_text One first_tree ≡ []
 row_1 = refl
 
--- a run in front of an empty base, and nothing more once it is written
+-- a run in front of an empty base, and nothing more after it is written
 row_3 : flush_text One (tree (leaf 0 "" ((set "a" "1" ∷ []) ∷ []) [] ∷ []) 0 1 ((0, Upto 0) ∷ [])) ≡ frame 0 (DeltaLeaf (set "a" "1" ∷ [])) ∷ []
 row_3 = refl
 
@@ -60,7 +60,7 @@ row_6 : flush_text One (tree (leaf 0 "" ((set "a" "1" ∷ set "b" "2" ∷ set "c
     ≡ frame 0 (DeltaLeaf (set "a" "1" ∷ set "b" "2" ∷ set "c" "3" ∷ set "d" "4" ∷ [])) ∷ []
 row_6 = refl
 
--- the second run alone, where the log has the first
+-- the second run alone, if the log has the first
 row_14 : flush_text One (tree (leaf 0 "" ((set "k" "0123456789abcdef" ∷ []) ∷ (set "a" "012345678" ∷ []) ∷ []) [] ∷ []) 0 1 ((0, Upto 1) ∷ []))
     ≡ frame 0 (DeltaLeaf (set "k" "0123456789abcdef" ∷ [])) ∷ []
 row_14 = refl
@@ -71,14 +71,14 @@ row_15 = refl
 
 -- ---- keys that share beginnings
 
--- a flush of row 4's pages where the log is of version 2; and the upgrade of their log once it has them all
+-- a flush of row 4's pages where the log is of version 2; and the upgrade of their log after it has them all
 row_4_shared : flush_text Two (tree pages_of_row_4 2 2 ((0, Old) ∷ [])) ≡ shared_text_of_row_4
 row_4_shared = refl
 
 row_4_upgraded : upgrade_text (tree pages_of_row_4 2 2 ((0, Upto 0) ∷ (1, Upto 0) ∷ (2, Upto 0) ∷ [])) ≡ shared_text_of_row_4
 row_4_upgraded = refl
 
--- a run is written again after its base, and what the log has of a page that is gone is taken back
+-- a run is written again after its base, and a page in the log that was freed is recorded as freed
 runs_upgraded : upgrade_text (tree (leaf 0 "" ((set "a" "2" ∷ []) ∷ (set "a" "1" ∷ []) ∷ []) [] ∷ []) 0 1 ((0, Upto 1) ∷ (3, Old) ∷ []))
     ≡ frame 0 (FullLeaf Shared [] []) ∷ frame 0 (DeltaLeaf (set "a" "1" ∷ [])) ∷ frame 0 (DeltaLeaf (set "a" "2" ∷ [])) ∷ frame 3 Free ∷ []
 runs_upgraded = refl

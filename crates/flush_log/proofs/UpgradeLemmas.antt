@@ -1,4 +1,4 @@
--- The text of an upgrade is that of a flush of version 2, as if each page that the log has were another one.
+-- The frames of an upgrade are those of a flush of version 2, as if each page in the log were outdated.
 use Rattle.std.specs.Prelude.{◌≡◌, ◌≢◌, ℕ, Bool, true, false, ◌||◌, nat_eq, if◌then◌else◌, List, [], ◌∷◌, ◌++◌, flat_map, Option, Some, None}
 use Rattle.std.specs.List.{AllByRecursion, filter}
 use Rattle.std.specs.Map.{keys_of}
@@ -24,7 +24,7 @@ use Rattle.frame_codec.specs.Frame.{Frame}
 use Rattle.flush_log.specs.FlushText.{lacking, frames_of, pid_text, pids_to_write, flush_text, upgrade_text, all_outdated, outdated}
 use Rattle.flush_log.specs.declared.text.Text.TheVariants.{Flush, Upgrade}
 
--- ---- what the log has of a pid
+-- ---- the log state of a pid
 
 listed-outdated : (ls : List (ℕ × Logged)) (pid : ℕ) → or_no (listed_at (all_outdated ls) pid) ≡ outdate (or_no (listed_at ls pid))
 listed-outdated [] pid = refl
@@ -46,7 +46,7 @@ stays_among m (k ∷ ks) ns h = of (stays_among m ks ns h) (is_among k (with_num
     of rest false = among-with_number m k (with_numbers ks ns) ∙ ap (λ (b : Bool). nat_eq m k || b) rest ∙ or_true_right (nat_eq m k)
 
 module _ (ps : List (ℕ × PageOfKind)) where
-  -- a pid is in use where the log has its page's base
+  -- a pid is in use if the log has its page's base
   in_use : (n k : ℕ) (o : Option PageOfKind) → page_at ps n ≡ o → IsTrueOf o (Upto k) → is_among n (keys_of ps) ≡ true
   in_use n k None e is = absurd (is)
   in_use n k (Some p) e is = holds_where_found (λ m. is_among m (keys_of ps) ≡ true) ps n p (all_among (keys_of ps)) e
@@ -65,7 +65,7 @@ module _ (ps : List (ℕ × PageOfKind)) where
       let others : List ℕ = with_numbers (olds (all_outdated ls)) (keys_of ps) in
       ap (with_one n others) (stays_among n (olds (all_outdated ls)) (keys_of ps) (in_use n k (page_at ps n) refl a.0)) ∙ same-pids ls a.1
 
--- ---- the text
+-- ---- the frames
 
 module _ (t : Tree) where
   same-text : (pids : List ℕ) → flat_map (pid_text Upgrade t) pids ≡ flat_map (pid_text (Flush Two) (outdated t)) pids
@@ -82,7 +82,7 @@ none_left : (fs gs : List Frame) → fs ++ gs ≡ [] → (fs ≡ []) × (gs ≡ 
 none_left [] gs e = (refl, e)
 none_left (f ∷ fs) gs e = absurd (cc)
 
--- where a text of pids is empty, so is that of each
+-- if there are no frames for some pids, there are none for each of them
 each_empty : (f : ℕ → List Frame) (n : ℕ) (ns : List ℕ) → is_among n ns ≡ true → flat_map f ns ≡ [] → f n ≡ []
 each_empty f n [] among e = absurd (cc)
 each_empty f n (m ∷ ms) among e =

@@ -19,7 +19,7 @@ use Rattle.flush_log.specs.Reading.{Found, log_between}
 use Rattle.flush_log.specs.Slot.{Slot, slot_body}
 use Rattle.flush_log.proofs.Literals.{tree, pages_of_row_4, text_of_row_4, shared_text_of_row_4}
 
--- the store once its pages are flushed, with a log of this version
+-- the store after its pages are flushed, with a log of this version
 abbrev flushed_store : Version → Store
 flushed_store version = record { tree = tree pages_of_row_4 2 2 ((0, Upto 0) ∷ (1, Upto 0) ∷ (2, Upto 0) ∷ []); head = 0; tail = 136; sequence = 2; version = version }
 

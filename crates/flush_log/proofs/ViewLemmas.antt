@@ -1,5 +1,5 @@
--- What a crash leaves of runs of calls, on any disk: for the proofs of what writes to a disk. A view is no value that a contract
--- can name for all, so these laws stand on no function.
+-- The outcomes of a crash during sequences of calls, on any disk: for the proofs of code that writes to a disk. A state of a disk is no value that a
+-- contract can quantify over, so these laws are not contracts of functions.
 use Rattle.std.proofs.Common.{◌≡◌, inl, inr, ⊎_elim, ℕ, zero, suc, ◌+◌, ◌-◌, ◌^◌, ◌≤◌, min, List, [], ◌∷◌, ◌++◌, length, take, refl, sym, ap, subst, ◌∙◌, arith, Result, Ok, Err, IsErr, IfOk}
 use Rattle.std.proofs.lemmas.Bool.{cases_lt, false≢true}
 use Rattle.std.proofs.lemmas.List.{length-take}
@@ -64,7 +64,7 @@ then a b c r s q law both one first second = record {
       (second.time.splits a.moment x first.time.later left);
 }
 
--- no call leaves what was there
+-- if no call is made, the state is unchanged
 pub nothing_leaves : (v : View) (step : List ℕ → List ℕ → Type 0) → Lawful v → ((c : List ℕ) → step c c) → Leaves v v step
 nothing_leaves v step law stays = record {
   time = record {

@@ -1,4 +1,4 @@
--- What is written of a page, part by part.
+-- The frames that are written for a page, part by part.
 use Rattle.std.proofs.Common.{◌≡◌, ℕ, ◌≤◌, List, [], ◌∷◌, ◌++◌, length, map, reverse, drop, sym, ap, ◌∙◌, arith, subst, append_assoc, append-nil, OnOk, Result, Ok, Err}
 use Rattle.std.specs.List.{AllByRecursion}
 use Rattle.std.specs.declared.alloc.AllocError.{AllocError}
@@ -58,7 +58,7 @@ module _ {X : Type 0} (f : X → Content) where
       ∙ ap (λ (cs : List Content). drop k cs) (map-append f (reverse runs) (run ∷ []))
       ∙ drop-append-le k (contents runs) (f run ∷ []) (omega arith)
 
-  -- a chain's runs from its newest: what stands before it, and it
+  -- a chain's runs from the newest one: the runs before a run, and that run
   module _ (k : ℕ) (run : X) (all runs : List X) (is : all ≡ run ∷ runs) (h : k ≤ length runs) where
     split : drop k (contents all) ≡ drop k (contents runs) ++ f run ∷ []
     split = ap (λ (xs : List X). drop k (contents xs)) is ∙ newest_last k run runs h

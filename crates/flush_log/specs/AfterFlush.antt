@@ -1,4 +1,4 @@
--- A flush and an upgrade: why they are refused, and what they leave of the store and of its disk.
+-- The results of a flush and of an upgrade: the fault, or the store and its disk afterwards.
 use Rattle.std.specs.Prelude.{suc, Bool, ◌||◌, nat_lt, if◌then◌else◌, List, [], ◌∷◌, Result, Ok, Err}
 use Rattle.keys.specs.Bytes.{Bytes}
 use Rattle.keys.specs.declared.settings.Settings.{Settings}
@@ -17,47 +17,47 @@ use Rattle.flush_log.specs.Slot.{Slot, greatest}
 abbrev pub slot_of : Store → Slot
 slot_of st = record { sequence = st.sequence; head = st.head; tail = st.tail; root = st.tree.root; height = st.tree.height; version = st.version }
 
--- the slot for this text of a store
+-- the slot for these frames of a store
 abbrev pub flush_slot : Settings → Store → List Frame → Slot
 flush_slot s st text = record { sequence = suc st.sequence; head = st.head; tail = tail_after s st.tail text; root = st.tree.root; height = st.tree.height; version = st.version }
 
--- a commit: its slot, and what is written of its text
+-- a commit: its slot, and the spans that are written for its frames
 pub record Commit : Type 0 where
   pub slot : Slot
   pub spans : List Span
 
--- the bytes after it
+-- the bytes after the commit
 abbrev pub file_after : Settings → Bytes → Commit → Bytes
 file_after s file m = committed s file m.spans m.slot
 
--- the calls of the disk by which it is made
+-- the disk calls of the commit
 abbrev pub calls_for : Settings → Bytes → Commit → List Call
 calls_for s file m = commit_calls s file m.spans m.slot
 
--- the commit of this text of a store
+-- the commit of these frames for a store
 abbrev pub flush_commit : Settings → Store → List Frame → Commit
 flush_commit s st text = record { slot = flush_slot s st text; spans = spans s st.tail text }
 
--- its number or its tail is above the greatest
+-- the slot's number or its tail is above the greatest
 abbrev pub is_spent : Slot → Bool
 is_spent t = nat_lt greatest t.sequence || nat_lt greatest t.tail
 
--- the store of a slot, with this tree
+-- the store with this slot and this tree
 abbrev pub store_after : Tree → Slot → Store
 store_after tree t = record { tree = tree; head = t.head; tail = t.tail; sequence = t.sequence; version = t.version }
 
--- why a commit is refused: its numbers are spent, or the log is full. Else the store and the bytes after it.
+-- the result of a commit: `Spent` if its numbers are exhausted, `Full` if the log is full, else the store and the bytes afterwards
 abbrev pub after_commit : Slot → Bool → Store → Bytes → Result (Store × Bytes) Fault
 after_commit t is_full st file = if is_spent t then Err Spent else (if is_full then Err Full else Ok (st, file))
 
--- what a text of a store leaves: nothing is written for an empty one, and the store stays
+-- the result of committing frames; without frames, nothing is written and the store is unchanged
 abbrev pub after_text : Settings → Store → Bytes → List Frame → Result (Store × Bytes) Fault
 after_text s st file [] = Ok (st, file)
 after_text s st file (f ∷ fs) =
     let m : Commit = flush_commit s st (f ∷ fs) in
     after_commit m.slot (is_full_for_flush s m.slot.head m.slot.tail) (store_after (flushed st.tree) m.slot) (file_after s file m)
 
--- what a flush leaves of a store and of the bytes of its disk, or why it is refused
+-- the result of a flush: the store and the bytes of its disk afterwards, or the fault
 abbrev pub after_flush : Settings → Store → Bytes → Result (Store × Bytes) Fault
 after_flush s st file = after_text s st file (flush_text st.version st.tree)
 
@@ -65,18 +65,18 @@ after_flush s st file = after_text s st file (flush_text st.version st.tree)
 abbrev pub of_version_two : Store → Store
 of_version_two st = record { tree = st.tree; head = st.head; tail = st.tail; sequence = st.sequence; version = Two }
 
--- the answer, where the log isn't of version 2 already
+-- the result, unless the log already has version 2
 abbrev pub unless_upgraded : {X : Type 0} → Version → Result X Fault → Result X Fault
 unless_upgraded One answer = answer
 unless_upgraded Two answer = Err AlreadyUpgraded
 
--- what an upgrade leaves, or why it is refused
+-- the result of an upgrade
 abbrev pub after_upgrade : Settings → Store → Bytes → Result (Store × Bytes) Fault
 after_upgrade s st file = unless_upgraded st.version (after_text s (of_version_two st) file (upgrade_text st.tree))
 
--- ---- the calls of the disk
+-- ---- disk calls
 
--- the calls by which a text of a store is written: none for an empty one
+-- the calls by which these frames of a store are committed: none without frames
 abbrev pub text_calls : Settings → Store → Bytes → List Frame → List Call
 text_calls s st file [] = []
 text_calls s st file (f ∷ fs) = calls_for s file (flush_commit s st (f ∷ fs))

@@ -1,4 +1,4 @@
--- Where a log begins and ends, and how often it was committed.
+-- Where a log begins and ends, and its number of commits.
 use Rattle.std.specs.Prelude.{◌+◌, ◌*◌, ◌<◌, ◌≤◌}
 use Rattle.keys.specs.Sizes.{segment_header_size}
 use Rattle.keys.specs.declared.settings.Settings.{Settings}
@@ -7,16 +7,16 @@ use Rattle.flush_log.specs.Segments.{last_segment}
 use Rattle.flush_log.specs.Slot.{Slot, greatest}
 use Rattle.flush_log.specs.declared.slot.LogEnds.{LogEnds}
 
--- as a slot has it
+-- those of a slot
 abbrev pub ends_in : Slot → LogEnds
 ends_in t = record { sequence = t.sequence; head = t.head; tail = t.tail }
 
--- of the log of a store
+-- those of a store
 abbrev pub ends_of : Store → LogEnds
 ends_of st = record { sequence = st.sequence; head = st.head; tail = st.tail }
 
--- A log of a store with these settings may have these ends: the tail comes after the header of the head segment, and in one of the
--- segments from that one on.
+-- a log of a store with these settings may have these ends: the tail is after the header of the head segment, and in one of the `segments` segments
+-- from the head on
 pub record AreEnds (s : Settings) (e : LogEnds) : Type 0 where
   pub number : e.sequence ≤ greatest
   pub after : e.head * s.seg_size + segment_header_size < e.tail

@@ -1,4 +1,4 @@
--- What a flush writes: the frames that the log still lacks, in the order of their pids. And what an upgrade writes: all pages.
+-- The frames of a flush: those that the log lacks, in the order of their pids. And the frames of an upgrade: all pages.
 use Rattle.std.specs.Prelude.{◌≡◌, ℕ, true, List, [], ◌∷◌, map, flat_map, reverse, drop, Option, Some, None}
 use Rattle.std.specs.List.{AllByRecursion, filter}
 use Rattle.std.specs.Map.{keys_of}
@@ -22,7 +22,7 @@ use Rattle.flush_log.specs.declared.text.Text.TheVariants.{Flush, Upgrade}
 
 -- ---- contents
 
--- how a store of this version spells the keys of the bases that it writes
+-- the key encoding for bases in a log of this version
 abbrev pub spelling_of : Version → Spelling
 spelling_of One = Whole
 spelling_of Two = Shared
@@ -32,7 +32,7 @@ abbrev pub base_content : Spelling → PageOfKind → Content
 base_content spelling (Leaf p) = FullLeaf spelling p.low p.layers.base
 base_content spelling (Index p) = FullIndex spelling p.low p.layers.base
 
--- a page's runs, the oldest first
+-- a page's runs, oldest first
 abbrev pub run_contents : PageOfKind → List Content
 run_contents (Leaf p) = map (λ run. DeltaLeaf run) (reverse p.layers.runs)
 run_contents (Index p) = map (λ run. DeltaIndex run) (reverse p.layers.runs)
@@ -41,8 +41,8 @@ run_contents (Index p) = map (λ run. DeltaIndex run) (reverse p.layers.runs)
 abbrev pub whole_page : Spelling → PageOfKind → List Content
 whole_page spelling p = base_content spelling p ∷ run_contents p
 
--- what is to be written of a pid, by its page and by what the log has: the whole page, where the log has another one or none;
--- the newer runs, where it has the base and the oldest k; that there is no page, where the log has one
+-- what must be written for a pid, by its page and its log state: the whole page, if the log has another page or none; the newer runs, if it has the
+-- base and the oldest k runs; that the page was freed, if there is no page but the log has one
 abbrev pub lacking : Spelling → Option PageOfKind → Logged → List Content
 lacking spelling (Some p) No = whole_page spelling p
 lacking spelling (Some p) Old = whole_page spelling p
@@ -54,63 +54,63 @@ lacking spelling None _ = []
 abbrev pub frames_of : ℕ → List Content → List Frame
 frames_of pid cs = map (λ c. record { pid = pid; content = c }) cs
 
--- ---- texts
+-- ---- commits
 
--- the version of the log that has this text: an upgrade brings the second one
+-- the version of the log after this commit: an upgrade leads to the second one
 abbrev pub version_with : Text → Version
 version_with (Flush version) = version
 version_with Upgrade = Two
 
--- what the log has of a pid, as the text takes it: an upgrade takes each page that the log has as another one
+-- the log state of a pid, as this kind of commit treats it: an upgrade treats each page in the log as outdated
 abbrev pub taken : Text → Logged → Logged
 taken (Flush version) l = l
 taken Upgrade l = outdate l
 
--- what is to be written of a pid of a tree
+-- the frames that must be written for a pid of a tree
 abbrev pub pid_text : Text → Tree → ℕ → List Frame
 pid_text text t pid = frames_of pid (lacking (spelling_of (version_with text)) (page_at t.pages pid) (taken text (logged_of t pid)))
 
--- by rising number the pids that are in use, or `Old` in the log
+-- in rising order, the pids that are in use or `Old` in the log
 abbrev pub pids_to_write : Tree → List ℕ
 pids_to_write t = with_numbers (keys_of (filter (λ l. is_old l.1) t.logged)) (keys_of t.pages)
 
--- the frames of a text
+-- the frames of a commit
 abbrev pub text_of : Text → Tree → List Frame
 text_of text t = flat_map (pid_text text t) (pids_to_write t)
 
--- the text of a flush of a store of this version
+-- the frames of a flush, for a log of this version
 abbrev pub flush_text : Version → Tree → List Frame
 flush_text version t = text_of (Flush version) t
 
--- the text of an upgrade: that of a flush of version 2, as if every page in use were `Old`
+-- the frames of an upgrade: those of a flush of version 2, as if every page in use were `Old`
 abbrev pub upgrade_text : Tree → List Frame
 upgrade_text t = text_of Upgrade t
 
--- what the log has of each pid, as if each page that it has were another one; and the tree with that
+-- the log states as if each page in the log were outdated, and the tree with these
 abbrev pub all_outdated : List (ℕ × Logged) → List (ℕ × Logged)
 all_outdated ls = map (λ l. (l.0, outdate l.1)) ls
 
 abbrev pub outdated : Tree → Tree
 outdated t = record { pages = t.pages; root = t.root; height = t.height; logged = all_outdated t.logged }
 
--- the format by which the frames of a text are read
+-- the format of the log after this commit
 abbrev pub format_with : Settings → Text → Format
 format_with s text = record { settings = s; version = version_with text }
 
--- each frame of a text is one that the log of a store with these settings may have: so it is where page ids are numbers of 64 bits
+-- the log of a store with these settings may contain all frames of this commit, which is so if all page ids have 64 bits
 abbrev pub HasFrames : Settings → Text → Tree → Type 0
 HasFrames s text t = AllByRecursion (λ f. is_frame (format_with s text) f ≡ true) (text_of text t)
 
--- ---- the tree once a text is written
+-- ---- the tree after a commit
 
--- each page with all its runs
+-- the log states in which each page is there with all its runs
 abbrev pub logged_whole : List (ℕ × PageOfKind) → List (ℕ × Logged)
 logged_whole ps = map (λ p. (p.0, Upto (page_depth p.1))) ps
 
--- the tree of these pages, where a log has every one as it is and nothing of any other pid
+-- the tree of these pages, where the log contains each page with all its runs, and nothing of any other pid
 abbrev pub tree_in_log : List (ℕ × PageOfKind) → ℕ → ℕ → Tree
 tree_in_log ps root height = record { pages = ps; root = root; height = height; logged = logged_whole ps }
 
--- the tree once its text is written
+-- the tree after its frames are committed
 abbrev pub flushed : Tree → Tree
 flushed t = tree_in_log t.pages t.root t.height

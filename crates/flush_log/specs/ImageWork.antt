@@ -1,4 +1,4 @@
--- What a job of the work on images holds, and what is made of it.
+-- The input and the output of the work on images.
 use Rattle.std.specs.Prelude.{◌≡◌, ◌≢◌, ℕ, ◌^◌, ◌<◌, ⊤, List, [], ◌∷◌, ◌++◌, map, drop, Option, Some, None}
 use Rattle.std.specs.Borrow.{Bor}
 use Rattle.std.specs.List.{AllByRecursion}
@@ -20,62 +20,62 @@ use Rattle.flush_log.specs.FlushText.{spelling_of, lacking, frames_of, version_w
 use Rattle.flush_log.specs.declared.image_work.ImageJob.{ImageJob}
 use Rattle.flush_log.specs.declared.text.Text.{Text}
 
--- a pid, how the keys of its base are to be spelled, its page if it has one, and what the log has of it
+-- a pid, the key encoding for its base, its page if it has one, and its log state
 pub record ImageHeld : Type 0 where
   pub pid : ℕ
   pub spelling : Spelling
   pub page : Option PageOfKind
   pub logged : Logged
 
--- what a job holds: from its parts, and as a job
+-- the input in a job: from its parts, and as a job
 abbrev pub image_held : ℕ → Spelling → Option (Bor PageOfKind) → of_code.Logged → ImageHeld
 image_held pid spelling page logged = record { pid = pid; spelling = spelling; page = option_copied page; logged = log_state logged }
 
 abbrev pub job_held : ImageJob → ImageHeld
 job_held j = image_held j.pid j.spelling j.page j.logged
 
--- what is to be held of a pid of a tree, for a text
+-- the input for a pid of a tree
 abbrev pub held_of_pid : Text → Tree → ℕ → ImageHeld
 held_of_pid text t pid =
     record { pid = pid; spelling = spelling_of (version_with text); page = page_at t.pages pid; logged = taken text (logged_of t pid) }
 
--- the frames that are to be written of it
+-- the frames that must be written for it
 abbrev pub held_text : ImageHeld → List Frame
 held_text h = frames_of h.pid (lacking h.spelling h.page h.logged)
 
--- the bytes of these
+-- the encodings of these frames
 abbrev pub image_made : ImageHeld → List Bytes
 image_made h = map (λ f. bytes_of f) (held_text h)
 
--- the page has far fewer runs than a machine number counts
+-- the number of the page's runs is far below the greatest machine number
 abbrev pub HasFewRuns : Option PageOfKind → Type 0
 HasFewRuns None = ⊤
 HasFewRuns (Some p) = page_depth p < 2 ^ 31
 
--- what may be worked: what is to be written is such as a store may have, by its sizes, and the runs are few
+-- a valid input: a store may have the contents to be written, by their sizes, and the page has few runs
 pub record CanBeWritten (h : ImageHeld) : Type 0 where
   pub sized : AllByRecursion IsSized (lacking h.spelling h.page h.logged)
   pub few : HasFewRuns h.page
 
--- such a job with something to be written
+-- a valid input with something to write
 abbrev pub IsDue : ImageHeld → Type 0
 IsDue h = CanBeWritten h × (held_text h ≢ [])
 
--- the contents that are to be written of a page with this base and these runs, the oldest first
+-- the contents to be written for a page with this base and these runs, which are given oldest first
 abbrev pub lacking_by : Logged → Content → List Content → List Content
 lacking_by No base runs = base ∷ runs
 lacking_by Old base runs = base ∷ runs
 lacking_by (Upto k) base runs = drop k runs
 
--- these contents were written after what was there, as frames of one pid, and each page id in them is of 64 bits
+-- these contents were appended as frames of one pid, and each page id in them has 64 bits
 pub record AreWritten (pid : ℕ) (cs : List Content) (old new : List Bytes) : Type 0 where
   pub bytes : new ≡ old ++ map (λ f. bytes_of f) (frames_of pid cs)
   pub words : AllByRecursion HasWords (frames_of pid cs)
 
--- this is the image of what a job holds
+-- this is the image for the input
 abbrev pub IsImageOf : ImageHeld → List Bytes → Type 0
 IsImageOf h image = AreWritten h.pid (lacking h.spelling h.page h.logged) [] image
 
--- the tree of a store: it is proper under settings that pass their check
+-- the tree of a store: it is proper under valid settings
 abbrev pub IsOfStore : Tree → Type 0
 IsOfStore t = (s : Settings) × (first_bad_field s ≡ None) × IsProper s t

@@ -1,5 +1,4 @@
--- The frames of a text as the code has them: images, each the frames of one page back to back. And how far such frames bring
--- the end of a log, one after the other.
+-- The frames of a commit in the code's form: images, each the encoded frames of one page. And how such frames move the end of a log.
 use Rattle.std.specs.Prelude.{◌≡◌, ◌⊎◌, ℕ, suc, ◌+◌, ◌*◌, ◌/◌, ◌%◌, ◌≤◌, Bool, nat_le, nat_lt, if◌then◌else◌, List, [], ◌∷◌, ◌++◌, length, map, slice_range, Option, Some, None, Result, Ok, Err}
 use Rattle.std.specs.List.{AllByRecursion}
 use Rattle.keys.specs.Bytes.{Bytes}
@@ -15,70 +14,70 @@ use Rattle.flush_log.specs.Slot.{Slot, greatest}
 
 -- ---- images
 
--- the parts of these bytes: the first begins at a place, each goes up to its end, and the next begins there
+-- the parts of these bytes: the first one begins at a place, each goes up to its end, and the next one begins there
 abbrev pub cut_at : ℕ → Bytes → List ℕ → List Bytes
 cut_at from bytes [] = []
 cut_at from bytes (end ∷ ends) = slice_range bytes from end ∷ cut_at end bytes ends
 
--- the bytes of each frame of these images
+-- the encoded frames of these images
 abbrev pub frames_in : List (List Bytes) → List Bytes
 frames_in [] = []
 frames_in (image ∷ images) = image ++ frames_in images
 
--- these are the frames of this text
+-- these are the encodings of these frames
 abbrev pub AreOfText : List (List Bytes) → List Frame → Type 0
 AreOfText images text = frames_in images ≡ map (λ f. bytes_of f) text
 
--- this holds for the text that they are the frames of; there are none, or it has a frame
+-- a property of the frames whose encodings they are; there are no images, or there is a frame
 abbrev pub ForText : List (List Bytes) → (List Frame → Type 0) → Type 0
 ForText images holds = (text : List Frame) → AreOfText images text → (images ≡ []) ⊎ (1 ≤ length text) → holds text
 
--- they are those of a text that has room after this tail: it ends no later than at the greatest position
+-- there is room for them after this tail: they end at most at the greatest position
 abbrev pub HaveRoomAfter : Settings → ℕ → List (List Bytes) → Type 0
 HaveRoomAfter s tail images = (text : List Frame) × AreOfText images text × (tail_after s tail text ≤ greatest)
 
--- each of these fits into a segment, after its header
+-- each of these frames fits into a segment, after its header
 abbrev pub FitSegments : Settings → List Bytes → Type 0
 FitSegments s frames = AllByRecursion (λ bytes. segment_header_size + length bytes ≤ s.seg_size) frames
 
 -- ---- the end of a log
 
--- the segment and the offset where the next frame stands if it fits in there, and the position after the last one
+-- the segment and the offset of the next frame if it fits there, and the position after the last frame
 pub record Reached : Type 0 where
   pub segment : ℕ
   pub offset : ℕ
   pub tail : ℕ
 
--- where a text begins that is written from this tail on
+-- where frames begin that are written from this tail on
 abbrev pub from_tail : Settings → ℕ → Reached
 from_tail s tail = record { segment = tail / s.seg_size; offset = past_header (tail % s.seg_size); tail = tail }
 
--- after an offset of a segment
+-- the end after this offset of a segment
 abbrev pub reached : Settings → ℕ → ℕ → Reached
 reached s n offset = record { segment = n; offset = offset; tail = position s n offset }
 
--- after one more frame of `size` bytes
+-- the end after one more frame of `size` bytes
 abbrev pub after_frame : Settings → Reached → ℕ → Reached
 after_frame s r size =
     if nat_le (r.offset + size) s.seg_size
     then reached s r.segment (r.offset + size)
     else reached s (suc r.segment) (segment_header_size + size)
 
--- after all of these
+-- the end after all of these frames
 abbrev pub after_frames : Settings → Reached → List Bytes → Reached
 after_frames s r [] = r
 after_frames s r (bytes ∷ frames) = after_frames s (after_frame s r (length bytes)) frames
 
--- the end lies in its segment, and the position after the last frame from the segment's start up to it
+-- the offset is within its segment, and the position after the last frame is between the segment's start and the offset
 pub record IsReached (s : Settings) (r : Reached) : Type 0 where
   pub within : r.offset ≤ s.seg_size
   pub above : r.segment * s.seg_size ≤ r.tail
   pub below : r.tail ≤ position s r.segment r.offset
 
--- nothing, where the position is above the greatest
+-- None, if the position is above the greatest
 abbrev pub unless_spent : Reached → Option Reached
 unless_spent r = if nat_lt greatest r.tail then None else Some r
 
--- the tail of a commit's slot, or why the commit is refused: its numbers are spent, or the log is full
+-- the tail of a commit's slot, or the fault: its numbers are exhausted, or the log is full
 abbrev pub admitted : Slot → Bool → Result ℕ Fault
 admitted t is_full = if is_spent t then Err Spent else (if is_full then Err Full else Ok t.tail)

@@ -1,4 +1,4 @@
--- A disk with a record: the bytes that it had at first, and the calls that were made since, in their order.
+-- A disk with a record of calls: its initial bytes, and the calls since then, in order.
 use Rattle.std.specs.Prelude.{◌≡◌, ◌⊎◌, ℕ, ◌+◌, ◌-◌, ◌<◌, ◌≤◌, true, List, ◌++◌, length, map, take, replicate}
 use Rattle.std.specs.List.{AllByRecursion}
 use Rattle.keys.specs.Bytes.{Bytes}
@@ -8,15 +8,15 @@ use Rattle.flush_log.specs.Commit.Call.{Write, Sync}
 use Rattle.flush_log.specs.declared.mem_disk.RecordedCall.{RecordedCall}
 use Rattle.flush_log.specs.declared.mem_disk.RecordedCall.TheVariants as recorded
 
--- what a crash after these calls leaves of a disk that was settled: what a read gives, or else what the calls may leave
+-- the outcomes of a crash after these calls on a synced disk: the readable contents, or other outcomes of the calls
 abbrev pub LeftNow : Bytes → List Call → Bytes → Type 0
 LeftNow file calls c = (c ≡ seen_after calls file) ⊎ MayLeave calls file (λ d. d ≡ file) c
 
--- what a crash after fewer of the calls may leave, but not before the first t of them
+-- the outcomes of a crash after fewer of the calls, but not before the first t of them
 abbrev pub LeftEarlier : Bytes → List Call → ℕ → Bytes → Type 0
 LeftEarlier file calls t c = (k : ℕ) × (t ≤ k) × (k < length calls) × MayLeave (take k calls) file (λ d. d ≡ file) c
 
--- a disk that had these bytes, settled, and then got these calls; each of them takes a moment
+-- the state of a disk with these synced bytes after these calls; each call takes a moment
 abbrev pub view_of : Bytes → List Call → View
 view_of file calls = record {
   is_honest = true;
@@ -36,7 +36,7 @@ end_of_call Sync = 0
 abbrev pub AreCalls : ℕ → List Call → Type 0
 AreCalls n calls = AllByRecursion (λ call. end_of_call call ≤ n) calls
 
--- a call as it is kept in memory
+-- a recorded call as a call of the definitions
 abbrev pub call_of : {A : Type 0} → RecordedCall A → Call
 call_of (recorded.Write at bytes) = Write at bytes.items
 call_of recorded.Sync = Sync
@@ -44,6 +44,6 @@ call_of recorded.Sync = Sync
 abbrev pub calls_of : {A : Type 0} → List (RecordedCall A) → List Call
 calls_of calls = map call_of calls
 
--- a file of n bytes: these are the first, and all others are zeros
+-- a file of n bytes: first these, and then zeros
 abbrev pub with_zeros : ℕ → Bytes → Bytes
 with_zeros n first = first ++ replicate (n - length first) 0

@@ -1,27 +1,26 @@
--- The segments of a disk: where each stands, and what it begins with. Segment numbers only grow; segment n takes the room of
--- segment n - segments.
+-- The segments of a disk: their places, and their headers. Segment numbers only grow; segment n reuses the place of segment n - segments.
 use Rattle.std.specs.Prelude.{◌≡◌, ℕ, ◌+◌, ◌-◌, ◌*◌, ◌/◌, ◌%◌, ◌<◌, ◌≤◌, ◌++◌, length, take, drop, codes}
 use Rattle.keys.specs.Bytes.{Bytes}
 use Rattle.keys.specs.Cells.{number}
 use Rattle.keys.specs.declared.settings.Settings.{Settings}
 
--- the word that a segment begins with
+-- the word at the beginning of a segment
 abbrev pub segment_magic : Bytes
 segment_magic = codes "BWSG"
 
--- the bytes that segment n begins with
+-- the header of segment n
 abbrev pub segment_header : ℕ → Bytes
 segment_header n = segment_magic ++ ((number 4).spell 0 ++ (number 8).spell n)
 
--- where the segments begin in a file: after the settings block and the slots
+-- the offset of the first segment in a file: after the settings block and the slots
 abbrev pub segments_begin : ℕ
 segments_begin = 512
 
--- where segment n stands in a file
+-- the offset of segment n in a file
 abbrev pub place_of_segment : Settings → ℕ → ℕ
 place_of_segment s n = segments_begin + n % s.segments * s.seg_size
 
--- how many bytes a disk has at least
+-- the least size of a disk in bytes
 abbrev pub disk_size : Settings → ℕ
 disk_size s = segments_begin + s.segments * s.seg_size
 
@@ -37,7 +36,7 @@ segment_bytes s file n = take s.seg_size (drop (place_of_segment s n) file)
 abbrev pub position : Settings → ℕ → ℕ → ℕ
 position s n offset = n * s.seg_size + offset
 
--- a place of the log: that of an offset in a segment from the head on, whose position is below the tail
+-- a place of the log: that of an offset in a segment from the head on, with a position below the tail
 pub record IsInLog (s : Settings) (head tail : ℕ) (place : ℕ) : Type 0 where
   pub segment : ℕ
   pub offset : ℕ
@@ -50,6 +49,6 @@ pub record IsInLog (s : Settings) (head tail : ℕ) (place : ℕ) : Type 0 where
 abbrev pub last_segment : Settings → ℕ → ℕ
 last_segment s tail = (tail - 1) / s.seg_size
 
--- how many of its bytes are in use
+-- the number of its bytes in use
 abbrev pub bytes_in_use : Settings → ℕ → ℕ
 bytes_in_use s tail = tail - last_segment s tail * s.seg_size

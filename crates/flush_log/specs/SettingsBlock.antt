@@ -1,4 +1,4 @@
--- The settings block, with which a disk begins.
+-- The settings block at the beginning of a disk.
 use Rattle.std.specs.Prelude.{ℕ, ◌&&◌, nat_le, if◌then◌else◌, ◌++◌, length, take, drop, replicate, Option, Some, None, is_none, Result, Ok, Err, codes}
 use Rattle.std.specs.Str.{bytes_eq}
 use Rattle.keys.specs.Bytes.{Bytes}
@@ -9,20 +9,20 @@ use Rattle.keys.specs.declared.fault.Fault.{Fault}
 use Rattle.keys.specs.declared.fault.Fault.TheVariants.{NotAStore}
 use Rattle.flush_log.specs.Segments.{disk_size}
 
--- what was read, or 0
+-- the decoded number, or 0
 abbrev pub number_or_0 : Option (ℕ × Bytes) → ℕ
 number_or_0 None = 0
 number_or_0 (Some p) = p.0
 
--- the number that w bytes from this place on are, or 0 where there are fewer
+-- the number of w bytes at this place, or 0 if there are fewer bytes
 abbrev pub number_at : ℕ → ℕ → Bytes → ℕ
 number_at w place bytes = number_or_0 (read_number w (drop place bytes))
 
--- the word that a disk begins with
+-- the word at the beginning of a disk
 abbrev pub store_magic : Bytes
 store_magic = codes "BWBATCH1"
 
--- how many bytes the block has
+-- the size of the block in bytes
 abbrev pub settings_block_size : ℕ
 settings_block_size = 64
 
@@ -34,7 +34,7 @@ settings_block s =
     ++ (number 4).spell s.seg_size ++ (number 4).spell s.segments
     ++ replicate 40 0
 
--- the settings whose numbers stand at the places of the block: each with how many bytes it has, and where it stands
+-- the settings from the numbers in the block, each given by its size in bytes and its place
 abbrev pub settings_in : Bytes → Settings
 settings_in bytes = record {
   fan = number_at 2 8 bytes;
@@ -45,18 +45,18 @@ settings_in bytes = record {
   segments = number_at 4 20 bytes;
 }
 
--- the settings that these bytes spell, byte for byte, where they are ones that a store may have
+-- the settings whose encoding these bytes are, exactly, if they are valid
 abbrev pub read_settings : Bytes → Option Settings
 read_settings bytes =
     if bytes_eq (settings_block (settings_in bytes)) bytes && is_none (first_bad_field (settings_in bytes))
     then Some (settings_in bytes)
     else None
 
--- the settings that were read of a disk, where it has room for all segments
+-- the settings that were decoded from a disk, if it has room for all segments
 abbrev pub where_it_has_room : Bytes → Option Settings → Result Settings Fault
 where_it_has_room disk None = Err NotAStore
 where_it_has_room disk (Some s) = if nat_le (disk_size s) (length disk) then Ok s else Err NotAStore
 
--- the settings of the store that a disk holds
+-- the settings of the store on a disk
 abbrev pub store_settings : Bytes → Result Settings Fault
 store_settings disk = where_it_has_room disk (read_settings (take settings_block_size disk))

@@ -1,5 +1,5 @@
--- The two slots: where the log begins and ends, the root, and the version of the log. The open one with the greater sequence number
--- is the store's.
+-- The two slots: where the log begins and ends, the root, and the version of the log. The open slot with the greater sequence number is the
+-- store's.
 use Rattle.std.specs.Prelude.{ℕ, ◌+◌, ◌*◌, ◌%◌, ◌^◌, Bool, ◌&&◌, ◌||◌, ◌==◌, nat_le, nat_lt, if◌then◌else◌, ◌∷◌, ◌++◌, take, drop, replicate, slice_index, Option, Some, None, Result, Ok, Err}
 use Rattle.std.specs.Str.{bytes_eq}
 use Rattle.keys.specs.Bytes.{Bytes}
@@ -17,8 +17,8 @@ use Rattle.frame_codec.specs.Frame.{is_pid}
 use Rattle.flush_log.specs.Segments.{last_segment}
 use Rattle.flush_log.specs.SettingsBlock.{number_at}
 
--- what a slot holds of the store: how often it was committed, the first segment of the log, the position where the log ends,
--- the root, how many levels there are, and the version of the log
+-- the contents of a slot: the number of commits, the first segment of the log, the position where the log ends, the root, the number of levels, and
+-- the version of the log
 pub record Slot : Type 0 where
   pub sequence : ℕ
   pub head : ℕ
@@ -27,18 +27,18 @@ pub record Slot : Type 0 where
   pub height : ℕ
   pub version : Version
 
--- the format by which the frames of a log with this slot are read
+-- the format of the frames of a log with this slot
 abbrev pub format_of : Settings → Slot → Format
 format_of s t = record { settings = s; version = t.version }
 
 -- ---- bytes
 
--- the number of the version, as a slot has it
+-- the encoding of the version in a slot
 abbrev pub version_number : Version → ℕ
 version_number One = 0
 version_number Two = 2
 
--- the version with this number. Any other number decodes to the first one, which doesn't encode to it.
+-- the version with this number; any other number decodes to the first version, which does not encode to it
 abbrev pub version_in : ℕ → Version
 version_in n = if n == 2 then Two else One
 
@@ -46,15 +46,15 @@ version_in n = if n == 2 then Two else One
 abbrev pub greatest : ℕ
 greatest = 2 ^ 62
 
--- how many bytes a slot has
+-- the size of a slot in bytes
 abbrev pub slot_size : ℕ
 slot_size = 64
 
--- where the slots begin on a disk
+-- the offset of the slots on a disk
 abbrev pub slots_begin : ℕ
 slots_begin = 128
 
--- where the slot for this sequence number stands; slot 0 is that for all even ones
+-- the offset of the slot for this sequence number; slot 0 is for all even numbers
 abbrev pub slot_place : ℕ → ℕ
 slot_place n = slots_begin + slot_size * (n % 2)
 
@@ -70,7 +70,7 @@ slot_body t =
 abbrev pub slot_bytes : Slot → Bytes
 slot_bytes t = 1 ∷ slot_body t
 
--- the slot whose numbers stand at their places in these bytes: each with how many bytes it has, and where it stands
+-- the slot from the numbers in these bytes, each given by its size in bytes and its place
 abbrev pub slot_in : Bytes → Slot
 slot_in bytes = record {
   sequence = number_at 8 8 bytes;
@@ -83,7 +83,7 @@ slot_in bytes = record {
 
 -- ---- a slot that a store with these settings may have
 
--- a position at which a log may end: at a segment's end, or after a byte of a frame
+-- a position at which a log may end: at the end of a segment, or after a byte of a frame
 abbrev pub is_tail : Settings → ℕ → Bool
 is_tail s tail = tail % s.seg_size == 0 || nat_lt segment_header_size (tail % s.seg_size)
 
@@ -95,24 +95,24 @@ is_slot s n t =
     && nat_lt (last_segment s t.tail) (t.head + s.segments)
     && is_pid t.root && is_in_limits 1 most_levels t.height
 
--- ---- reading
+-- ---- decoding
 
--- the gate of slot n stands open
+-- the gate of slot n is open
 abbrev pub is_open : ℕ → Bytes → Bool
 is_open n disk = slice_index disk (slot_place n) == 1
 
--- the slot that these bytes of an open slot n spell, byte for byte, where a store may have it there
+-- the slot whose encoding these bytes of an open slot n are, exactly, if a store may have it there
 abbrev pub read_open : Settings → ℕ → Bytes → Result (Option Slot) Fault
 read_open s n bytes =
     if bytes_eq (slot_bytes (slot_in bytes)) bytes && is_slot s n (slot_in bytes)
     then Ok (Some (slot_in bytes))
     else Err NoSlot
 
--- slot n of a disk, decoded: nothing where it is closed
+-- slot n of a disk, decoded; None if it is closed
 abbrev pub read_slot : Settings → ℕ → Bytes → Result (Option Slot) Fault
 read_slot s n disk = if is_open n disk then read_open s n (take slot_size (drop (slot_place n) disk)) else Ok None
 
--- of two slots the one with the greater sequence number
+-- the slot with the greater sequence number
 abbrev pub newer : Result (Option Slot) Fault → Result (Option Slot) Fault → Result Slot Fault
 newer (Err fault) other = Err fault
 newer (Ok said) (Err fault) = Err fault
@@ -121,6 +121,6 @@ newer (Ok (Some t)) (Ok None) = Ok t
 newer (Ok None) (Ok (Some u)) = Ok u
 newer (Ok (Some t)) (Ok (Some u)) = Ok (if nat_lt t.sequence u.sequence then u else t)
 
--- the slot of the store that a disk holds
+-- the slot of the store on a disk
 abbrev pub store_slot : Settings → Bytes → Result Slot Fault
 store_slot s disk = newer (read_slot s 0 disk) (read_slot s 1 disk)

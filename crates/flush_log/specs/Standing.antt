@@ -1,4 +1,4 @@
--- What stands in a segment, in words of its bytes: what a reading of it is to find.
+-- The contents of a segment, described by its bytes: what a reading must find.
 use Rattle.std.specs.Prelude.{◌≡◌, ◌⊎◌, ℕ, ◌+◌, ◌-◌, ◌<◌, ◌≤◌, Bool, true, false, List, ◌++◌, length, flat_map, replicate, take, None, Ok, Err}
 use Rattle.std.specs.List.{AllByRecursion}
 use Rattle.keys.specs.Bytes.{Bytes}
@@ -25,8 +25,8 @@ pub record IsBrokenAt (g : Format) (is_end : Bytes → Bool) (n offset : ℕ) (b
   pub no_end : is_end following ≡ false
   pub no_frame : read_frame g following ≡ None
 
--- the segments from the head up to n hold this, and segment n has the fault; it is the last one, which is read up to the tail, or has
--- another one after it
+-- the segments from the head up to n contain these frames, and segment n has the fault; it is the last segment, which is read up to the tail, or
+-- another segment follows it
 pub record IsFirstFault (g : Format) (file : Bytes) (head tail n : ℕ) (fault : Fault) : Type 0 where
   pub before : List Found
   pub from_head : head ≤ n

@@ -1,5 +1,5 @@
-//! The commit: the calls that make a text and a slot the store's, in an order in which a crash leaves all that was before, or all
-//! that is committed.
+//! The disk calls of a commit, which writes frames and makes a slot the store's. Their order ensures that a crash
+//! leaves either the old store or the committed one.
 ghost use Rattle.std.specs.Prelude.{◌≡◌, ◌⊎◌, ◌+◌, ◌≤◌, false, IsTrue, length, None, IfOk, OnOk};
 ghost use Rattle.keys.specs.Limits.{first_bad_field};
 ghost use Rattle.flush_log.specs.Overlay.{overlay, AgreeAt};
@@ -16,17 +16,17 @@ use crate::slot::{SLOT_SIZE, Slot, slot_bytes};
 use crate::write::write_text;
 use keys::Settings;
 
-/// Where the slots begin on a disk.
+/// The offset of the slots on a disk.
 pub const SLOTS_BEGIN: u64 = 128;
 
-/// Where the slot for a sequence number stands on a disk.
+/// Returns the offset on a disk of the slot for this sequence number.
 pub fn slot_place(sequence: u64) -> u64
     ensures { result ≡ slot_place sequence }
 {
     SLOTS_BEGIN + SLOT_SIZE as u64 * (sequence % 2)
 }
 
-/// Whether the gate of the slot for this sequence number stands open.
+/// Returns whether the gate (the first byte) of the slot for this sequence number is open.
 pub fn is_gate_open<D: Disk>(disk: &mut D, sequence: u64) -> Result<bool, DiskFault>
     requires { segments_begin ≤ (D.view disk.old).size }
     ensures kept { Kept (D.view disk.old) (D.view disk.new) }
@@ -40,7 +40,7 @@ pub fn is_gate_open<D: Disk>(disk: &mut D, sequence: u64) -> Result<bool, DiskFa
     Ok(gate[0] == 1)
 }
 
-/// A write and a sync.
+/// Writes the bytes, then syncs.
 pub fn write_through<D: Disk>(disk: &mut D, at: u64, bytes: &[u8]) -> Result<(), DiskFault>
     requires { at + length bytes.now ≤ (D.view disk.old).size }
     ensures kept { Kept (D.view disk.old) (D.view disk.new) }
@@ -56,8 +56,8 @@ pub fn write_through<D: Disk>(disk: &mut D, at: u64, bytes: &[u8]) -> Result<(),
     disk.sync()
 }
 
-/// Closes the gate of the slot for this sequence number, where it stands open. A closed gate is not written, since a crash
-/// could leave it open over bytes that are no slot.
+/// Closes the gate of the slot for this sequence number, if it is open. A closed gate is not written again, because a
+/// crash during that write could leave it open in front of bytes that are no slot.
 pub fn close_gate<D: Disk>(disk: &mut D, sequence: u64, is_open: bool) -> Result<(), DiskFault>
     requires { segments_begin ≤ (D.view disk.old).size }
     ensures kept { Kept (D.view disk.old) (D.view disk.new) }
@@ -74,7 +74,8 @@ pub fn close_gate<D: Disk>(disk: &mut D, sequence: u64, is_open: bool) -> Result
     Ok(())
 }
 
-/// Writes a slot while its gate is closed, and then opens the gate. A crash leaves the slot closed, or all of it.
+/// Writes a slot while its gate is closed, and then opens the gate. A crash leaves either a closed slot or the whole
+/// slot.
 pub fn write_slot<D: Disk>(disk: &mut D, slot: &Slot) -> Result<(), DiskFault>
     requires { segments_begin ≤ (D.view disk.old).size }
     ensures kept { Kept (D.view disk.old) (D.view disk.new) }
@@ -96,7 +97,7 @@ pub fn write_slot<D: Disk>(disk: &mut D, slot: &Slot) -> Result<(), DiskFault>
     write_through(disk, gate, &bytes[..1])
 }
 
-// Writes the frames of a text after the tail of a log, as `write_text` does, and nothing where there are none.
+// Writes the frames after the tail of a log, as `write_text` does; without frames, writes nothing.
 fn write_images<D: Disk>(
     disk: &mut D,
     settings: &Settings,
@@ -126,7 +127,7 @@ fn write_images<D: Disk>(
     write_text(disk, settings, tail, images, buffer)
 }
 
-// The first half of a commit: the gate is closed, and the text is written and synced.
+// The first half of a commit: closes the gate, and writes and syncs the frames.
 fn write_hidden<D: Disk>(
     disk: &mut D,
     settings: &Settings,
@@ -162,14 +163,14 @@ fn write_hidden<D: Disk>(
     disk.sync()
 }
 
-/// Writes the frames of a text after the tail of a log, and then makes a slot the store's: the slot's gate is closed where it
-/// stands open, the frames are written and synced, then the slot's other bytes, and then its gate is opened. `is_open` says
-/// whether the gate stands open; `buffer` is where a segment's bytes are gathered. Where a call fails the rest is not made.
+/// Writes frames after the tail of a log, and then makes a slot the store's: closes the slot's gate if it is open,
+/// writes and syncs the frames, writes and syncs the slot's other bytes, and opens its gate. `is_open` is whether the
+/// gate is open; `buffer` collects the bytes of a segment. After a failed call no further call is made.
 ///
-/// It serves a flush and a clean. The text of a clean may be empty: then nothing is written but the slot.
+/// Flushes and cleans use this function. A clean may have no frames: then only the slot is written.
 ///
-/// On a settled disk a crash at any moment since the call began leaves what was before, or all that is committed. A text that
-/// finds room lies within the disk.
+/// If the disk was synced, a crash at any moment since the beginning of the call leaves either the old state or the
+/// committed one. Frames for which there is room lie within the disk.
 pub fn write_flush<D: Disk>(
     disk: &mut D,
     settings: &Settings,

@@ -1,4 +1,5 @@
-//! What a crash leaves of a commit, and what is read of it. Each law is the contract of a function with an empty body.
+//! Laws about crashes during a commit, and about reading a commit. Each law is the contract of a function with an empty
+//! body.
 ghost use Rattle.std.specs.Prelude.{◌≡◌, ◌⊎◌, ◌↔◌, ℕ, suc, ◌+◌, ◌-◌, ◌*◌, ◌/◌, ◌^◌, ◌<◌, ◌≤◌, true, List, [], ◌∷◌, ◌++◌, length, None, Ok};
 ghost use Rattle.std.specs.List.{AllByRecursion};
 ghost use Rattle.keys.specs.Bytes.{Bytes};
@@ -16,8 +17,9 @@ ghost use Rattle.flush_log.specs.Slot.{Slot, greatest, is_slot, store_slot};
 ghost use Rattle.flush_log.specs.Commit.{seen_after, MayLeave, LeftDuring, AreWithin, prepare, commit_calls, committed, HasRoom, IsUncommitted};
 ghost use Rattle.flush_log.specs.NewStore.{first_frame, first_slot, disk_of_new};
 
-/// A crash at any moment of a commit on a settled disk leaves the disk with nothing changed but the spans and the closed slot,
-/// or all that was committed. It leaves the first until the gate is being opened; once all calls have answered, the second.
+/// A crash at any moment of a commit on a synced disk leaves one of two states: either only the spans and the closed
+/// slot have changed, or everything is committed. Until the gate is being opened it is the first; after all calls have
+/// succeeded, the second.
 pub fn a_crash_leaves_what_was_before_or_all_of_a_commit()
     ensures during { (s : Settings) (file : Bytes) (rs : List Span) (t : Slot) (c : Bytes) →
         segments_begin ≤ length file →
@@ -34,8 +36,8 @@ pub fn a_crash_leaves_what_was_before_or_all_of_a_commit()
         MayLeave (commit_calls s file rs t) file (λ d. d ≡ file) c → c ≡ committed s file rs t }
 {}
 
-/// Until the gate of the next slot is open, a commit is hidden: settings, slot and log are read as before. So a crash at any moment of
-/// the commit of a text leaves these, or all that was committed.
+/// Until the gate of the next slot is open, a commit is hidden: settings, slot and log are read as before. So a crash
+/// at any moment of a commit leaves these, or everything that was committed.
 pub fn a_commit_is_hidden_until_its_gate_is_open()
     ensures settings { (s : Settings) (n : ℕ) (rs : List Span) (file c : Bytes) →
         segments_begin ≤ length file → IsUncommitted s n rs file c →
@@ -55,7 +57,7 @@ pub fn a_commit_is_hidden_until_its_gate_is_open()
         (c ≡ committed s file (spans s t.tail text) u) }
 {}
 
-/// What was committed is read: the settings as before, the new slot as the store's, and the log as the spans left it.
+/// A commit is read back: the settings as before, the new slot as the store's, and the log with the new spans.
 pub fn what_was_committed_is_read()
     ensures length { (s : Settings) (file : Bytes) (rs : List Span) (u : Slot) →
         segments_begin ≤ length file → AreWithin s (length file) rs →
@@ -82,8 +84,8 @@ pub fn what_was_committed_is_read()
         AreWithin s (length file) (spans s t.tail text) }
 {}
 
-/// The slot of a commit is well formed, where its number and its tail are not above the greatest, the text finds room, and the head
-/// stays or moves to no later segment than the last one.
+/// The slot of a commit is well formed, if its number and its tail are at most the greatest, there is room for the
+/// frames, and the head is unchanged or moves to at most the last segment.
 pub fn the_slot_of_a_commit_is_well_formed()
     ensures { (g : Format) (n : ℕ) (t u : Slot) (text : List Frame) →
         let s = g.settings in first_bad_field s ≡ None → is_slot s n t ≡ true →
@@ -94,7 +96,7 @@ pub fn the_slot_of_a_commit_is_well_formed()
         1 ≤ u.height → u.height ≤ most_levels → is_slot s u.sequence u ≡ true }
 {}
 
-/// A disk on which a store was made has its settings, the first slot, and a log of one empty leaf.
+/// A disk with a new store has its settings, the first slot, and a log of one empty leaf.
 pub fn a_new_store_is_one_empty_leaf()
     ensures { (s : Settings) (disk : Bytes) → first_bad_field s ≡ None → HasSegments s disk →
         (store_settings (disk_of_new s disk) ≡ Ok s) ×
@@ -103,9 +105,9 @@ pub fn a_new_store_is_one_empty_leaf()
         ≡ Ok (record { segment = 0; frame = first_frame } ∷ [])) }
 {}
 
-/// Machine numbers of 64 bits suffice for a log: with a head and a tail that a slot may have, all that is computed on the way stays
-/// below 2^63, the tail after a text of up to 2^41 frames too, and a place in the file below 2^37. The check that they are such
-/// doesn't pass 2^64 either, however great the head is.
+/// 64-bit integers suffice for a log: with a head and a tail that a slot may have, all intermediate results are below
+/// 2^63, also the tail after a commit of up to 2^41 frames, and offsets in the file are below 2^37. The check of a head
+/// and a tail does not overflow either, however great the head is.
 pub fn a_log_has_room_for_its_positions()
     ensures test { (s : Settings) (head tail : ℕ) → first_bad_field s ≡ None →
         (head * s.seg_size + segment_header_size < tail) ↔

@@ -1,4 +1,4 @@
-//! A commit as one value: planned, and then written.
+//! A commit as one value: first planned, then written.
 ghost use Rattle.std.specs.Prelude.{◌≡◌, ◌⊎◌, ◌*◌, ◌<◌, ◌≤◌, List, None, Err, IsTrue, IfOk, OnOk, MatchResult, length};
 ghost use Rattle.keys.specs.Limits.{first_bad_field};
 ghost use Rattle.keys.specs.declared.fault.Fault.TheVariants.{NoMemory};
@@ -18,8 +18,8 @@ use keys::{Fault, Settings};
 use std::alloc::{AllocError, Global};
 use std::marker::Model;
 
-/// A commit that is planned: the images of a text, the tail from which on they are written, the slot that commits them, and a buffer
-/// for the bytes of a segment. A flush makes one, and so do an upgrade and a clean.
+/// A planned commit: the page frames to write, the tail after which they are written, the slot that commits them, and a
+/// buffer for the bytes of a segment. Flushes, upgrades and cleans make one.
 #[derive(Drop)]
 pub struct Commit {
     images: Vec<Image>,
@@ -42,7 +42,7 @@ impl Model for Commit {
     } };
 }
 
-// `len` zeros. They are copied block by block, since it takes many times as long to push them one by one.
+// `len` zeros. Copies blocks, because pushing the zeros one by one takes many times as long.
 fn zeros(alloc: Global, len: usize) -> Result<Vec<u8>, AllocError>
     ensures { IfOk result (λ zeros. length zeros.items ≡ len) }
 {
@@ -56,12 +56,12 @@ fn zeros(alloc: Global, len: usize) -> Result<Vec<u8>, AllocError>
 }
 
 impl Commit {
-    /// Plans the commit that adds a text to a log. `slot` says where that log begins and ends and how often it was committed, and the
-    /// root, the height and the version that the commit names. A clean gives the log without its first segment, which the commit makes
-    /// free, and an upgrade gives it the second version. No disk is called.
+    /// Plans the commit that adds frames to a log. `slot` describes that log (where it begins and ends, its number of
+    /// commits), and has the root, the height and the version for the new slot. A clean passes the log without its
+    /// first segment, which the commit frees; an upgrade passes the second version. Calls no disk.
     ///
-    /// First there is `Fault::NoMemory`; then `Fault::Spent`, where a position or the number would be above 2^62; then `Fault::Full`,
-    /// where no segment would be free.
+    /// Fails with `Fault::NoMemory` if an allocation fails; else with `Fault::Spent` if a position or the sequence
+    /// number would exceed 2^62; else with `Fault::Full` if no segment would be free.
     pub fn plan(
         alloc: Global,
         settings: &Settings,
@@ -101,14 +101,15 @@ impl Commit {
         })
     }
 
-    /// The slot that it makes the store's.
+    /// Returns the slot that the commit makes the store's.
     pub fn slot(&self) -> Slot
         ensures { result ≡ self.now.slot }
     {
         self.slot
     }
 
-    /// Writes what was planned to the disk of a store with these settings: reads the gate of the slot, and calls `write_flush`.
+    /// Writes the commit to the disk of a store with these settings: reads the gate of the slot, and calls
+    /// `write_flush`.
     pub fn write<D: Disk>(self, disk: &mut D, settings: &Settings) -> Result<(), DiskFault>
         requires checked { first_bad_field settings.now ≡ None }
         requires within { disk_size settings.now ≤ (D.view disk.old).size }

@@ -1,4 +1,4 @@
-//! A disk for tests that stops as a machine does.
+//! A disk for tests that simulates a power failure.
 ghost use Rattle.std.specs.Prelude.{◌≡◌, ◌⊎◌, ℕ, ◌+◌, ◌-◌, ◌^◌, ◌≤◌, ◌++◌, ◌∷◌, min, IsTrue, [], length, take, drop, replicate, Some, None, Ok, refl, IfOk, OnOk, OnErr};
 ghost use Rattle.std.proofs.Common.{inl, ⊎_elim, sym, ap, ◌∙◌, arith, length-append};
 ghost use Rattle.std.proofs.Props.{props};
@@ -14,23 +14,25 @@ use crate::disk::{Disk, DiskFault, count_failure, counted};
 use crate::mem_disk::{MemDisk, RecordedCall, overwrite};
 use std::alloc::{AllocError, Allocator};
 
-/// What a crash leaves of a range that was written since the last sync.
+/// What a crash leaves in a range that was written since the last sync.
 #[derive(Clone, Copy)]
 pub enum Fill {
-    /// The bytes that were there before it was written.
+    /// The old bytes.
     Before,
-    /// The bytes that were written.
+    /// The written bytes.
     Written,
     /// This byte everywhere.
     Byte(u8),
 }
 
-/// A disk in memory that can stop as a machine does: from a given call on every write and sync fails. A write at which it stops is
-/// made, and a sync does nothing; what comes later does nothing either, while a read still answers. Where memory is refused, a call
-/// fails before that, and does nothing. What a crash leaves can be had at any moment, in three ways. The disk is honest, so all that is promised of a store on an honest disk holds on it.
+/// A disk in memory that can stop like a machine that loses power: from a given call on, all writes and syncs fail. If
+/// it stops at a write, that write is still made; if it stops at a sync, the sync has no effect; later calls have no
+/// effect, but reads still succeed. If an allocation fails, a call may fail earlier, without effect. At any moment the
+/// disk can show what a crash leaves, in three variants. The disk is honest, so all guarantees for a store on an honest
+/// disk apply.
 ///
-/// It takes four calls to make a store, two writes and two syncs, and six to flush it first. Here the disk stops as the gate of the new
-/// slot is written, which is the fifth of the flush; a byte that is no gate is left there:
+/// Creating a store takes four calls (two writes and two syncs), and its first flush takes six. Here the disk stops at
+/// the fifth call of the flush, which writes the gate of the new slot; the crash leaves a byte there that is no gate:
 ///
 /// ```
 /// let mut disk = CrashDisk::new(alloc, 1_536)?;
@@ -42,16 +44,16 @@ pub enum Fill {
 /// let opened = Store::recover(rt, alloc, left, crew);
 /// ```
 ///
-/// To crash at each call in turn, run the program once without `stop_at`, and then as often as `calls` counted. With each write and
-/// sync the disk takes more memory, as `MemDisk` does.
+/// To crash at each call in turn, run the program once without `stop_at`, and then once for each of the `calls` that
+/// were counted. Like `MemDisk`, the disk allocates memory for each write and sync.
 #[derive(Drop)]
 pub struct CrashDisk<A: Allocator + Copy> {
     alloc: A,
     disk: MemDisk<A>,
-    // What a read gave at the last sync, and how many calls the record had then.
+    // The readable contents at the last sync, and the number of recorded calls at that time.
     settled: Vec<u8, A>,
     since: usize,
-    // The number of the call at which it stops.
+    // The number of the call at which the disk stops.
     stops_at: Option<u64>,
     calls: u64,
     failures: u64,
@@ -60,7 +62,7 @@ pub struct CrashDisk<A: Allocator + Copy> {
         (calls_of disk.calls.items) since settled.items } by { Prim.hlevel props },
 }
 
-// Where a write or a sync lies, by the call at which the disk stops.
+// Whether a write or a sync comes before, at or after the call at which the disk stops.
 #[derive(Clone, Copy, PartialEq, Eq)]
 enum Moment {
     Running,
@@ -69,7 +71,7 @@ enum Moment {
 }
 
 impl<A: Allocator + Copy> CrashDisk<A> {
-    /// A disk of zeros, settled, that never stops. `Err` where memory was refused.
+    /// Returns a synced disk of `len` zeros that never stops. `Err` means that allocation failed.
     pub fn new(alloc: A, len: usize) -> Result<Self, AllocError>
         ensures size { IfOk result (λ disk. (⟦<CrashDisk<A> as Disk>⟧.view disk).size ≡ len) }
         ensures seen { IfOk result
@@ -84,7 +86,7 @@ impl<A: Allocator + Copy> CrashDisk<A> {
         CrashDisk::holding(alloc, bytes)
     }
 
-    // A disk that holds these bytes, settled, and never stops.
+    // A synced disk with these contents that never stops.
     fn holding(alloc: A, bytes: Vec<u8, A>) -> Result<Self, AllocError>
         ensures size { IfOk result
             (λ disk. (⟦<CrashDisk<A> as Disk>⟧.view disk).size ≡ length bytes.items) }
@@ -109,7 +111,7 @@ impl<A: Allocator + Copy> CrashDisk<A> {
         })
     }
 
-    /// From the write or sync with this number on, counted from 1 from now on, the disk has stopped.
+    /// Lets the disk stop at the write or sync with this number, counted from 1 for the next one.
     pub fn stop_at(&mut self, call: u64)
         ensures same { Same
             (⟦<CrashDisk<A> as Disk>⟧.view self.old) (⟦<CrashDisk<A> as Disk>⟧.view self.new) }
@@ -123,26 +125,27 @@ impl<A: Allocator + Copy> CrashDisk<A> {
         self.stops_at = Some(self.calls.saturating_add(call));
     }
 
-    /// How many writes and syncs came since the disk was made, with those that failed. The count stops at its greatest.
+    /// Returns the number of writes and syncs since the disk was made, including failed ones. The count saturates.
     pub fn calls(&self) -> u64
         ensures { result ≡ self.now.calls }
     {
         self.calls
     }
 
-    /// What a read gives, of the whole disk.
+    /// Returns the readable contents of the whole disk.
     pub fn bytes(&self) -> &[u8]
         ensures { result.now ≡ (⟦<CrashDisk<A> as Disk>⟧.view self.now).seen }
     {
         self.disk.bytes()
     }
 
-    /// What a crash of this disk now may leave, as a disk that is settled and never stops: what a read gave at the last sync, with
-    /// each range written since filled as `fill` says, one after the other. This disk stays as it is. `Err` where memory was refused.
+    /// Returns what a crash may leave of this disk now, as a synced disk that never stops: the readable contents at the
+    /// last sync, with the range of each later write filled as `fill` says, in order. This disk is unchanged. `Err`
+    /// means that allocation failed.
     pub fn crashed(&self, fill: Fill) -> Result<CrashDisk<A>, AllocError>
         ensures left { IfOk result (λ disk. (⟦<CrashDisk<A> as Disk>⟧.view self.now).may_leave
             (⟦<CrashDisk<A> as Disk>⟧.view disk).seen) }
-        // Which of all that it may leave.
+        // Which of the possible outcomes it is.
         ensures filled { IfOk result (λ disk. (⟦<CrashDisk<A> as Disk>⟧.view disk).seen
             ≡ left_with fill (calls_of self.now.disk.calls.items)
             (replicate self.now.disk.len 0) (replicate self.now.disk.len 0)) }
@@ -162,7 +165,7 @@ impl<A: Allocator + Copy> CrashDisk<A> {
     }
 }
 
-// Counts a write or a sync, and returns where it lies.
+// Counts a write or a sync, and returns its `Moment`.
 fn next_moment(stops_at: Option<u64>, calls: &mut u64) -> Moment
     ensures counted { calls.new ≡ min (calls.old + 1) (2 ^ 64 - 1) }
     ensures moment { result ≡ moment_at stops_at calls.new }
@@ -175,7 +178,7 @@ fn next_moment(stops_at: Option<u64>, calls: &mut u64) -> Moment
     }
 }
 
-// Fills the ranges of these calls, one after the other.
+// Fills the ranges of these calls in order.
 fn tear<A: Allocator>(file: &mut Vec<u8, A>, calls: &[RecordedCall<A>], fill: Fill)
     requires { AreCalls (length file.old.items) (calls_of calls.now) }
     ensures torn { file.new.items ≡ all_torn fill (calls_of calls.now) file.old.items }
@@ -186,7 +189,7 @@ fn tear<A: Allocator>(file: &mut Vec<u8, A>, calls: &[RecordedCall<A>], fill: Fi
     }
 }
 
-// Fills the range of a call, where it is a write.
+// Fills the range of the call, if it is a write.
 fn tear_call<A: Allocator>(file: &mut Vec<u8, A>, call: &RecordedCall<A>, fill: Fill)
     requires { end_of_call (call_of call.now) ≤ length file.old.items }
     ensures torn { file.new.items ≡ all_torn fill (call_of call.now ∷ []) file.old.items }
@@ -198,7 +201,6 @@ fn tear_call<A: Allocator>(file: &mut Vec<u8, A>, call: &RecordedCall<A>, fill: 
     }
 }
 
-// Fills the range of a write.
 fn fill_range<A: Allocator>(file: &mut Vec<u8, A>, at: usize, bytes: &[u8], fill: Fill)
     requires { at + length bytes.now ≤ length file.old.items }
     ensures torn { file.new.items ≡ torn_by fill at bytes.now file.old.items }
@@ -263,7 +265,7 @@ impl<A: Allocator + Copy> Disk for CrashDisk<A> {
         ensures crash { IsTrue (⟦<CrashDisk<A> as Disk>⟧.view self.old).is_honest →
             Leaves (⟦<CrashDisk<A> as Disk>⟧.view self.old) (⟦<CrashDisk<A> as Disk>⟧.view self.new)
             (Torn at (length bytes.now)) }
-        // At which call it stops, and what that leaves.
+        // At which call the disk stops, and the effect.
         ensures counted { self.new.calls ≡ min (self.old.calls + 1) (2 ^ 64 - 1) }
         ensures stops { self.new.stops_at ≡ self.old.stops_at }
         ensures running { OnOk result (moment_at self.old.stops_at self.new.calls ≡ Running) }
@@ -298,7 +300,7 @@ impl<A: Allocator + Copy> Disk for CrashDisk<A> {
         ensures crash { IsTrue (⟦<CrashDisk<A> as Disk>⟧.view self.old).is_honest →
             Leaves (⟦<CrashDisk<A> as Disk>⟧.view self.old) (⟦<CrashDisk<A> as Disk>⟧.view self.new)
             (λ before c. c ≡ before) }
-        // At which call it stops, and what that leaves.
+        // At which call the disk stops, and the effect.
         ensures counted { self.new.calls ≡ min (self.old.calls + 1) (2 ^ 64 - 1) }
         ensures stops { self.new.stops_at ≡ self.old.stops_at }
         ensures running { OnOk result (moment_at self.old.stops_at self.new.calls ≡ Running) }

@@ -1,4 +1,5 @@
-//! What the log asks of a disk. `specs/Disk.antt` has what a disk is at one moment, and what a crash leaves of it.
+//! The interface of a disk. `specs/Disk.antt` defines the state of a disk at one moment, including what a crash may
+//! leave.
 ghost use Rattle.std.specs.Prelude.{◌≡◌, ℕ, ◌+◌, ◌-◌, ◌^◌, ◌≤◌, min, IsTrue, length, take, drop, OnOk};
 ghost use Rattle.keys.specs.declared.fault.Fault.TheVariants.{Device};
 ghost use Rattle.flush_log.specs.Overlay.{overlay};
@@ -8,7 +9,7 @@ use keys::Fault;
 use std::error::Error;
 use std::fmt;
 
-/// A call of a disk failed.
+/// The error of a disk call.
 #[derive(Clone, Copy, Debug, PartialEq, Eq)]
 pub struct DiskFault;
 
@@ -28,7 +29,7 @@ impl From<DiskFault> for Fault {
     }
 }
 
-// A call failed, and is counted. The count stops at its greatest.
+// Counts a failed call. The count saturates.
 pub(crate) fn count_failure(failures: &mut u64) -> DiskFault
     ensures { failures.new ≡ min (failures.old + 1) (2 ^ 64 - 1) }
 {
@@ -36,7 +37,7 @@ pub(crate) fn count_failure(failures: &mut u64) -> DiskFault
     DiskFault
 }
 
-// Passes on the answer of the disk below, and counts its failures here.
+// Returns the answer of the underlying disk, and counts its failures here.
 pub(crate) fn counted(failures: &mut u64, answer: Result<(), DiskFault>) -> Result<(), DiskFault>
     ensures same { result ≡ answer }
     ensures failed { CountsFailure result failures.old failures.new }
@@ -47,27 +48,27 @@ pub(crate) fn counted(failures: &mut u64, answer: Result<(), DiskFault>) -> Resu
     }
 }
 
-/// A disk of a fixed length. Its calls want memory, time and luck, so each may fail.
+/// A disk of a fixed length. Each call may fail.
 ///
-/// Whether a disk is honest is a fact of the value, which no call changes: the clauses on bytes and on crashes hold of an
-/// honest disk. Any disk keeps its length and counts its failures.
+/// Whether a disk is honest is a property of the value, which no call changes. The clauses about bytes and crashes hold
+/// for honest disks only; every disk keeps its length and counts its failures.
 pub trait Disk {
-    // What the disk is now.
+    // The current state of the disk.
     ghost view: { Self → View };
 
-    // How many calls have failed.
+    // The number of failed calls.
     ghost failed: { Self → ℕ };
 
-    /// The length in bytes.
+    /// Returns the length in bytes.
     fn len(&self) -> u64
         ensures { result ≡ (view self.now).size };
 
-    /// How many calls have failed. The count stops at its greatest.
+    /// Returns the number of failed calls. The count saturates.
     fn failures(&self) -> u64
         ensures { result ≡ failed self.now };
 
-    /// Reads bytes from a place on, as many as the buffer has. No byte of the disk changes, and
-    /// nothing of what a crash may leave. After an `Err` the buffer may hold anything.
+    /// Fills the buffer with the bytes from offset `at` on. Changes neither the bytes of the disk
+    /// nor what a crash may leave. After an `Err` the contents of the buffer are unspecified.
     fn read_at(&mut self, at: u64, buf: &mut [u8]) -> Result<(), DiskFault>
         requires { at + length buf.old ≤ (view self.old).size }
         ensures kept { Kept (view self.old) (view self.new) }
@@ -76,8 +77,8 @@ pub trait Disk {
             OnOk result (buf.new ≡ take (length buf.old) (drop at (view self.old).seen)) }
         ensures same { IsTrue (view self.old).is_honest → Same (view self.old) (view self.new) };
 
-    /// Writes bytes from a place on. Until a sync a crash may leave any bytes in that range, and so
-    /// does an `Err`; bytes outside it stay.
+    /// Writes bytes from offset `at` on. Until a sync succeeds, a crash may leave any bytes in that
+    /// range, and so may a failed write; bytes outside the range keep their values.
     fn write_at(&mut self, at: u64, bytes: &[u8]) -> Result<(), DiskFault>
         requires { at + length bytes.now ≤ (view self.old).size }
         ensures kept { Kept (view self.old) (view self.new) }
@@ -89,8 +90,8 @@ pub trait Disk {
         ensures crash { IsTrue (view self.old).is_honest →
             Leaves (view self.old) (view self.new) (Torn at (length bytes.now)) };
 
-    /// Makes all that was written durable: a crash then leaves what a read gives. What a read gives
-    /// stays, and an `Err` settles nothing.
+    /// Makes all earlier writes durable: a crash then leaves the readable contents. Does not change
+    /// the readable contents. After an `Err` nothing is known to be durable.
     fn sync(&mut self) -> Result<(), DiskFault>
         ensures kept { Kept (view self.old) (view self.new) }
         ensures failed { CountsFailure result (failed self.old) (failed self.new) }
@@ -101,7 +102,7 @@ pub trait Disk {
         ensures crash { IsTrue (view self.old).is_honest →
             Leaves (view self.old) (view self.new) (λ before c. c ≡ before) };
 
-    // What a read gives has the disk's length and may stay, and the present counts among the
-    // moments.
+    // The readable contents have the disk's length and are a possible outcome of a crash, and the
+    // present is one of the moments at which a crash may happen.
     ghost lawful: { (disk : Self) → IsTrue (view disk).is_honest → Lawful (view disk) };
 }

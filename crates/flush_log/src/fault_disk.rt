@@ -1,4 +1,4 @@
-//! A disk for tests, on which calls fail.
+//! A disk for tests whose calls fail on request.
 ghost use Rattle.std.specs.Prelude.{◌≡◌, ◌⊎◌, ℕ, ◌+◌, ◌-◌, ◌^◌, ◌≤◌, ◌++◌, min, true, false, IsTrue, Ok, length, take, drop, replicate, refl, OnOk, OnErr};
 ghost use Rattle.std.proofs.Common.{inl, ⊎_elim, sym, ap, ◌∙◌, arith, length-append};
 ghost use Rattle.std.proofs.lemmas.List.{length-replicate};
@@ -10,22 +10,24 @@ use crate::disk::{Disk, DiskFault, count_failure, counted};
 use crate::mem_disk::MemDisk;
 use std::alloc::Allocator;
 
-/// Which of a disk's calls fail. Writes and syncs are counted together, from 1; reads don't count, and none fails.
+/// Which calls of a disk fail. Writes and syncs are counted together, from 1; reads are not counted and do not fail.
 #[derive(Clone, Copy)]
 pub enum Failing {
     /// No call fails.
     Never,
-    /// The call with this number fails, and those after it succeed again.
+    /// The call with this number fails; later calls succeed again.
     Once(u64),
-    /// The call with this number fails, and so does each after it.
+    /// The call with this number and all later calls fail.
     From(u64),
 }
 
-/// A disk in memory whose calls fail as is wanted: for tests of what a store answers and leaves then. A write that fails so has
-/// written its first bytes, as many as `new` was given; a sync that fails does nothing. Where memory is refused, a call fails that was
-/// not wanted to, and nothing is written. The disk is honest, so all that is promised of a store on an honest disk holds on it.
+/// A disk in memory whose calls fail on request, to test what a store returns and keeps after a failure. A write that
+/// fails on request has written its first bytes, as many as were passed to `new`; a sync that fails has no effect. If
+/// an allocation fails, a call may fail without a request, and writes nothing. The disk is honest, so all guarantees
+/// for a store on an honest disk apply.
 ///
-/// It takes four calls to make a store, two writes and two syncs. Here the fifth one fails, which is the first of the flush:
+/// Creating a store takes four calls, two writes and two syncs. Here the fifth call fails, which is the first of the
+/// flush:
 ///
 /// ```
 /// let disk = FaultDisk::new(MemDisk::new(alloc, 1_536)?, Failing::Once(5), 7);
@@ -38,19 +40,21 @@ pub enum Failing {
 /// let opened = Store::recover(rt, alloc, left, crew);
 /// ```
 ///
-/// To have each call fail in turn, run the program once with `Failing::Never`, and then as often as `calls` counted.
+/// To let each call fail in turn, run the program once with `Failing::Never`, and then once for each of the `calls`
+/// that were counted.
 #[derive(Drop)]
 pub struct FaultDisk<A: Allocator + Copy> {
     disk: MemDisk<A>,
     failing: Failing,
-    // How many bytes a write that fails has written.
+    // How many bytes a failing write still writes.
     written: usize,
     calls: u64,
     failures: u64,
 }
 
 impl<A: Allocator + Copy> FaultDisk<A> {
-    /// This disk, whose calls fail so; a write that fails has written its first `written` bytes, or all of them if there are fewer.
+    /// Wraps `disk`, whose calls then fail as requested. A failing write still writes its first `written` bytes, or all
+    /// of them if there are fewer.
     pub fn new(disk: MemDisk<A>, failing: Failing, written: usize) -> Self
         ensures same { Same (⟦<MemDisk<A> as Disk>⟧.view disk)
             (⟦<FaultDisk<A> as Disk>⟧.view result) }
@@ -70,14 +74,14 @@ impl<A: Allocator + Copy> FaultDisk<A> {
         }
     }
 
-    /// How many writes and syncs came since `new`, with those that failed. The count stops at its greatest.
+    /// Returns the number of writes and syncs since `new`, including failed ones. The count saturates.
     pub fn calls(&self) -> u64
         ensures { result ≡ self.now.calls }
     {
         self.calls
     }
 
-    /// The disk without its faults, as it was left.
+    /// Returns the underlying disk in its current state, without further faults.
     pub fn into_inner(self) -> MemDisk<A>
         ensures same { Same (⟦<FaultDisk<A> as Disk>⟧.view self)
             (⟦<MemDisk<A> as Disk>⟧.view result) }
@@ -89,7 +93,7 @@ impl<A: Allocator + Copy> FaultDisk<A> {
     }
 }
 
-// Counts a write or a sync, and returns whether it is one that fails.
+// Counts a write or a sync, and returns whether it must fail.
 fn is_to_fail(failing: Failing, calls: &mut u64) -> bool
     ensures counted { calls.new ≡ min (calls.old + 1) (2 ^ 64 - 1) }
     ensures wanted { result ≡ is_wanted failing calls.new }
@@ -154,7 +158,7 @@ impl<A: Allocator + Copy> Disk for FaultDisk<A> {
         ensures crash { IsTrue (⟦<FaultDisk<A> as Disk>⟧.view self.old).is_honest →
             Leaves (⟦<FaultDisk<A> as Disk>⟧.view self.old) (⟦<FaultDisk<A> as Disk>⟧.view self.new)
             (Torn at (length bytes.now)) }
-        // Which call fails, and what it leaves.
+        // Which call fails, and its effect.
         ensures counted { self.new.calls ≡ min (self.old.calls + 1) (2 ^ 64 - 1) }
         ensures same { (self.new.failing ≡ self.old.failing)
             × (self.new.written ≡ self.old.written) }
@@ -187,7 +191,7 @@ impl<A: Allocator + Copy> Disk for FaultDisk<A> {
         ensures crash { IsTrue (⟦<FaultDisk<A> as Disk>⟧.view self.old).is_honest →
             Leaves (⟦<FaultDisk<A> as Disk>⟧.view self.old) (⟦<FaultDisk<A> as Disk>⟧.view self.new)
             (λ before c. c ≡ before) }
-        // Which call fails, and what it leaves.
+        // Which call fails, and its effect.
         ensures counted { self.new.calls ≡ min (self.old.calls + 1) (2 ^ 64 - 1) }
         ensures same { (self.new.failing ≡ self.old.failing)
             × (self.new.written ≡ self.old.written) }

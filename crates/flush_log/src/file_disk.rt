@@ -10,13 +10,13 @@ use std::io;
 use std::io::{ErrorKind, Read, Seek, SeekFrom, Write};
 use std::rt::Files;
 
-/// A disk over an open file, which it holds for itself, or shares with others that only read. It is as long as the file was when
-/// the disk was made, and counts the calls that failed, and keeps why the last of them did. No clause of the library says what a
-/// file holds, so its contract doesn't call it honest.
+/// A disk over an open file. It locks the file for itself, or shares the lock with other readers. Its length is that of
+/// the file when the disk was made. It counts failed calls and keeps the error of the last one. The library's clauses
+/// do not describe the contents of files, so the contract does not call this disk honest.
 ///
-/// A read or a write that was cut short goes on where it ended, and one that was interrupted is made again. A read that meets the
-/// end of the file is a failure. A sync is `sync_data` (`fdatasync`), which answers once the device has the bytes, and the
-/// file's length; `flush` would do nothing.
+/// A partial read or write is continued, and an interrupted one is repeated. Reading at the end of the file is a
+/// failure. A sync calls `sync_data` (`fdatasync`), which returns after the device has the bytes and the file's length;
+/// `flush` would have no effect.
 #[derive(Drop)]
 pub struct FileDisk<F> {
     file: F,
@@ -28,18 +28,17 @@ pub struct FileDisk<F> {
 }
 
 impl<F: Read + Write + Seek + OpenFile + LockFile + Drop> FileDisk<F> {
-    /// The disk of the file at this path, which has to be there. It is opened for reading and writing, and held.
+    /// Opens the existing file at `path` for reading and writing, and locks it.
     pub fn open<R: Files<File = F>>(rt: &R, path: &str) -> io::Result<FileDisk<F>> {
         FileDisk::of_file(OpenOptions::new().read(true).write(true).open(rt, path)?)
     }
 
-    /// The same for who only reads: the file is opened for reading alone, and shared. Each write to this disk fails.
+    /// Opens the existing file at `path` for reading only, with a shared lock. Each write to this disk fails.
     pub fn open_shared<R: Files<File = F>>(rt: &R, path: &str) -> io::Result<FileDisk<F>> {
         FileDisk::of_shared(OpenOptions::new().read(true).open(rt, path)?)
     }
 
-    /// The disk of the file at this path, which is made anew with this length, as `of_zeros` says. Where there is no file one is made
-    /// first.
+    /// Opens the file at `path`, or creates it, and replaces its contents by `len` zeros, as `of_zeros` does.
     pub fn create<R: Files<File = F>>(rt: &R, path: &str, len: u64) -> io::Result<FileDisk<F>>
         ensures { IfOk result (λ disk. (⟦<FileDisk<F> as Disk>⟧.view disk).size ≡ len) }
     {
@@ -48,20 +47,21 @@ impl<F: Read + Write + Seek + OpenFile + LockFile + Drop> FileDisk<F> {
         FileDisk::of_zeros(how.open(rt, path)?, len)
     }
 
-    /// The disk of a file that is open for reading and writing, with the length that this has. Where another holds or shares the
-    /// file, it fails.
+    /// Makes a disk of a file that is open for reading and writing, with the file's length. Fails if another program
+    /// has locked or shared the file.
     pub fn of_file(file: F) -> io::Result<FileDisk<F>> {
         file.hold()?;
         FileDisk::of_locked(file, false)
     }
 
-    /// The disk of a file that is open for reading, with the length that this has. Where another holds the file, it fails.
+    /// Makes a disk of a file that is open for reading, with the file's length. Fails if another program has locked the
+    /// file.
     pub fn of_shared(file: F) -> io::Result<FileDisk<F>> {
         file.share()?;
         FileDisk::of_locked(file, true)
     }
 
-    // The disk of a file that is locked: only then its length is one that stays.
+    // A disk of a locked file; only the lock ensures that its length stays the same.
     fn of_locked(file: F, is_shared: bool) -> io::Result<FileDisk<F>> {
         let len = file.metadata()?.len();
         Ok(FileDisk {
@@ -73,20 +73,20 @@ impl<F: Read + Write + Seek + OpenFile + LockFile + Drop> FileDisk<F> {
         })
     }
 
-    /// Gives a file that is open for reading and writing this length, with zeros in the place of what it held, and returns its
-    /// disk. Where another holds or shares the file, it fails.
+    /// Locks a file that is open for reading and writing, replaces its contents by `len` zeros, and returns its disk.
+    /// Fails if another program has locked or shared the file.
     ///
-    /// Three lengths are set, one after the other, and where one is refused, no more is done. First one that is greater than
-    /// the file's own and no less than the new one: so where the system lets no file be so long, this file stays as it was. Then
-    /// none; where that fails, zeros stand after all that the file held, which is a disk of the same store. Then the new one; where
-    /// that fails, the file has no bytes.
+    /// Sets three lengths in turn, and stops at the first failure. The first one is greater than the current length and
+    /// at least `len`: if the system rejects it because the file would be too long, the file is unchanged. The second
+    /// one is zero: if that fails, the file has its old contents followed by zeros, which is a disk of the same store.
+    /// The third one is `len`: if that fails, the file is empty.
     pub fn of_zeros(file: F, len: u64) -> io::Result<FileDisk<F>>
         ensures { IfOk result (λ disk. (⟦<FileDisk<F> as Disk>⟧.view disk).size ≡ len) }
     {
         FileDisk::of_file(file)?.zeroed(len)
     }
 
-    /// The same of a disk that holds its file.
+    /// Does the same for the file of this disk, which is already locked.
     pub fn zeroed(self, len: u64) -> io::Result<FileDisk<F>>
         ensures { IfOk result (λ disk. (⟦<FileDisk<F> as Disk>⟧.view disk).size ≡ len) }
     {
@@ -98,14 +98,14 @@ impl<F: Read + Write + Seek + OpenFile + LockFile + Drop> FileDisk<F> {
         Ok(disk)
     }
 
-    /// Why the last call failed that did, for a message: the system's own error. None, where no call has failed.
+    /// Returns the system's error of the last failed call, for a message, or `None` if no call has failed.
     pub fn last_error(&self) -> Option<io::Error>
         ensures { 0 < ⟦<FileDisk<F> as Disk>⟧.failed self.now → IsSome result }
     {
         self.last_error
     }
 
-    // Counts a call, if it failed, and keeps the reason.
+    // Counts the call if it failed, and keeps its error.
     fn count(&mut self, done: io::Result<()>) -> Result<(), DiskFault>
         ensures failed { CountsFailure result self.old.failures self.new.failures }
         ensures len { self.new.len ≡ self.old.len }
@@ -120,19 +120,18 @@ impl<F: Read + Write + Seek + OpenFile + LockFile + Drop> FileDisk<F> {
     }
 }
 
-// Reads bytes from a place on, as many as the buffer has.
 fn read_from<F: Read + Seek>(file: &mut F, at: u64, buf: &mut [u8]) -> io::Result<()> {
     file.seek(SeekFrom::Start(at))?;
     file.read_exact(buf)
 }
 
-// Writes all of the bytes from a place on.
 fn write_from<F: Write + Seek>(file: &mut F, at: u64, bytes: &[u8]) -> io::Result<()> {
     file.seek(SeekFrom::Start(at))?;
     file.write_all(bytes)
 }
 
-// Whether a sync failed for the one reason that the file's system has none, or can't be written: then nothing waits to be synced.
+// Whether a sync failed only because the file system does not support it or is read-only: then no write is waiting to
+// be synced.
 fn has_no_sync(error: &io::Error) -> bool {
     matches!(
         error.kind(),

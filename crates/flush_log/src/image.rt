@@ -1,4 +1,4 @@
-//! Frames as they are written, back to back.
+//! Encoded frames in one buffer.
 ghost use Rattle.std.specs.Prelude.{◌≡◌, ◌<◌, ◌++◌, ◌∷◌, [], length, slice_get, IfOk, OnOk};
 ghost use Rattle.frame_codec.specs.Frame.{bytes_of};
 ghost use Rattle.frame_codec.specs.Frame.Content.{Free};
@@ -11,12 +11,12 @@ use keys::Pid;
 use std::alloc::{AllocError, Allocator, Global};
 use std::marker::Model;
 
-/// Frames that are written, back to back: those of one page in a flush, those that stay in a clean. Contracts see it as the list of
-/// each frame's bytes.
+/// Encoded frames that are written together: those of one page in a flush, or those that a clean copies. Contracts see
+/// it as the list of each frame's bytes.
 #[derive(Drop)]
 pub struct Image {
     bytes: Vec<u8>,
-    // Where each frame ends among the bytes.
+    // The end of each frame in the buffer.
     ends: Vec<usize>,
 }
 
@@ -34,7 +34,7 @@ impl Model for Image {
 }
 
 impl Image {
-    // An image without frames, with room for the ends of `frames` of them.
+    // An image without frames, with room for the ends of `frames` frames.
     pub(crate) fn with_capacity(alloc: Global, frames: usize) -> Result<Self, AllocError>
         ensures { IfOk result (λ image. image ≡ []) }
     {
@@ -45,7 +45,7 @@ impl Image {
         })
     }
 
-    /// An image without frames. No memory is taken for it yet.
+    /// Returns an image without frames. Does not allocate.
     pub fn new(alloc: Global) -> Self
         ensures { result ≡ [] }
     {
@@ -55,7 +55,7 @@ impl Image {
         }
     }
 
-    /// Appends an encoded frame, as where a clean carries one on. `Err` where memory was refused.
+    /// Appends an encoded frame, for example one that a clean copies. `Err` means that allocation failed.
     pub fn push(&mut self, frame: &[u8]) -> Result<(), AllocError>
         ensures ok { OnOk result (self.new ≡ self.old ++ frame.now ∷ []) }
     {
@@ -65,7 +65,8 @@ impl Image {
         Ok(())
     }
 
-    // Appends the frame of a base under its low key. Each page id in it is known to be of 64 bits then, as with the other frames.
+    // Appends the frame of a base under its low key. Like the other functions, shows that each page id in the frame has
+    // 64 bits.
     pub(crate) fn push_full<V: Kind<A>, A: Allocator>(
         &mut self,
         pid: Pid,
@@ -85,7 +86,6 @@ impl Image {
         Ok(())
     }
 
-    // Appends the frame of a run.
     pub(crate) fn push_delta<V: Kind<A>, A: Allocator>(
         &mut self,
         pid: Pid,
@@ -102,7 +102,7 @@ impl Image {
         Ok(())
     }
 
-    // Appends the frame of a page id without a page.
+    // Appends the frame that records that the page was freed.
     pub(crate) fn push_free(&mut self, pid: Pid) -> Result<(), AllocError>
         ensures ok { OnOk result
             (self.new ≡ self.old ++ bytes_of (record { pid = pid; content = Free }) ∷ []) }
@@ -114,14 +114,14 @@ impl Image {
         Ok(())
     }
 
-    /// How many frames there are.
+    /// Returns the number of frames.
     pub fn len(&self) -> usize
         ensures { result ≡ length self.now }
     {
         self.ends.len()
     }
 
-    /// The bytes of the frame at this place, counted from 0.
+    /// Returns the bytes of the frame at place `at`, counted from 0.
     pub fn frame(&self, at: usize) -> &[u8]
         requires { at < length self.now }
         ensures { slice_get self.now at ≡ Some result.now }

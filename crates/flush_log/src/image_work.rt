@@ -1,4 +1,4 @@
-//! The work of a flush: what is to be written of each page, as the bytes of its frames.
+//! Encodes the frames of a flush, page by page.
 ghost use Rattle.std.specs.Prelude.{◌≡◌, ◌^◌, ◌<◌, ◌∷◌, [], map, reverse, drop, Some, None, IfOk, OnOk};
 ghost use Rattle.std.specs.List.{AllByRecursion};
 ghost use Rattle.delta_chain.specs.Layers.{depth_of};
@@ -22,16 +22,16 @@ use mapping::Logged;
 use std::alloc::{AllocError, Allocator, Global};
 use std::marker::{Model, PhantomData};
 
-/// The work of making images: a page and what the log has of it go in; the frames that the log lacks come out.
+/// The work of making images. The input is a page and its log state; the output is the frames that the log lacks.
 #[derive(Drop)]
 pub struct ImageWork<'a> {
-    /// Where images are allocated.
+    /// Allocates the images.
     pub alloc: Global,
-    // The pages of its jobs are lent.
+    // The pages of its jobs are borrowed.
     lent: PhantomData<&'a Page<Global>>,
 }
 
-/// A page id, how the keys of its base are to be spelled, its page if it has one, and what the log has of it.
+/// A page id, the key encoding for its base, its page if it has one, and its log state.
 #[derive(Drop)]
 pub struct ImageJob<'a> {
     pub pid: Pid,
@@ -40,7 +40,7 @@ pub struct ImageJob<'a> {
     pub logged: Logged,
 }
 
-/// The image that was made of a job, with the job. Contracts see it as what the job held: by that the image is known.
+/// The image for a job, together with the job. Contracts see it as the input, which determines the image.
 #[derive(Drop)]
 pub struct ImageDone<'a> {
     job: ImageJob<'a>,
@@ -48,7 +48,7 @@ pub struct ImageDone<'a> {
 }
 
 impl<'a> ImageWork<'a> {
-    /// The work with this allocator.
+    /// Makes the work with this allocator.
     pub fn new(alloc: Global) -> Self {
         ImageWork {
             alloc,
@@ -68,7 +68,7 @@ impl<'a> Model for ImageDone<'a> {
 }
 
 impl<'a> ImageDone<'a> {
-    /// The image, for good: the job cannot be given back any more. Each page id in its frames is known to be of 64 bits.
+    /// Returns the image. The work can no longer be undone. Each page id in its frames has 64 bits.
     pub fn into_image(self) -> Image
         ensures image { result ≡ image_made self.entry }
         ensures words { AllByRecursion HasWords (held_text self.entry) }
@@ -132,7 +132,6 @@ impl<'a> Work for ImageWork<'a> {
     }
 }
 
-// The image of what a job holds.
 fn image_of(
     alloc: Global,
     pid: Pid,
@@ -149,7 +148,7 @@ fn image_of(
     }
 }
 
-// The image of a page id without a page.
+// The image for a page id without a page.
 fn free_image(alloc: Global, pid: Pid, logged: Logged) -> Result<Image, AllocError>
     ensures { (spelling : spellings.Spelling) →
         IfOk result (λ image. AreWritten pid (lacking spelling None (log_state logged)) [] image) }
@@ -162,7 +161,6 @@ fn free_image(alloc: Global, pid: Pid, logged: Logged) -> Result<Image, AllocErr
     Ok(image)
 }
 
-// The image of a page.
 fn page_image(
     alloc: Global,
     pid: Pid,
@@ -184,7 +182,6 @@ fn page_image(
     }
 }
 
-// The image of a leaf.
 fn leaf_image(
     alloc: Global,
     pid: Pid,
@@ -207,7 +204,7 @@ fn leaf_image(
     }
 }
 
-// The image of a leaf that the log lacks. Where runs count as merged with the base, its base is made for the frame alone.
+// The image of a leaf that the log lacks. If runs count as merged into the base, they are merged for this frame only.
 fn whole_leaf(
     alloc: Global,
     pid: Pid,
@@ -229,7 +226,6 @@ fn whole_leaf(
     whole_image(alloc, pid, spelling, low, &base, &runs)
 }
 
-// The image of an index page.
 fn index_image(
     alloc: Global,
     pid: Pid,
@@ -274,7 +270,7 @@ fn whole_image<V: Kind<Global>>(
     Ok(image)
 }
 
-// The image of a page whose base and oldest `kept` runs the log has: its other runs.
+// The image of a page whose base and oldest `kept` runs are in the log: its other runs.
 fn newer_image<V: Kind<Global>>(
     alloc: Global,
     pid: Pid,
@@ -292,7 +288,7 @@ fn newer_image<V: Kind<Global>>(
     Ok(image)
 }
 
-// Appends the runs after the oldest `kept`, the oldest of them first.
+// Appends the runs after the oldest `kept`, oldest first.
 fn push_runs<V: Kind<A>, A: Allocator + Copy>(
     image: &mut Image,
     pid: Pid,

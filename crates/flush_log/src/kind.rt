@@ -1,4 +1,4 @@
-//! How the frames of the two kinds of page are written.
+//! How the frames of the two kinds of pages are written.
 use delta_chain::{Base, Run};
 use frame_codec::{
     Spelling, write_delta_index, write_delta_leaf, write_full_index, write_full_leaf,
@@ -6,7 +6,7 @@ use frame_codec::{
 use keys::{Pid, Value};
 use std::alloc::{AllocError, Allocator, Global};
 
-/// A kind of page, by the cells that its pages have: values for leaves, page ids for index pages.
+/// A kind of page, by the cells of its pages: values for leaves, page ids for index pages.
 pub(crate) trait Kind<A: Allocator>: Drop {
     ghost use Rattle.std.specs.Prelude.{◌≡◌, ◌++◌, OnOk, OnErr};
     ghost use Rattle.keys.specs.Bytes.{Bytes, Pairs, Changes};
@@ -14,12 +14,12 @@ pub(crate) trait Kind<A: Allocator>: Drop {
     ghost use Rattle.frame_codec.specs.Frame.{Content, bytes_of};
     ghost use Rattle.frame_codec.specs.Sized.{IsSized, HasWords};
 
-    // The content of a frame of such a page: a base under a low key, with its keys spelled in one way or the other, and a run.
+    // The content of the frames of such a page: a base under a low key with a key encoding, and a run.
     ghost full: { spellings.Spelling → Bytes → Pairs Self → Content };
 
     ghost delta: { Changes Self → Content };
 
-    /// Appends the frame of a base under its low key. Where memory is refused nothing is appended.
+    /// Appends the frame of a base under its low key. If allocation fails, appends nothing.
     fn write_full(
         pid: Pid,
         spelling: Spelling,
@@ -34,7 +34,7 @@ pub(crate) trait Kind<A: Allocator>: Drop {
             (HasWords (record { pid = pid; content = full spelling low.now base.now })) }
         ensures err { OnErr result (out.new.items ≡ out.old.items) };
 
-    /// Appends the frame of a run. Where memory is refused nothing is appended.
+    /// Appends the frame of a run. If allocation fails, appends nothing.
     fn write_delta(pid: Pid, run: &Run<Self, A>, out: &mut Vec<u8>) -> Result<(), AllocError>
         requires { IsSized (delta run.now) }
         ensures ok { OnOk result (out.new.items

@@ -1,4 +1,4 @@
-//! What the definitions of `specs/` mean. Each law is the contract of a function with an empty body.
+//! Laws about the definitions of `specs/`. Each law is the contract of a function with an empty body.
 ghost use Rattle.std.specs.Prelude.{◌≡◌, ◌≢◌, ℕ, suc, ◌+◌, ◌*◌, ◌<◌, ◌≤◌, Bool, true, false, not, nat_eq, List, [], ◌++◌, length, take, drop, None, Ok, Err};
 ghost use Rattle.std.specs.List.{AllByRecursion, filter, starts_with, sum_by};
 ghost use Rattle.keys.specs.Bytes.{Bytes};
@@ -28,8 +28,8 @@ pub fn a_frame_fits_into_a_segment()
         segment_header_size + length (bytes_of f) ≤ s.seg_size }
 {}
 
-/// A text that is written from the tail on is found by the next reading, in its order, after what was found before: where
-/// it needs no more segments than there are. A clean may use them all, and a flush leaves one.
+/// Frames that are written from the tail on are found by the next reading, in order, after the older ones, if they need
+/// no more segments than there are. A clean may use all segments; a flush leaves one free.
 pub fn a_text_is_read_back()
     ensures { (g : Format) (file : Bytes) (head tail : ℕ) (found : List Found) (text : List Frame) →
         let s = g.settings in first_bad_field s ≡ None → HasSegments s file →
@@ -40,7 +40,7 @@ pub fn a_text_is_read_back()
         ≡ Ok (found ++ found_in_text s tail text) }
 {}
 
-/// Once a text is written, each of its frames stands at its place: in its segment, at its offset.
+/// After a commit is written, each of its frames is at its place: in its segment, at its offset.
 pub fn each_frame_stands_at_its_place()
     ensures { (g : Format) (file : Bytes) (head tail : ℕ) (text : List Frame) →
         let s = g.settings in first_bad_field s ≡ None → HasSegments s file →
@@ -52,8 +52,8 @@ pub fn each_frame_stands_at_its_place()
         (placed s tail text) }
 {}
 
-/// Two files that agree at the places of the log have the same log, whatever else they hold: after the tail, in segments that are
-/// free, and before all segments.
+/// Two files that agree in the range of the log have the same log, whatever else they contain: after the tail, in free
+/// segments, and before the first segment.
 pub fn what_is_after_the_tail_is_hidden()
     ensures hidden { (g : Format) (file other : Bytes) (head tail : ℕ) →
         let s = g.settings in first_bad_field s ≡ None → HasSegments s file →
@@ -63,7 +63,7 @@ pub fn what_is_after_the_tail_is_hidden()
         IsInLog s head tail place → (segments_begin ≤ place) × (place < disk_size s) }
 {}
 
-/// What is written for a text that finds room lies in no place of the log, and within the segments.
+/// The bytes that are written for a commit for which there is room are outside the log, and within the segments.
 pub fn a_text_lies_after_the_tail()
     ensures following { (g : Format) (head tail : ℕ) (text : List Frame) →
         let s = g.settings in first_bad_field s ≡ None → head * s.seg_size < tail →
@@ -82,8 +82,9 @@ pub fn a_text_lies_after_the_tail()
         AreWithin s (disk_size s) (spans s tail text) }
 {}
 
-/// From the next segment on a reading finds what it finds from the head on, but for the frames of the head segment. All that it finds
-/// stands from the head to the last segment, and a text from the tail's segment on.
+/// A reading from the next segment on finds what a reading from the head finds, without the frames of the head segment.
+/// All frames that it finds are in segments from the head to the last one, and new frames are in segments from that of
+/// the tail on.
 pub fn the_head_segment_is_taken_off()
     ensures rest { (g : Format) (file : Bytes) (head tail : ℕ) (found : List Found) →
         head < last_segment g.settings tail → log_between g file head tail ≡ Ok found →
@@ -97,9 +98,9 @@ pub fn the_head_segment_is_taken_off()
         AllByRecursion (λ f. last_segment s tail ≤ f.segment) (found_in_text s tail text) }
 {}
 
-/// A text moves the tail by its bytes at least, and by a segment for each frame and one more at most; where it finds room, not past
-/// the segments that there are. A flush finds room only where another segment stays free. A text of as many
-/// bytes as all segments have finds none.
+/// A commit moves the tail by at least the size of its frames, and by at most a segment for each frame and one more; if
+/// there is room, not past the existing segments. There is room for a flush only if another segment stays free. There
+/// is no room for frames as large as all segments together.
 pub fn a_text_moves_the_tail()
     ensures rises { (g : Format) (tail : ℕ) (text : List Frame) →
         let s = g.settings in
@@ -123,9 +124,9 @@ pub fn a_text_moves_the_tail()
         × (is_full_for_flush s head (tail_after s tail text) ≡ true) }
 {}
 
-/// What is found in a segment stands there: its header, the frames, and zeros up to its end, or in the last one the tail. What stands
-/// so is found. Where a reading reports a bad header or frame, the header isn't there, or neither a frame nor the end stands at that
-/// offset, after good frames.
+/// The frames found in a segment are in its bytes: its header, the frames, and then zeros up to its end, or in the last
+/// segment the tail. Conversely, such bytes are read as these frames. If a reading reports a bad header, the header is
+/// wrong; if it reports a bad frame, then after good frames there is neither a frame nor the end at that offset.
 pub fn a_segment_is_read_as_it_stands()
     ensures earlier { (g : Format) (n : ℕ) (bytes : Bytes) (found : List Found) → AreBytes bytes →
         read_segment g is_padding n bytes ≡ Ok found →
@@ -155,15 +156,15 @@ pub fn the_first_fault_is_answered()
         log_between g file head tail ≡ Err fault → (n : ℕ) × IsFirstFault g file head tail n fault }
 {}
 
-/// What a log of version 1 holds it holds as one of version 2 too.
+/// The contents of a log of version 1 are the same when it is read as a log of version 2.
 pub fn a_log_of_version_one_is_read_as_one_of_version_two()
     ensures { (s : Settings) (file : Bytes) (head tail : ℕ) (found : List Found) →
         log_between (record { settings = s; version = One }) file head tail ≡ Ok found →
         log_between (record { settings = s; version = Two }) file head tail ≡ Ok found }
 {}
 
-/// The text of an upgrade is that of a flush of version 2, as if the log had another page under each page id that it has a page of,
-/// and it leaves the same tree. There is always something to write.
+/// The frames of an upgrade are those of a flush of version 2, as if the log had an outdated page for each page id of
+/// which it has a page, and the resulting tree is the same. There is always something to write.
 pub fn an_upgrade_is_a_flush_of_outdated_pages()
     ensures text { (t : Tree) → AreLogsTrue t → upgrade_text t ≡ flush_text Two (outdated t) }
     ensures left { (t : Tree) → flushed (outdated t) ≡ flushed t }

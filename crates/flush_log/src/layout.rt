@@ -1,4 +1,4 @@
-//! How far the frames of a text bring the tail of a log, and when they are too many.
+//! How frames move the tail of a log, and when there is no room for them.
 ghost use Rattle.std.specs.Prelude.{◌≡◌, ◌+◌, ◌≤◌, List, None, Some, nat_lt, if◌then◌else◌};
 ghost use Rattle.keys.specs.Limits.{first_bad_field};
 ghost use Rattle.keys.specs.Sizes.{segment_header_size};
@@ -14,8 +14,8 @@ use crate::slot::GREATEST;
 use keys::{Fault, Settings};
 use std::marker::Model;
 
-// The end of a log: the segment, and the offset in it where the next frame stands if it fits in there, both with the header
-// of a segment that is to be begun; and the position after the last frame.
+// The end of a log: the segment and the offset of the next frame if it fits there, both after the header of a new
+// segment; and the position after the last frame.
 #[derive(Clone, Copy)]
 struct Reached {
     segment: u64,
@@ -33,7 +33,7 @@ impl Model for Reached {
     ghost inverse = { λ r. record { segment = r.segment; offset = r.offset; tail = r.tail } };
 }
 
-// The end that a text is written from.
+// The end at which new frames are written.
 fn from_tail(settings: &Settings, tail: u64) -> Reached
     requires { first_bad_field settings.now ≡ None }
     ensures { result ≡ from_tail settings.now tail }
@@ -47,7 +47,6 @@ fn from_tail(settings: &Settings, tail: u64) -> Reached
     }
 }
 
-// The end after one more frame of `size` bytes.
 fn after_frame(settings: &Settings, end: Reached, size: u64) -> Reached
     requires checked { first_bad_field settings.now ≡ None }
     requires fits { segment_header_size + size ≤ settings.now.seg_size }
@@ -69,7 +68,7 @@ fn after_frame(settings: &Settings, end: Reached, size: u64) -> Reached
     }
 }
 
-// The end after the frames of an image, or nothing where it is above the greatest position.
+// The end after the frames of an image, or `None` if it is above the greatest position.
 fn after_image(settings: &Settings, end: Reached, image: &Image) -> Option<Reached>
     requires checked { first_bad_field settings.now ≡ None }
     requires fits { FitSegments settings.now image.now }
@@ -87,7 +86,7 @@ fn after_image(settings: &Settings, end: Reached, image: &Image) -> Option<Reach
     Some(reached)
 }
 
-// The tail after a text, or nothing where it is above the greatest position.
+// The tail after these images, or `None` if it is above the greatest position.
 fn text_end(settings: &Settings, tail: u64, images: &[Image]) -> Option<u64>
     requires checked { first_bad_field settings.now ≡ None }
     requires fits { FitSegments settings.now (frames_in images.now) }
@@ -103,7 +102,7 @@ fn text_end(settings: &Settings, tail: u64, images: &[Image]) -> Option<u64>
     Some(reached.tail)
 }
 
-// The tail of a commit with this number, or nothing where the number or the tail is above the greatest.
+// The tail of a commit with this number, or `None` if the number or the tail is above the greatest.
 fn unspent_tail(settings: &Settings, sequence: u64, tail: u64, images: &[Image]) -> Option<u64>
     requires checked { first_bad_field settings.now ≡ None }
     requires fits { FitSegments settings.now (frames_in images.now) }
@@ -118,9 +117,10 @@ fn unspent_tail(settings: &Settings, sequence: u64, tail: u64, images: &[Image])
     text_end(settings, tail, images)
 }
 
-/// The tail of a commit that writes these images from `tail` on, has this sequence number, and makes the log begin at segment `head`.
-/// `Fault::Spent` where the number or the tail is above the greatest, and else `Fault::Full` where that log would leave no segment
-/// free. A clean makes the first segment free, so it may write into all that were free before.
+/// Returns the tail of a commit that writes these images from `tail` on, has this sequence number, and lets the log
+/// begin at segment `head`. Fails with `Fault::Spent` if the number or the tail is above the greatest, else with
+/// `Fault::Full` if that log would leave no segment free. A clean frees the first segment, so it may write into all
+/// segments that were free before.
 pub(crate) fn tail_of_commit(
     settings: &Settings,
     sequence: u64,
@@ -143,7 +143,7 @@ pub(crate) fn tail_of_commit(
     }
 }
 
-// Whether no segment would be free in a log from segment `head` up to this position.
+// Whether a log from segment `head` to this position leaves no segment free.
 fn is_full(settings: &Settings, head: u64, tail: u64) -> bool
     requires checked { first_bad_field settings.now ≡ None }
     requires head { head ≤ greatest }

@@ -1,9 +1,9 @@
-//! The log on a disk: the settings block and the slots, the segments, where the frames of a text stand, what a reading finds, and
-//! the commit that makes a text and a slot the store's. `specs/` has the definitions.
+//! The log on a disk: the settings block and the slots, the segments, the places of frames, reading the log, and the
+//! commit, which adds frames and makes a new slot the store's. `specs/` has the definitions.
 //!
-//! Laws: what is spelled is read back; a text that is written is found by the next reading; a crash during a commit leaves what was
-//! before, or all of it.
-//! Other crates name items by this root, and laws by the public modules `commit_laws`, `laws`, `record_laws` and `slot_laws`.
+//! Laws: encoded blocks and slots are decoded; written frames are found by the next reading; a crash during a commit
+//! leaves the old state or the committed one. Other crates name items by this root, and laws by the public modules
+//! `commit_laws`, `laws`, `record_laws` and `slot_laws`.
 #![tactic(auto)]
 
 mod commit;

@@ -1,14 +1,15 @@
-//! Locks on a whole file, by which programs that have it open keep out of each other's way.
+//! Advisory locks on whole files, by which programs that open the same file exclude each other.
 use std::fs::File;
 use std::io;
 
-/// A file that can be locked. A lock lasts until what was opened is closed, and so ends with its program, however that ends.
-/// It keeps out those alone that ask for it. Where another lock is in the way the error is of the kind `WouldBlock`.
+/// A file that can be locked. A lock lasts until the file is closed, so it ends with its program, however the program
+/// ends. It excludes only programs that also ask for a lock. If another lock is in the way, the error has the kind
+/// `WouldBlock`.
 pub trait LockFile {
-    /// Holds the file alone, unless another holds or shares it: then it fails at once.
+    /// Takes an exclusive lock, or fails at once if the file is locked or shared by another.
     fn hold(&self) -> io::Result<()>;
 
-    /// Shares the file with others that share it, unless another holds it: then it fails at once.
+    /// Takes a shared lock, or fails at once if another has an exclusive one.
     fn share(&self) -> io::Result<()>;
 }
 

@@ -1,4 +1,4 @@
-//! A disk in memory: for tests, and for stores that need not last.
+//! A disk in memory: for tests, and for stores that need not be durable.
 ghost use Rattle.std.specs.Prelude.{◌≡◌, ℕ, ◌+◌, ◌-◌, ◌≤◌, ◌∷◌, ◌++◌, [], length, take, drop, replicate, refl, IsOk, IfOk, OnOk, OnErr};
 ghost use Rattle.std.proofs.Common.{inl, ⊎_elim, sym, ap, ◌∙◌, arith, length-append};
 ghost use Rattle.std.proofs.Props.{props};
@@ -19,15 +19,15 @@ pub(crate) enum RecordedCall<A: Allocator> {
     Sync,
 }
 
-/// A disk in memory. It is honest, and a call of it fails only where memory is refused.
+/// A disk in memory. It is honest, and its calls fail only if allocation fails.
 ///
-/// What a crash at any moment may have left depends on each write and sync, so a record of them is kept: the disk takes
-/// more memory with each call that changes it. Its length by itself takes none: bytes are kept up to the furthest that was written.
+/// What a crash may leave depends on each write and sync, so the disk records them, and allocates memory for each call
+/// that changes it. The length by itself takes no space: bytes are stored up to the last one that was written.
 #[derive(Drop)]
 pub struct MemDisk<A: Allocator + Copy> {
     alloc: A,
     len: usize,
-    // The first bytes; all others are zeros.
+    // The first bytes; all later ones are zeros.
     kept: Vec<u8, A>,
     // In the order of the calls.
     calls: Vec<RecordedCall<A>, A>,
@@ -39,7 +39,7 @@ pub struct MemDisk<A: Allocator + Copy> {
 }
 
 impl<A: Allocator + Copy> MemDisk<A> {
-    /// A disk of zeros, settled. It takes no memory, so none is refused: there is no `Err`.
+    /// Returns a synced disk of `len` zeros. Does not allocate, so the result is never `Err`.
     pub fn new(alloc: A, len: usize) -> Result<Self, AllocError>
         ensures never { IsOk result }
         ensures size { IfOk result (λ disk. (⟦<MemDisk<A> as Disk>⟧.view disk).size ≡ len) }
@@ -57,7 +57,7 @@ impl<A: Allocator + Copy> MemDisk<A> {
         })
     }
 
-    // A disk that these bytes were written to, and synced.
+    // A disk after these bytes were written to it and synced.
     pub(crate) fn holding(alloc: A, bytes: Vec<u8, A>) -> Result<Self, AllocError>
         ensures len { IfOk result (λ disk. disk.len ≡ length bytes.items) }
         ensures kept { IfOk result (λ disk. disk.kept.items ≡ bytes.items) }
@@ -76,7 +76,7 @@ impl<A: Allocator + Copy> MemDisk<A> {
         })
     }
 
-    /// What a read gives, up to the furthest byte that was written; all bytes beyond are zeros.
+    /// Returns the readable contents up to the last written byte; all bytes beyond are zeros.
     pub fn bytes(&self) -> &[u8]
         ensures seen { with_zeros (⟦<MemDisk<A> as Disk>⟧.view self.now).size result.now
             ≡ (⟦<MemDisk<A> as Disk>⟧.view self.now).seen }
@@ -86,14 +86,13 @@ impl<A: Allocator + Copy> MemDisk<A> {
         &self.kept
     }
 
-    // The record.
     pub(crate) fn calls(&self) -> &[RecordedCall<A>]
         ensures { result.now ≡ self.now.calls.items }
     {
         &self.calls
     }
 
-    // As `read_at`.
+    // Implements `read_at`.
     pub(crate) fn read(&self, at: u64, buf: &mut [u8])
         requires { at + length buf.old ≤ (⟦<MemDisk<A> as Disk>⟧.view self.now).size }
         ensures { buf.new
@@ -102,7 +101,7 @@ impl<A: Allocator + Copy> MemDisk<A> {
         read_kept(&self.kept, self.len, at as usize, buf);
     }
 
-    // As `write_at`, with what it puts into the record.
+    // Implements `write_at`, with the effect on the recorded calls.
     pub(crate) fn write_recorded(&mut self, at: u64, bytes: &[u8]) -> Result<(), DiskFault>
         requires { at + length bytes.now ≤ (⟦<MemDisk<A> as Disk>⟧.view self.old).size }
         ensures done { OnOk result (calls_of self.new.calls.items
@@ -137,7 +136,7 @@ impl<A: Allocator + Copy> MemDisk<A> {
         }
     }
 
-    // As `sync`, with what it puts into the record.
+    // Implements `sync`, with the effect on the recorded calls.
     pub(crate) fn sync_recorded(&mut self) -> Result<(), DiskFault>
         ensures done { OnOk result
             (calls_of self.new.calls.items ≡ calls_of self.old.calls.items ++ Sync ∷ []) }
@@ -162,7 +161,7 @@ impl<A: Allocator + Copy> MemDisk<A> {
     }
 }
 
-// Reads from a place on, in a file of this length whose first bytes are kept; all others are zeros.
+// Reads from offset `at` on, in a file of `len` bytes: first those in `kept`, then zeros.
 fn read_kept(kept: &[u8], len: usize, at: usize, buf: &mut [u8])
     requires short { length kept.now ≤ len }
     requires within { at + length buf.old ≤ len }
@@ -174,7 +173,7 @@ fn read_kept(kept: &[u8], len: usize, at: usize, buf: &mut [u8])
     buf[..here].copy_from_slice(&kept[from..from + here]);
 }
 
-// Keeps the zeros up to this place too.
+// Extends the stored bytes by zeros up to this place.
 fn lengthen<A: Allocator>(kept: &mut Vec<u8, A>, len: usize, end: usize) -> Result<(), AllocError>
     requires short { length kept.old.items ≤ len }
     requires within { end ≤ len }
@@ -189,7 +188,7 @@ fn lengthen<A: Allocator>(kept: &mut Vec<u8, A>, len: usize, end: usize) -> Resu
     Ok(())
 }
 
-// Puts these bytes into a file from a place on.
+// Overwrites the bytes of a file from place `at` on.
 pub(crate) fn overwrite<A: Allocator>(file: &mut Vec<u8, A>, at: usize, bytes: &[u8])
     requires { at + length bytes.now ≤ length file.old.items }
     ensures { file.new.items ≡ overlay file.old.items at bytes.now }
@@ -197,7 +196,6 @@ pub(crate) fn overwrite<A: Allocator>(file: &mut Vec<u8, A>, at: usize, bytes: &
     file[at..at + bytes.len()].copy_from_slice(bytes);
 }
 
-// Puts a call into the record.
 fn note<A: Allocator>(
     calls: &mut Vec<RecordedCall<A>, A>,
     call: RecordedCall<A>,

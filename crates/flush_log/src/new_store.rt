@@ -1,4 +1,4 @@
-//! What is written where a store is made.
+//! The bytes of a new store.
 ghost use Rattle.std.specs.Prelude.{◌≡◌, None};
 ghost use Rattle.keys.specs.Limits.{first_bad_field};
 ghost use Rattle.frame_codec.specs.Frame.{bytes_of};
@@ -9,7 +9,7 @@ use crate::settings_block::settings_block;
 use crate::slot::{LogEnds, Slot, slot_bytes};
 use keys::{Pid, Settings, Version};
 
-/// The slot of a new store: its log is one empty leaf, with the page id 0.
+/// Returns the slot of a new store: its log has one empty leaf, with the page id 0.
 pub fn first_slot() -> Slot
     ensures { result ≡ first_slot }
 {
@@ -25,7 +25,7 @@ pub fn first_slot() -> Slot
     }
 }
 
-// The frame of that leaf: its kind, the length of what follows, the page id, an empty low key, and no entries.
+// The frame of that leaf: its kind, the length of the rest, the page id, an empty low key, and no entries.
 fn first_frame() -> [u8; 17]
     ensures { result ≡ bytes_of first_frame }
 {
@@ -35,7 +35,7 @@ fn first_frame() -> [u8; 17]
     bytes
 }
 
-/// The bytes that a new store's disk begins with: up to the tail of its log.
+/// Returns the first bytes of a new store's disk, up to the tail of its log.
 pub fn new_bytes(settings: &Settings) -> [u8; 545]
     requires { first_bad_field settings.now ≡ None }
     ensures { result ≡ new_bytes settings.now }

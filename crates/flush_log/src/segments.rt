@@ -1,4 +1,4 @@
-//! What a segment begins with, and where it stands on a disk.
+//! The headers of segments, and their places on a disk.
 ghost use Rattle.std.specs.Prelude.{◌≡◌, None};
 ghost use Rattle.keys.specs.Limits.{first_bad_field};
 ghost use Rattle.flush_log.specs.Segments.{segment_header, place_of_segment, disk_size, last_segment};
@@ -6,13 +6,13 @@ ghost use Rattle.flush_log.specs.Segments.{segment_header, place_of_segment, dis
 use byteorder::{BigEndian, ByteOrder};
 use keys::Settings;
 
-/// How many bytes a segment's header has.
+/// The size of a segment's header in bytes.
 pub const SEGMENT_HEADER_SIZE: u64 = 16;
 
-// Where the segments begin on a disk.
+// The offset of the first segment on a disk.
 const SEGMENTS_BEGIN: u64 = 512;
 
-/// The bytes that segment `number` begins with.
+/// Returns the header of segment `number`.
 pub fn segment_header(number: u64) -> [u8; 16]
     ensures { result ≡ segment_header number }
 {
@@ -22,7 +22,7 @@ pub fn segment_header(number: u64) -> [u8; 16]
     bytes
 }
 
-/// Where segment `number` stands on a disk.
+/// Returns the offset of segment `number` on a disk.
 pub fn place_of_segment(settings: &Settings, number: u64) -> u64
     requires { first_bad_field settings.now ≡ None }
     ensures { result ≡ place_of_segment settings.now number }
@@ -30,7 +30,7 @@ pub fn place_of_segment(settings: &Settings, number: u64) -> u64
     SEGMENTS_BEGIN + number % u64::from(settings.segments) * u64::from(settings.seg_size)
 }
 
-/// How many bytes a disk has at least.
+/// Returns the least size of a disk in bytes.
 pub fn disk_size(settings: &Settings) -> u64
     requires { first_bad_field settings.now ≡ None }
     ensures { result ≡ disk_size settings.now }
@@ -38,7 +38,7 @@ pub fn disk_size(settings: &Settings) -> u64
     SEGMENTS_BEGIN + u64::from(settings.segments) * u64::from(settings.seg_size)
 }
 
-/// The last segment in use, where a log ends at this position.
+/// Returns the last segment in use of a log that ends at this position.
 pub fn last_segment(settings: &Settings, tail: u64) -> u64
     requires { first_bad_field settings.now ≡ None }
     ensures { result ≡ last_segment settings.now tail }

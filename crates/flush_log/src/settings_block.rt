@@ -1,4 +1,4 @@
-//! The settings block, with which a disk begins.
+//! The settings block at the beginning of a disk.
 ghost use Rattle.std.specs.Prelude.{◌≡◌, length, None};
 ghost use Rattle.keys.specs.Limits.{first_bad_field};
 ghost use Rattle.flush_log.specs.SettingsBlock.{settings_block_size, settings_block, settings_in, read_settings};
@@ -6,7 +6,7 @@ ghost use Rattle.flush_log.specs.SettingsBlock.{settings_block_size, settings_bl
 use byteorder::{BigEndian, ByteOrder};
 use keys::Settings;
 
-/// The bytes of the settings block.
+/// Encodes the settings block.
 pub fn settings_block(settings: &Settings) -> [u8; 64]
     requires { first_bad_field settings.now ≡ None }
     ensures { result ≡ settings_block settings.now }
@@ -22,7 +22,7 @@ pub fn settings_block(settings: &Settings) -> [u8; 64]
     bytes
 }
 
-// The settings whose numbers stand at the places of the block.
+// The numbers of the block as settings, unchecked.
 fn settings_in(bytes: &[u8]) -> Settings
     requires { length bytes.now ≡ settings_block_size }
     ensures { result ≡ settings_in bytes.now }
@@ -37,8 +37,7 @@ fn settings_in(bytes: &[u8]) -> Settings
     }
 }
 
-/// The settings that these bytes are the block of, where a store may have them. There are none where the bytes are no
-/// block.
+/// Decodes the settings block. Returns `None` if the bytes are not the block of valid settings.
 pub fn read_settings(bytes: &[u8]) -> Option<Settings>
     ensures { result ≡ read_settings bytes.now }
 {

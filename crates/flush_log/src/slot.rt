@@ -1,4 +1,4 @@
-//! The two slots of a disk: which bytes one has, what is read of it, and which of two is the store's.
+//! The two slots of a disk: their encoding and decoding, and which of the two is the store's.
 ghost use Rattle.std.specs.Prelude.{◌≡◌, ℕ, ◌*◌, ◌+◌, ◌%◌, ◌^◌, ◌<◌, ◌≤◌, ◌&&◌, ◌==◌, nat_lt, nat_le, length, take, drop, None};
 ghost use Rattle.keys.specs.Bytes.{Bytes};
 ghost use Rattle.keys.specs.Limits.{is_in_limits, first_bad_field};
@@ -15,28 +15,28 @@ use std::marker::Model;
 /// The greatest position of a log, and the greatest sequence number.
 pub const GREATEST: u64 = 1 << 62;
 
-/// How many bytes a slot has.
+/// The size of a slot in bytes.
 pub const SLOT_SIZE: usize = 64;
 
-/// Where a log begins and ends, and how often it was committed.
+/// Where a log begins and ends, and its number of commits.
 #[derive(Clone, Copy, Debug, PartialEq, Eq)]
 pub struct LogEnds {
-    /// How often the store was committed, counted from 1.
+    /// The number of commits of the store, the creation included.
     pub sequence: u64,
     /// The number of the log's first segment.
     pub head: u64,
-    /// The position where the log ends, in bytes.
+    /// The position in bytes at which the log ends.
     pub tail: u64,
 }
 
 /// The fields of a slot. Contracts see it as the definitions' slot.
 #[derive(Clone, Copy, Debug, PartialEq, Eq)]
 pub struct Slot {
-    /// The log.
+    /// Where the log begins and ends.
     pub ends: LogEnds,
-    /// The root page.
+    /// The page id of the root.
     pub root: Pid,
-    /// How many levels the tree has.
+    /// The number of levels of the tree.
     pub height: u32,
     /// The version of the log.
     pub version: Version,
@@ -64,7 +64,6 @@ impl Model for Slot {
     } };
 }
 
-// The number of the version, as a slot has it.
 fn version_number(version: Version) -> u32
     ensures { result ≡ version_number version }
 {
@@ -74,7 +73,7 @@ fn version_number(version: Version) -> u32
     }
 }
 
-// The version with this number. Any other number decodes to the first one, which doesn't encode to it.
+// The version with this number. Any other number decodes to the first version, which does not encode to it.
 fn version_in(number: u32) -> Version
     ensures { result ≡ version_in number }
 {
@@ -85,7 +84,7 @@ fn version_in(number: u32) -> Version
     }
 }
 
-/// Encodes this slot, open.
+/// Encodes the slot with an open gate.
 pub fn slot_bytes(slot: &Slot) -> [u8; SLOT_SIZE]
     ensures { result ≡ slot_bytes slot.now }
 {
@@ -100,7 +99,7 @@ pub fn slot_bytes(slot: &Slot) -> [u8; SLOT_SIZE]
     bytes
 }
 
-/// Decodes a slot's fields unchecked; `read_slot` checks that a store may have them.
+/// Decodes the fields of a slot unchecked; `read_slot` checks that they are valid.
 pub fn slot_in(bytes: &[u8]) -> Slot
     requires { length bytes.now ≡ slot_size }
     ensures said { result ≡ slot_in bytes.now }
@@ -118,7 +117,8 @@ pub fn slot_in(bytes: &[u8]) -> Slot
     }
 }
 
-// Whether the tail lies after the head segment's header. `head` is unchecked, and `head * seg_size` could overflow, so it divides.
+// Whether the tail is after the head segment's header. `head` is unchecked, and `head * seg_size` could overflow, so
+// this divides.
 fn is_past_header(settings: &Settings, head: u64, tail: u64) -> bool
     requires { first_bad_field settings.now ≡ None }
     ensures { result ≡ nat_lt (head * settings.now.seg_size + segment_header_size) tail }
@@ -127,7 +127,7 @@ fn is_past_header(settings: &Settings, head: u64, tail: u64) -> bool
         && head <= (tail - (SEGMENT_HEADER_SIZE + 1)) / u64::from(settings.seg_size)
 }
 
-// Whether a log may end at this position: at a segment's end, or after a byte of a frame.
+// Whether a log may end at this position: at the end of a segment, or after a byte of a frame.
 fn is_tail(settings: &Settings, tail: u64) -> bool
     requires { first_bad_field settings.now ≡ None }
     ensures { result ≡ is_tail settings.now tail }
@@ -136,7 +136,7 @@ fn is_tail(settings: &Settings, tail: u64) -> bool
     offset == 0 || SEGMENT_HEADER_SIZE < offset
 }
 
-// Whether the last segment in use is one of those from the head on.
+// Whether the last segment in use is less than `segments` segments after the head.
 fn is_in_segments(settings: &Settings, head: u64, tail: u64) -> bool
     requires checked { first_bad_field settings.now ≡ None }
     requires following { head * settings.now.seg_size + segment_header_size < tail }
@@ -146,7 +146,7 @@ fn is_in_segments(settings: &Settings, head: u64, tail: u64) -> bool
     last_segment(settings, tail) < head + u64::from(settings.segments)
 }
 
-// Whether a log may go from this head to this tail.
+// Whether a log may extend from this head to this tail.
 fn is_log(settings: &Settings, head: u64, tail: u64) -> bool
     requires { first_bad_field settings.now ≡ None }
     ensures { result ≡ (nat_lt (head * settings.now.seg_size + segment_header_size) tail
@@ -159,14 +159,12 @@ fn is_log(settings: &Settings, head: u64, tail: u64) -> bool
         && is_in_segments(settings, head, tail)
 }
 
-// Whether slot `n` may have this sequence number.
 fn is_sequence(n: u64, sequence: u64) -> bool
     ensures { result ≡ (is_in_limits 1 greatest sequence && sequence % 2 == n % 2) }
 {
     1 <= sequence && sequence <= GREATEST && sequence % 2 == n % 2
 }
 
-// Whether a tree may have `height` levels.
 fn is_height(height: u32) -> bool
     ensures { result ≡ is_in_limits 1 most_levels height }
 {
@@ -184,8 +182,8 @@ fn is_slot(settings: &Settings, n: u64, slot: &Slot) -> bool
         && is_height(slot.height)
 }
 
-/// Decodes slot `n` from its 64 bytes: nothing where its gate is closed. Refuses an open one that is not well formed, with
-/// `Fault::NoSlot`.
+/// Decodes slot `n` from its 64 bytes. Returns `None` if its gate is closed, and fails with `Fault::NoSlot` if it is
+/// open and malformed.
 pub fn read_slot(settings: &Settings, n: u64, bytes: &[u8]) -> Result<Option<Slot>, Fault>
     requires checked { first_bad_field settings.now ≡ None }
     requires length { length bytes.now ≡ slot_size }
@@ -203,7 +201,8 @@ pub fn read_slot(settings: &Settings, n: u64, bytes: &[u8]) -> Result<Option<Slo
     }
 }
 
-/// Of the two slots the one with the greater sequence number. Returns the first fault, and `Fault::NoSlot` where none is open.
+/// Returns the slot with the greater sequence number. Fails with the first fault of the two, and with `Fault::NoSlot`
+/// if no slot is open.
 pub fn newer(
     first: Result<Option<Slot>, Fault>,
     second: Result<Option<Slot>, Fault>,

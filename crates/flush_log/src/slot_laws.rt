@@ -1,4 +1,4 @@
-//! What the settings block and the slots mean. Each law is the contract of a function with an empty body.
+//! Laws about the settings block and the slots. Each law is the contract of a function with an empty body.
 ghost use Rattle.std.specs.Prelude.{◌≡◌, ◌⊎◌, ◌↔◌, ℕ, suc, ◌≤◌, true, false, length, take, drop, Some, None, Ok, Err};
 ghost use Rattle.keys.specs.Bytes.{Bytes};
 ghost use Rattle.keys.specs.Limits.{first_bad_field};
@@ -9,7 +9,7 @@ ghost use Rattle.flush_log.specs.Segments.{HasSegments};
 ghost use Rattle.flush_log.specs.SettingsBlock.{settings_block_size, settings_block, read_settings, store_settings};
 ghost use Rattle.flush_log.specs.Slot.{Slot, slot_size, slot_place, slot_bytes, is_slot, is_open, read_slot, store_slot};
 
-/// The settings that a store may have are read back from their block of 64 bytes, and what is read of bytes stands there.
+/// Valid settings are decoded from their block of 64 bytes, and decoded settings are encoded in the bytes.
 pub fn the_settings_block_is_read_back()
     ensures length { (s : Settings) → length (settings_block s) ≡ settings_block_size }
     ensures read { (s : Settings) → first_bad_field s ≡ None →
@@ -18,7 +18,7 @@ pub fn the_settings_block_is_read_back()
         (bytes ≡ settings_block s) × (first_bad_field s ≡ None) }
 {}
 
-/// A disk has the settings whose block it begins with, where it has room for all segments.
+/// A disk has the settings in the block at its beginning, if it has room for all segments.
 pub fn a_disk_has_the_settings_of_its_block()
     ensures { (disk : Bytes) (s : Settings) →
         store_settings disk ≡ Ok s ↔
@@ -26,8 +26,8 @@ pub fn a_disk_has_the_settings_of_its_block()
         × HasSegments s disk }
 {}
 
-/// A slot that is well formed is read back from its 64 bytes, whatever else is on the disk; what is read of an open slot
-/// stands there and is well formed; and of a closed one nothing is read, whatever stands after its gate.
+/// A well-formed slot is decoded from its 64 bytes, whatever else is on the disk. A slot that is decoded from an open
+/// slot is encoded there and is well formed. Nothing is decoded from a closed slot, whatever follows its gate.
 pub fn a_slot_is_read_back()
     ensures length { (t : Slot) → length (slot_bytes t) ≡ slot_size }
     ensures read { (s : Settings) (n : ℕ) (t : Slot) (disk : Bytes) → first_bad_field s ≡ None →
@@ -40,14 +40,14 @@ pub fn a_slot_is_read_back()
         is_open n disk ≡ false ↔ read_slot s n disk ≡ Ok None }
 {}
 
-/// Two slots that are well formed and have the same bytes are the same.
+/// Two well-formed slots with the same bytes are equal.
 pub fn a_slot_has_one_spelling()
     ensures { (s : Settings) (m n : ℕ) (t u : Slot) → first_bad_field s ≡ None →
         is_slot s m t ≡ true → is_slot s n u ≡ true → slot_bytes t ≡ slot_bytes u → t ≡ u }
 {}
 
-/// The store's slot stands open at the place of its own sequence number, and no other one that stands open has a greater
-/// number. There is none just where no slot is open, or an open one is not well formed.
+/// The store's slot is open, at the place for its own sequence number, and no other open slot has a greater number.
+/// There is none if and only if no slot is open, or an open one is malformed.
 pub fn the_open_slot_with_the_greater_number_is_the_stores()
     ensures own { (s : Settings) (disk : Bytes) (t : Slot) → store_slot s disk ≡ Ok t →
         read_slot s t.sequence disk ≡ Ok (Some t) }

@@ -1,4 +1,4 @@
-//! The text of a flush or of an upgrade, as images.
+//! The frames of a flush or of an upgrade, as images.
 ghost use Rattle.std.specs.Prelude.{◌≡◌, ◌≢◌, ◌↔◌, ℕ, true, [], map, flat_map, IfOk, IsTrue};
 ghost use Rattle.std.specs.List.{AllByRecursion};
 ghost use Rattle.std.specs.Option.{option_copied};
@@ -25,16 +25,16 @@ use mapping::{Logged, Tree, depth};
 use std::alloc::{AllocError, Global};
 use std::thread::Threads;
 
-/// Which pages a text writes, and how.
+/// Which pages a commit writes, and how.
 #[derive(Clone, Copy, Debug, PartialEq, Eq)]
 pub enum Text {
-    /// What the log of a store of this version lacks.
+    /// A flush of a store with a log of this version: whatever the log lacks.
     Flush(Version),
-    /// All pages, for a log of the second version.
+    /// An upgrade: all pages, for a log of the second version.
     Upgrade,
 }
 
-// The version of the log that has this text: an upgrade brings the second one.
+// The version of the log after this commit: an upgrade leads to the second one.
 fn version_with(text: Text) -> Version
     ensures { result ≡ version_with text }
 {
@@ -44,7 +44,7 @@ fn version_with(text: Text) -> Version
     }
 }
 
-// How a store of this version spells the keys of the bases that it writes.
+// The key encoding for bases in a log of this version.
 fn spelling_of(version: Version) -> Spelling
     ensures { result ≡ spelling_of version }
 {
@@ -54,7 +54,7 @@ fn spelling_of(version: Version) -> Spelling
     }
 }
 
-// What the log has of a page id, as the text takes it.
+// The log state of a page id, as this kind of commit treats it.
 fn taken(text: Text, logged: Logged) -> Logged
     ensures { log_state result ≡ taken text (log_state logged) }
 {
@@ -64,9 +64,9 @@ fn taken(text: Text, logged: Logged) -> Logged
     }
 }
 
-/// The text of a flush or of an upgrade: an image for each page id with something to be written, by rising number. With it, each page id
-/// in the text is known to be of 64 bits, so that its frames are such as a store may have. The crew makes the images; the answer is the
-/// same for every crew.
+/// Returns the frames of a flush or of an upgrade: an image for each page id with something to write, in rising order.
+/// Each page id in them is then known to have 64 bits, so that a store may have these frames. The crew makes the
+/// images; the result does not depend on the crew.
 pub fn images(
     rt: &(impl Threads + Sync),
     crew: Crew,
@@ -89,8 +89,8 @@ pub fn images(
     }
 }
 
-/// Whether the text of a flush is empty: the log has all that the tree holds. It takes no memory, and looks at no page but for its
-/// number of runs.
+/// Returns whether a flush has nothing to write: the log contains the whole tree. Does not allocate, and reads nothing
+/// of a page except its number of runs.
 pub fn is_all_written(tree: &Tree<Global>) -> bool
     requires home { AreAllHome tree.now }
     requires proper { IsOfStore (tree_of tree.now) }
@@ -103,7 +103,7 @@ pub fn is_all_written(tree: &Tree<Global>) -> bool
     }
 }
 
-// Whether these page ids have nothing to be written.
+// Whether there is nothing to write for these page ids.
 fn are_written(tree: &Tree<Global>, pids: &[u64]) -> bool
     requires home { AreAllHome tree.now }
     requires proper { IsOfStore (tree_of tree.now) }
@@ -120,7 +120,7 @@ fn are_written(tree: &Tree<Global>, pids: &[u64]) -> bool
     true
 }
 
-// Whether no page id has anything to be written.
+// Whether there is nothing to write for any page id.
 fn are_all_written(tree: &Tree<Global>) -> bool
     requires home { AreAllHome tree.now }
     requires proper { IsOfStore (tree_of tree.now) }
@@ -136,7 +136,7 @@ fn are_all_written(tree: &Tree<Global>) -> bool
     true
 }
 
-// The jobs of all page ids with something to be written.
+// The jobs for all page ids with something to write.
 fn due_jobs<'a>(
     alloc: Global,
     tree: &'a Tree<Global>,
@@ -157,7 +157,7 @@ fn due_jobs<'a>(
     }
 }
 
-// These numbers by size, each once.
+// These numbers in rising order, without repetitions.
 fn rising(alloc: Global, numbers: &[u64]) -> Result<Vec<u64>, AllocError>
     ensures rising { IfOk result (λ rising. AreRisingPids rising.items) }
     ensures all { IfOk result
@@ -170,7 +170,7 @@ fn rising(alloc: Global, numbers: &[u64]) -> Result<Vec<u64>, AllocError>
     Ok(rising)
 }
 
-// The jobs of those of these page ids with something to be written.
+// The jobs for those of these page ids that have something to write.
 fn jobs_of<'a>(
     alloc: Global,
     tree: &'a Tree<Global>,
@@ -194,7 +194,7 @@ fn jobs_of<'a>(
     Ok(jobs)
 }
 
-// The jobs of all page ids with something to be written.
+// The jobs for all page ids with something to write.
 fn all_jobs<'a>(
     alloc: Global,
     tree: &'a Tree<Global>,
@@ -217,7 +217,6 @@ fn all_jobs<'a>(
     Ok(jobs)
 }
 
-// The images of these jobs.
 fn images_of<'a>(alloc: Global, dones: Vec<ImageDone<'a>>) -> Result<Vec<Image>, AllocError>
     ensures images { IfOk result (λ images. images.items ≡ map image_made dones.entry.items) }
     ensures words { IfOk result
@@ -230,7 +229,7 @@ fn images_of<'a>(alloc: Global, dones: Vec<ImageDone<'a>>) -> Result<Vec<Image>,
     Ok(images)
 }
 
-// The page id with its page and what the log has of it, for a text.
+// The job for a page id: its page and its log state.
 fn job_of<'a>(tree: &'a Tree<Global>, pid: u64, text: Text) -> ImageJob<'a>
     requires { AreAllHome tree.now }
     ensures { job_held result ≡ held_of_pid text (tree_of tree.now) pid }
@@ -244,7 +243,7 @@ fn job_of<'a>(tree: &'a Tree<Global>, pid: u64, text: Text) -> ImageJob<'a>
     }
 }
 
-// Whether the log has all of the page, or, where there is none, nothing that it must lose.
+// Whether the log contains the whole page, or, if there is no page, nothing that must be marked as freed.
 fn is_written(page: Option<&Page<Global>>, logged: Logged) -> bool
     requires { HasFewRuns (option_copied page) }
     ensures { (spelling : spellings.Spelling) →

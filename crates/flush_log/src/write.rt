@@ -1,4 +1,4 @@
-//! Writes the frames of a text after the tail of a log, with one write for each segment.
+//! Writes frames after the tail of a log, with one write per segment.
 ghost use Rattle.std.specs.Prelude.{◌≡◌, ℕ, ◌+◌, ◌-◌, ◌/◌, ◌%◌, ◌≤◌, List, ◌∷◌, [], ◌++◌, IsTrue, length, replicate, slice_range, None, IfOk, OnOk};
 ghost use Rattle.keys.specs.Limits.{first_bad_field};
 ghost use Rattle.keys.specs.Sizes.{segment_header_size};
@@ -17,11 +17,11 @@ use crate::image::Image;
 use crate::segments::{SEGMENT_HEADER_SIZE, place_of_segment, segment_header};
 use keys::Settings;
 
-// Where the frames begin in a segment.
+// The offset of the first frame in a segment.
 const FRAMES_BEGIN: usize = SEGMENT_HEADER_SIZE as usize;
 
-// What is gathered of a segment and not yet written: from an offset on, up to another. A buffer has the segment's bytes at
-// their offsets.
+// The bytes of a segment that are collected but not yet written: those in `from..end`. The buffer has the segment's
+// bytes at their offsets.
 #[derive(Clone, Copy)]
 struct Part {
     segment: u64,
@@ -29,7 +29,6 @@ struct Part {
     end: usize,
 }
 
-// Puts bytes after what is gathered up to a place.
 fn put(buffer: &mut [u8], at: usize, bytes: &[u8])
     requires { at + length bytes.now ≤ length buffer.old }
     ensures { (from : ℕ) → from ≤ at →
@@ -39,7 +38,7 @@ fn put(buffer: &mut [u8], at: usize, bytes: &[u8])
     buffer[at..at + bytes.len()].copy_from_slice(bytes);
 }
 
-// Puts zeros after what is gathered up to a place.
+// Fills the buffer with zeros from `at` to `end`.
 fn pad(buffer: &mut [u8], at: usize, end: usize)
     requires rising { at ≤ end }
     requires within { end ≤ length buffer.old }
@@ -49,7 +48,7 @@ fn pad(buffer: &mut [u8], at: usize, end: usize)
     buffer[at..end].fill(0);
 }
 
-// Writes what is gathered of a segment.
+// Writes the collected bytes of a segment.
 fn write_part<D: Disk>(
     disk: &mut D,
     settings: &Settings,
@@ -71,8 +70,8 @@ fn write_part<D: Disk>(
     disk.write_at(at, &buffer[part.from..part.end])
 }
 
-// Gathers a frame: after what is gathered, where it fits into the segment. Else the segment is filled with zeros and written,
-// and the frame stands after the header of the next one.
+// Adds a frame to the collected bytes, if it fits into the segment. Otherwise fills the segment with zeros and writes
+// it, and puts the frame after the header of the next segment.
 fn put_frame<D: Disk>(
     disk: &mut D,
     settings: &Settings,
@@ -122,7 +121,7 @@ fn put_frame<D: Disk>(
     })
 }
 
-// Gathers the frames of an image, each as `put_frame` does.
+// Adds the frames of an image, each as `put_frame` does.
 fn put_image<D: Disk>(
     disk: &mut D,
     settings: &Settings,
@@ -157,7 +156,7 @@ fn put_image<D: Disk>(
     Ok(gathered)
 }
 
-// Begins to gather a text that is written from this tail on: with a segment's header, where the segment is begun.
+// Begins collecting bytes from this tail on: with a segment's header, if the segment is new.
 fn begin_part(settings: &Settings, tail: u64, buffer: &mut [u8]) -> Part
     requires checked { first_bad_field settings.now ≡ None }
     requires buffer { settings.now.seg_size ≤ length buffer.old }
@@ -183,11 +182,11 @@ fn begin_part(settings: &Settings, tail: u64, buffer: &mut [u8]) -> Part
     }
 }
 
-/// Writes the frames of a text after the tail, one call for each segment: the header where a segment is begun, the frames,
-/// and zeros to the end of a segment that is left. `buffer` is where a segment's bytes are gathered, and has room for one.
-/// Where a call fails the rest is not made.
+/// Writes frames after the tail, with one call for each segment: the header of a new segment, the frames, and zeros up
+/// to the end of a segment that is full. `buffer` collects the bytes of a segment, and has room for one. After a failed
+/// call no further call is made.
 ///
-/// A crash meanwhile leaves what was before, but for any bytes where the text is written.
+/// A crash during the calls leaves the old contents, except for any bytes in the ranges that are written.
 pub fn write_text<D: Disk>(
     disk: &mut D,
     settings: &Settings,

@@ -1,4 +1,4 @@
--- A base is read back from its spelling, and what is read as a base stands there, whichever way its keys are spelled.
+-- A base is decoded from its encoding, and a decoded base is encoded in the bytes, for both key encodings.
 use Rattle.std.proofs.Common.{◌≡◌, ℕ, zero, suc, ◌<◌, ◌≤◌, List, [], ◌∷◌, ◌++◌, length, take, Option, Some, refl, sym, ap, ◌∙◌, arith, append_assoc, length-append}
 use Rattle.std.specs.List.{AllByRecursion}
 use Rattle.std.proofs.lemmas.List.{length-drop}

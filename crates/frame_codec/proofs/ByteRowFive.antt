@@ -1,4 +1,4 @@
--- Byte row 5: a run in which a is absent.
+-- Byte row 5: a run that deletes a.
 use Rattle.std.specs.Prelude.{[], ◌∷◌, None, codes}
 use Rattle.std.proofs.Common.{refl}
 use Rattle.frame_codec.specs.Frame.Content.{DeltaLeaf}

@@ -1,4 +1,4 @@
--- Byte row 10: a leaf of three, and a run of an index page in which d is absent. Its frame that frees pid 1 is the first of byte row 8.
+-- Byte row 10: a leaf of three, and a run of an index page that deletes d. Its frame that frees pid 1 is the first of byte row 8.
 use Rattle.std.specs.Prelude.{[], ◌∷◌, None, codes}
 use Rattle.std.proofs.Common.{refl}
 use Rattle.frame_codec.specs.declared.format.Spelling.TheVariants.{Whole}

@@ -1,11 +1,11 @@
--- Codecs that are made of others read back what they spell, and what they read stands in the bytes, where the others do.
+-- A composed codec decodes what it encodes, and encodes what it decodes, if its parts do.
 use Rattle.std.proofs.Common.{◌≡◌, ℕ, zero, suc, ◌<◌, List, [], ◌∷◌, ◌++◌, length, flat_map, Option, Some, None, refl, sym, ap, ◌∙◌, append_assoc}
 use Rattle.std.specs.List.{AllByRecursion}
 use Rattle.keys.specs.Cells.{Codec, AreBytes, IsReadBack, ReadsSpellings, read_on, read_as, number}
 use Rattle.keys.proofs.CellLemmas.{gave, same_reading, nothing_read, read_as-gave, goes_on, number-back, number-spelled}
 use Rattle.frame_codec.specs.Codecs.{both, both_by, read_each, listed, spell_flag, flagged}
 
--- ---- what is spelled is read back
+-- ---- encoded values are decoded
 
 pub both_by-back : {X Y : Type 0} (c : Codec X) (d : X → Codec Y) (p : X × Y) → IsReadBack c p.0 → IsReadBack (d p.0) p.1 → IsReadBack (both_by c d) p
 both_by-back c d p bc bd rest = rw (append_assoc (c.spell p.0) ((d p.0).spell p.1) rest, bc ((d p.0).spell p.1 ++ rest), bd rest) refl
@@ -30,7 +30,7 @@ flagged-back c v back rest = ap (read_as (λ w. Some w)) (back rest)
 pub absent-back : {V : Type 0} (c : Codec V) → IsReadBack (flagged c) None
 absent-back c rest = refl
 
--- ---- what is read stands in the bytes
+-- ---- decoded values are encoded in the bytes
 
 pub both_by-spelled : {X Y : Type 0} (c : Codec X) (d : X → Codec Y) → ReadsSpellings c → ((x : X) → ReadsSpellings (d x)) → ReadsSpellings (both_by c d)
 both_by-spelled {X = X} {Y = Y} c d sc sd bs p rest bytes h =

@@ -1,4 +1,4 @@
--- Entries read one after the other: where reading has come to, and what comes of all.
+-- Entries that are decoded one after the other: the progress of the decoder, and the final result.
 use Rattle.std.proofs.Common.{◌≡◌, ℕ, zero, suc, ◌+◌, ◌<◌, ◌≤◌, Bool, true, false, ◌&&◌, nat_le, nat_lt, if◌then◌else◌, List, [], ◌∷◌, ◌++◌, length, Option, Some, None, refl, sym, ap, ◌∙◌, arith, append_assoc, length-append, le-leb, leb-true}
 use Rattle.std.proofs.lemmas.List.{append-nil}
 use Rattle.std.proofs.lemmas.Bool.{and_parts, lt-ltb}
@@ -18,7 +18,7 @@ use Rattle.frame_codec.specs.Codecs.{both, read_each, flagged, sharing}
 use Rattle.frame_codec.specs.Frame.{read_base, delta, is_key, are_entries, is_run}
 use Rattle.frame_codec.proofs.WithinLemmas.{decides-rising}
 
--- what comes of those that were read and of what is read of the rest, where all together pass the test
+-- the entries that were decoded, with those that are decoded from the rest, if all together pass the test
 abbrev pub joined_with : {X : Type 0} → (List X → Bool) → List X → Option (List X × List ℕ) → Option (List X × List ℕ)
 joined_with ok built o = read_where ok (read_as (λ xs. built ++ xs) o)
 
@@ -35,7 +35,7 @@ module _ {X : Type 0} (ok : List X → Bool) where
   joined-bad built x None h = refl
   joined-bad built x (Some p) h = rw (h p.0) refl
 
-  -- where the next one, and those after it, are read of these bytes
+  -- if the next one, and those after it, are read of these bytes
   module _ (built : List X) (here : Option (X × List ℕ)) (more : X → List ℕ → Option (List X × List ℕ)) where
     abbrev all_of : Option (X × List ℕ) → Option (List X × List ℕ)
     all_of o = read_on o (λ x rest. read_as (λ xs. x ∷ xs) (more x rest))
@@ -49,7 +49,7 @@ module _ {X : Type 0} (ok : List X → Bool) where
     joined-unread : here ≡ None → joined_with ok built (all_of here) ≡ None
     joined-unread h = ap (λ (o : Option (X × List ℕ)). joined_with ok built (all_of o)) h
 
-    -- where none is read, or one that cannot stand there, nothing comes of all
+    -- if no item is decoded, or one that is not allowed there, the whole list is not decoded
     joined-ends : (test : X → Bool) → ((x : X) (xs : List X) → test x ≡ false → ok (built ++ x ∷ xs) ≡ false)
         → read_where test here ≡ None → joined_with ok built (all_of here) ≡ None
     joined-ends test bad = of here refl
@@ -177,11 +177,11 @@ module _ {X : Type 0} (s : Settings) (short : X → Bool) (spelling : Spelling) 
       of true true entry last h = absurd (cc)
 
   module _ (low : List ℕ) (count : ℕ) (start : List ℕ) where
-    -- what is read of all, where as many are read from these bytes
+    -- what is read of all, if as many are read from these bytes
     abbrev pub read_entries : Option (List (List ℕ × X) × List ℕ)
     read_entries = read_where (are_entries s short) (read_base spelling cell low count start)
 
-    -- the first `at` were read, and are within the settings; the rest stands in these bytes
+    -- the first `at` entries are decoded and within the settings; the rest is encoded in these bytes
     pub record IsReadUpTo (at : ℕ) (built : List (List ℕ × X)) (now : List ℕ) : Type 0 where
       pub left : ℕ
       pub all : at + left ≡ count

@@ -1,4 +1,4 @@
--- What a frame comes to, from its header and from its content as the settings allow it.
+-- Decoding a frame from its header and from its content, if the settings allow the content.
 use Rattle.std.proofs.Common.{◌≡◌, ℕ, suc, ◌+◌, ◌-◌, ◌≤◌, Fits, w8, get_or, [], ◌∷◌, Bool, true, false, ◌==◌, if◌then◌else◌, List, length, drop, Option, Some, None, refl, sym, ap, ◌∙◌, arith, length-append, eq-eqb}
 use Rattle.std.proofs.Math.Seq.{drop-append_seam}
 use Rattle.std.proofs.lemmas.Bool.{eqb-true}
@@ -84,7 +84,7 @@ module _ (g : Format) (bs : List ℕ) (kind len pid : ℕ) (body : List ℕ) (by
         let fit : fits found.content ≡ true = eq-eqb len (8 + length (content_bytes found.content)) (omega arith) in
         by_length true fit ∙ rw (word, found.allowed) (ap (λ (h : Frame). gave h rest) found.is)
 
--- a frame that was read, by how many bytes are left
+-- a frame that was read, by the number of remaining bytes
 pub record IsReadOf (g : Format) (bs : List ℕ) (f : Frame) (n : ℕ) : Type 0 where
   pub found : read_frame g bs ≡ Some (f, drop n bs)
   pub size : n ≡ length (bytes_of f)

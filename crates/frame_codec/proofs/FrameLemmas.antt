@@ -1,4 +1,4 @@
--- A frame within settings is read back from its bytes.
+-- A frame within settings is decoded from its encoding.
 use Rattle.std.proofs.Common.{◌≡◌, ℕ, ◌+◌, ◌*◌, ◌^◌, ◌<◌, ◌≤◌, Bool, true, ◌&&◌, ◌==◌, List, [], ◌∷◌, ◌++◌, length, flat_map, Option, Some, None, refl, sym, ap, ◌∙◌, arith, append_assoc, length-append, leb-true}
 use Rattle.std.specs.List.{AllByRecursion, list_all}
 use Rattle.std.proofs.lemmas.Bool.{and_parts, ltb-true, eq-eqb}
@@ -31,7 +31,7 @@ in_limits s h = let all = checked s h in record { fan = all.fan; max_key = all.m
 
 -- ---- cells, entries, contents
 
--- a cell that passes the test is read back, and its spelling is no longer than this
+-- a cell that passes the test is decoded again, and its encoding is no longer than this
 pub record Serves {V : Type 0} (most : ℕ) (test : V → Bool) (cell : Codec V) : Type 0 where
   pub back : (v : V) → test v ≡ true → IsReadBack cell v
   pub short : (v : V) → test v ≡ true → length (cell.spell v) ≤ most

@@ -1,5 +1,5 @@
--- What is read of bytes is read of longer bytes too: a reader looks at no byte after what it reads. And nothing is read where
--- a byte 0 stands.
+-- A value that is decoded from bytes is also decoded from longer bytes: a decoder reads no byte after the value. And nothing is decoded from bytes
+-- that begin with 0.
 use Rattle.std.proofs.Common.{◌≡◌, ℕ, zero, suc, ◌+◌, ◌*◌, ◌^◌, ◌≤◌, Bool, true, false, ◌==◌, nat_le, if◌then◌else◌, List, [], ◌∷◌, ◌++◌, length, take, drop, Option, Some, None, refl, ap, ◌∙◌, arith, length-append, le-leb, leb-true}
 use Rattle.std.proofs.lemmas.List.{take-append-le, drop-append-le}
 use Rattle.keys.specs.Cells.{Codec, read_on, read_as, read_where, read_number, number, read_bytes, counted, value_cell, pid_cell}

@@ -1,4 +1,4 @@
--- What is read is a frame within the settings, and the bytes begin with its bytes.
+-- A decoded frame is within the settings, and the bytes begin with its encoding.
 use Rattle.std.proofs.Common.{◌≡◌, ℕ, ◌+◌, Bool, true, false, ◌==◌, if◌then◌else◌, List, ◌++◌, length, Option, Some, None, refl, sym, ap, ◌∙◌, append_assoc}
 use Rattle.std.proofs.lemmas.Bool.{eqb-true}
 use Rattle.keys.specs.Cells.{Codec, AreBytes, ReadsSpellings, read_as, read_where, number, counted, value_cell, pid_cell}
@@ -23,7 +23,7 @@ header-spelled =
     both-spelled (both (number 1) (number 4)) pid_cell (both-spelled (number 1) (number 4) (number-spelled 1) (number-spelled 4)) pid-spelled
 
 module _ (kind : ℕ) (bs : List ℕ) (bytes : AreBytes bs) (c : Content) (rest : List ℕ) where
-  -- the content is of this kind, and its bytes stand at the front
+  -- the content is of this kind, and the bytes begin with its encoding
   abbrev pub Stands : Type 0
   Stands = (kind ≡ kind_of c) × (bs ≡ content_bytes c ++ rest)
 
@@ -82,6 +82,6 @@ frame-stands g bs f rest bytes h =
     let (read, within) = read_where-gave (is_frame g) (read_any bs) f rest h in
     record { within = within; bytes = any-spelled bs f rest bytes read }
 
--- where nothing is read, no frame stands
+-- if nothing is decoded, the bytes do not begin with a frame
 pub none-stands : (g : Format) (bs : List ℕ) (f : Frame) (rest : List ℕ) → first_bad_field g.settings ≡ None → read_frame g bs ≡ None → BeginsWithFrame g bs f rest → ⊥
 none-stands g bs f rest good h stands = nothing_read _ (sym h ∙ ap (read_frame g) stands.bytes ∙ frame-back g (in_limits g.settings good) f stands.within rest)

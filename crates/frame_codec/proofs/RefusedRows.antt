@@ -1,4 +1,4 @@
--- Bytes that begin with no frame: each row is a frame's bytes with one thing wrong.
+-- Bytes that begin with no frame: each row is an encoded frame with one error.
 use Rattle.std.proofs.Common.{refl}
 use Rattle.frame_codec.proofs.RowForms.{IsRefused}
 

@@ -9,7 +9,7 @@ use Rattle.keys.specs.declared.version.Version.TheVariants.{One, Two}
 use Rattle.frame_codec.specs.Frame.{Frame, bytes_of}
 use Rattle.frame_codec.specs.Reading.{read_frame}
 
--- the bytes that digits stand for, two digits each
+-- the bytes that digits denote, two digits each
 abbrev by_two : List ℕ → List ℕ
 by_two [] = []
 by_two (c ∷ []) = []

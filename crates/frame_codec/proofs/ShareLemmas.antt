@@ -1,4 +1,4 @@
--- Keys that share beginnings: how far two go together, and what is spelled of a key by the one before it.
+-- Prefix compression: the longest common prefix of two keys, and the encoding of a key after the key before it.
 use Rattle.std.proofs.Common.{◌≡◌, ℕ, zero, suc, ◌⊎◌, inl, inr, ◌+◌, ◌*◌, ◌^◌, ◌-◌, ◌<◌, ◌≤◌, Bool, true, false, cond, nat_eq, ◌==◌, if◌then◌else◌, List, [], ◌∷◌, ◌++◌, length, take, drop, Option, Some, None, MatchOption, refl, sym, ap, ◌∙◌, arith, append_assoc, length-append, eq-eqb, leb-true}
 use Rattle.std.proofs.lemmas.Bool.{eqb-true}
 use Rattle.std.proofs.lemmas.List.{take-append-drop, length-take-le, length-drop, drop_at, take_all}
@@ -34,11 +34,11 @@ common-same (a ∷ xs) (b ∷ bs) = by (nat_eq a b) refl (common-same xs bs)
     by true e h = rw (one_more (common xs bs)) (ap (λ (c : ℕ). c ∷ take (common xs bs) xs) (eqb-true a b e) ∙ ap (λ (cs : List ℕ). b ∷ cs) h)
     by false e h = refl
 
--- a key is what it shares with another, and its rest
+-- a key consists of the prefix that it shares with another key, and its rest
 pub rejoined-same : (j k : List ℕ) → rejoined j (common j k, drop (common j k) k) ≡ k
 rejoined-same j k = ap (λ (cs : List ℕ). cs ++ drop (common j k) k) (common-same j k) ∙ take-append-drop (common j k) k
 
--- what begins with bytes of a key goes on with it where it goes on as that does
+-- bytes that begin like a key continue it if their rest continues as the key's rest does
 pub common-cut : (n : ℕ) (j rest : List ℕ) → n ≤ length j → common j (take n j ++ rest) ≡ n + common (drop n j) rest
 common-cut zero j rest h = omega arith
 common-cut (suc n) [] rest h = absurd (omega arith)
@@ -58,18 +58,18 @@ order-cut (suc n) (a ∷ xs) rest h = same_byte a (order xs (take n xs ++ rest))
 pub common-beyond : (n : ℕ) (j k : List ℕ) → length j < n → common j k ≡ n → ⊥
 common-beyond n j k h e = let most = (common-le j k).0 in absurd (omega arith)
 
--- two keys, the one beginning with n bytes of the other, part there just where the rests have no first byte in common
+-- two keys, the one beginning with n bytes of the other, part there if and only if the rests have no first byte in common
 pub parts-there : (n : ℕ) (j rest : List ℕ) → n ≤ length j → common (drop n j) rest ≡ 0 → common j (rejoined j (n, rest)) ≡ n
 parts-there n j rest h e = let goes = common-cut n j rest h in omega arith
 
 pub parts-elsewhere : (n : ℕ) (j rest : List ℕ) → n ≤ length j → (common (drop n j) rest ≡ 0 → ⊥) → common j (rejoined j (n, rest)) ≡ n → ⊥
 parts-elsewhere n j rest h more e = let goes = common-cut n j rest h in more (omega arith)
 
--- all that stands after n bytes
+-- all bytes after the first n
 pub all_after : (n : ℕ) (j : List ℕ) → take (length j - n) (drop n j) ≡ drop n j
 all_after n j = let left = length-drop n j in take_all (length j - n) (drop n j) (omega arith)
 
--- how a key compares to one that begins with n bytes of it, by what is after these
+-- comparing a key to one that begins with n bytes of it, by the bytes after these
 pub parted-by : (o : Option Ordering) (n : ℕ) (j left rest : List ℕ) → n ≤ length j → left ≡ drop n j
     → MatchOption o (common left rest ≡ 0 → ⊥) (λ r. (common left rest ≡ 0) × (r ≡ order left rest))
     → MatchOption o (common j (rejoined j (n, rest)) ≡ n → ⊥) (λ r. (common j (rejoined j (n, rest)) ≡ n) × (r ≡ order j (rejoined j (n, rest))))
@@ -78,7 +78,7 @@ parted-by (Some r) n j left rest h e reported =
     let (apart, is) = (rw e at reported) in
     (parts-there n j rest h apart, is ∙ sym (order-cut n j rest h))
 
--- ---- what is spelled of a key
+-- ---- the encoding of a key
 
 short-back : (bs : List ℕ) → length bs < 256 → IsReadBack counted_short bs
 short-back bs few rest =
@@ -95,7 +95,7 @@ short-spelled bs xs rest bytes h =
     ∙ ap (λ (n : ℕ). (number 1).spell n ++ (xs ++ rest)) (sym long)
     ∙ sym (append_assoc ((number 1).spell (length xs)) xs rest)
 
--- whether that number is just what the key before and the rejoined one share
+-- whether that number is exactly the length of the prefix that the key before and the rejoined key share
 abbrev pub is_exact : List ℕ → ℕ × List ℕ → Bool
 is_exact before p = common before (rejoined before p) == p.0
 
@@ -127,7 +127,7 @@ sharing-spelled before bs k rest bytes h =
     ∙ ap (λ (cs : List ℕ). pair.spell (p.0, cs) ++ rest) (sym ends)
     ∙ ap (λ (n : ℕ). pair.spell (n, drop n k) ++ rest) (sym shares)
 
--- what is read of a key, once its parts are read
+-- what is read of a key, after its parts are read
 pub sharing-read : (before bs : List ℕ) (n : ℕ) (following rest end : List ℕ) → (number 1).read bs ≡ gave n following → counted_short.read following ≡ gave rest end
     → common before (rejoined before (n, rest)) ≡ n → (sharing before).read bs ≡ gave (rejoined before (n, rest)) end
 sharing-read before bs n following rest end first second exact =

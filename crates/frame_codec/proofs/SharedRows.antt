@@ -1,4 +1,4 @@
--- Row 15.1: two leaves and the index page above them, with keys that share beginnings; and bytes that begin with no such frame.
+-- Row 15.1: two leaves and the index page above them, with prefix-compressed keys; and bytes that begin with no such frame.
 use Rattle.std.specs.Prelude.{[], ◌∷◌, codes}
 use Rattle.std.proofs.Common.{refl}
 use Rattle.frame_codec.specs.declared.format.Spelling.TheVariants.{Shared}
@@ -18,7 +18,7 @@ root : IsShared (record { pid = 2; content = FullIndex Shared [] (([], 0) ∷ (c
     "07 00000021 0000000000000002 0000 0002 00 00 0000000000000000 00 01 63 0000000000000001"
 root = (refl, refl, refl)
 
--- keys that each go on where the one before ends, or part from it before it ends
+-- keys that each continue where the one before ends, or part from it before it ends
 nested : IsShared (record { pid = 0; content = FullLeaf Shared (codes "ab") ((codes "abc", []) ∷ (codes "abcd", []) ∷ (codes "abd", []) ∷ []) })
     "06 0000001d 0000000000000000 0002 6162 0003 02 01 63 0000 03 01 64 0000 02 01 64 0000"
 nested = (refl, refl, refl)

@@ -1,4 +1,4 @@
--- How many bytes a frame has.
+-- The size of a frame in bytes.
 use Rattle.std.proofs.Common.{◌≡◌, ℕ, ◌+◌, ◌≤◌, List, [], ◌∷◌, length, drop, flat_map, Option, Some, None, refl, arith, length-append}
 use Rattle.std.specs.List.{sum_by}
 use Rattle.std.proofs.lemmas.List.Sums.{sum_by-cons}
@@ -23,7 +23,7 @@ each-size c size h (x ∷ xs) =
     let sum = sum_by-cons size x xs in
     omega arith
 
--- a base, by what is spelled of each key
+-- the size of a base, by the stored part of each key
 module _ {V : Type 0} (cell : Codec V) (size : List ℕ × V → ℕ) (is : (e : List ℕ × V) → length ((both counted cell).spell e) ≡ size e) where
   shared-size : (before : List ℕ) (es : List (List ℕ × V)) → length (spell_base Shared cell before es) ≡ sum_by size (rests before es)
   shared-size before [] = refl

@@ -1,4 +1,4 @@
--- What follows from the sizes of a content: how long its spelling is, and that it is a frame's where its cells are of their type.
+-- Consequences of the sizes of a content: the length of its encoding, and that it is a frame's content if its cells are valid.
 use Rattle.std.proofs.Common.{◌≡◌, ℕ, ◌*◌, ◌^◌, ◌<◌, ◌≤◌, Bool, true, ◌&&◌, List, [], ◌∷◌, length, flat_map, Option, Some, None, refl, arith, length-append, leb-true}
 use Rattle.std.proofs.lemmas.Bool.{and_parts}
 use Rattle.std.specs.Cmp.Derive.{both_true}
@@ -20,11 +20,11 @@ use Rattle.frame_codec.proofs.FrameLemmas.{AreInLimits, in_limits}
 
 -- ---- lengths
 
--- no spelling of a cell that passes the test is longer than this
+-- no encoding of a cell that passes the test is longer than this
 abbrev pub IsShortest : {V : Type 0} → ℕ → Codec V → (V → Bool) → Type 0
 IsShortest {V = V} most cell has = (v : V) → has v ≡ true → length (cell.spell v) ≤ most
 
--- what entries within limits need to be spelled
+-- the conditions under which entries within limits can be encoded
 pub record AreShort {X : Type 0} (cell : Codec X) (es : List (List ℕ × X)) : Type 0 where
   pub count : length es ≤ 64
   pub small : AreSpellable cell es
@@ -135,7 +135,7 @@ index_run-words pid run p w g r h =
     let (some, entries) = and_parts _ _ h in
     both_true p (both_true r (both_true some (word_entries g.settings (Option ℕ) (of_cell is_any_pid) (of_cell is_pid) (of_cell is_pid) any_cell run entries w)))
 
--- ---- what a frame says of its sizes
+-- ---- the sizes of a frame
 
 any_pids : (s : Settings) (es : List (List ℕ × ℕ)) → list_all (λ e. is_key s e.0 && is_pid e.1) es ≡ true → list_all (λ e. is_key s e.0 && is_any_pid e.1) es ≡ true
 any_pids s [] h = refl

@@ -1,4 +1,4 @@
--- What is skipped and not kept: entries one after the other, a base or a run of them, a content, and a frame.
+-- Skipping without decoding: entries one after the other, a base or a run of them, a content, and a frame.
 use Rattle.std.proofs.Common.{◌≡◌, ℕ, zero, suc, ◌+◌, ◌<◌, ◌-◌, ◌≤◌, Bool, true, false, ◌&&◌, if◌then◌else◌, List, [], ◌∷◌, ◌++◌, length, take, drop, Option, Some, None, refl, sym, ap, ◌∙◌, arith, add-one, length-append}
 use Rattle.std.specs.Prelude.{MatchOption}
 use Rattle.std.specs.Borrow.{Bor}
@@ -36,11 +36,12 @@ last-pushed (e ∷ []) j v k = refl
 last-pushed (e ∷ f ∷ es) j v k = last-pushed (f ∷ es) j v k
 
 module _ {X : Type 0} (s : Settings) (short : X → Bool) (spelling : Spelling) (cell : Codec X) (low : List ℕ) (count : ℕ) (start : List ℕ) where
-  -- the next entry, where it is within the settings
+  -- the next entry, if it is within the settings
   abbrev pub next_within : List ℕ → List ℕ → Option ((List ℕ × X) × List ℕ)
   next_within before now = read_where (λ (e : List ℕ × X). is_key s e.0 && short e.1) ((next_entry spelling cell before).read now)
 
-  -- the first `at` were skipped, up to this key; they are within the settings, their keys rise, and the next is spelled by that key
+  -- the first `at` entries were skipped, the last with this key; they are within the settings, their keys rise, and the next entry is encoded after
+  -- that key
   pub record IsPassedUpTo (at : ℕ) (last : Option (List ℕ)) (key : List ℕ) (now : List ℕ) : Type 0 where
     pub built : List (List ℕ × X)
     pub upto : IsReadUpTo s short spelling cell low count start at built now
@@ -82,7 +83,7 @@ module _ {X : Type 0} (s : Settings) (short : X → Bool) (spelling : Spelling) 
     passed-done done few = (up.built, read-done s short spelling cell low count start at up.built now up.upto done few up.rising)
 
   module _ (es : List (List ℕ × X)) (end : List ℕ) (whole : read_entries s short spelling cell low count start ≡ Some (es, end)) where
-    -- where all are read, there are no more than fan of them
+    -- if all are read, there are no more than fan of them
     pub whole-few : count ≤ s.fan
     whole-few =
         let few : s.fan < count → ⊥ = λ many. nothing_read (es, end) (sym (read-many s short spelling cell low count start many) ∙ whole) in
@@ -104,7 +105,7 @@ last_of (suc at) key = Some key
 pub last_of-next : (at : ℕ) (key : List ℕ) → last_of (at + 1) key ≡ Some key
 last_of-next at key = rw add-one refl
 
--- a key is above the one before it, where there is one, if it stands so to the key by which it is spelled
+-- a key is above the key before it, if there is one, if it is above the key after which it is encoded
 module _ (at : ℕ) (key k : List ℕ) (rises : Bool) (is : rises ≡ is_lt (order key k)) where
   pub last_of-above : (0 < at → rises ≡ true) → is_above (last_of at key) k ≡ true
   last_of-above = of at
@@ -136,7 +137,7 @@ module _ {V : Type 0} (s : Settings) (short : V → Bool) (spelling : Spelling) 
   abbrev of_entries : Option (List (List ℕ × V) × List ℕ) → Option ((List ℕ × List (List ℕ × V)) × List ℕ)
   of_entries o = read_where (λ p. is_full s short p.0 p.1) (read_as (λ es. (low, es)) o)
 
-  -- once the low key and the count are read
+  -- after the low key and the count are read
   full-of_entries : read_full ≡ of_entries (read_base spelling cell low count rest)
   full-of_entries =
       ap (λ (o : Option (List ℕ × List ℕ)). read_where (λ p. is_full s short p.0 p.1) (read_on o (λ x more. read_as (λ es. (x, es)) (read_on (read_number 2 more) (read_base spelling cell x)))))
@@ -213,7 +214,7 @@ module _ (g : Format) (bs : List ℕ) (number len pid : ℕ) (body : List ℕ) (
     pub skim-reported : (size : ℕ) → (len ≡ 8 + (length body - length rest)) × (size ≡ length bs - length rest) → is_pid pid ≡ true → IsReadOf g bs (with_content pid c) size
     skim-reported size exact word = rw exact.1 (frame-answered g bs number len pid body bytes head (with_content pid c) rest allowed exact.0 word).0
 
--- the bytes of a frame that was read stand at the front
+-- the bytes begin with the encoding of a decoded frame
 pub frame-taken : (g : Format) (bs : List ℕ) (f : Frame) (n : ℕ) → AreBytes bs → IsReadOf g bs f n → take n bs ≡ bytes_of f
 frame-taken g bs f n bytes read =
     ap (take n) (frame-stands g bs f (drop n bs) bytes read.found).bytes

@@ -1,4 +1,4 @@
--- What a log of version 1 may have, one of version 2 may have too.
+-- Whatever a log of version 1 may contain, a log of version 2 may contain too.
 use Rattle.std.proofs.Common.{◌≡◌, ℕ, true, List, Some, refl, ◌∙◌, ap}
 use Rattle.std.proofs.lemmas.Bool.{and_parts}
 use Rattle.std.specs.Cmp.Derive.{both_true}

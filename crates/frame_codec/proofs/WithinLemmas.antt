@@ -1,4 +1,4 @@
--- The tests of a frame's content pass where the facts hold that are asked of a page: for the proofs of the crates above.
+-- The tests of a frame's content pass if the page satisfies the requirements on pages: for the proofs of the crates above.
 use Rattle.std.specs.Prelude.{◌≡◌, ℕ, ◌^◌, ◌<◌, ◌≤◌, Bool, true, ◌&&◌, List, [], ◌∷◌, Option, Some, None, length}
 use Rattle.std.proofs.Common.{refl, Decides, le-leb, leb-true}
 use Rattle.std.proofs.lemmas.Bool.{and_parts, lt-ltb, ltb-true}
@@ -54,7 +54,7 @@ module _ {V : Type 0} (s : Settings) (test : V → Bool) (Is : V → Type 0) (d 
       let both = Decides-and (is_key s c.0) (of_cell test c.1) (decides_le (length c.0) s.max_key) (decides-cell c.1) in
       (λ h. let facts = both.0 h in record { key = facts.0; cell = facts.1 }, λ k. both.1 (k.key, k.cell))
 
-  -- a run that may stand in a frame
+  -- a run that a frame may contain
   pub decides-run : (run : List (List ℕ × Option V)) → Decides (is_run s test run) (IsRunSized s run × IsRising run × AllByRecursion (IsShortChange s Is) run)
   decides-run run =
       let rising = decides-rising run in
@@ -75,7 +75,7 @@ module _ {V : Type 0} (s : Settings) (test : V → Bool) (Is : V → Type 0) (d 
   all_entries [] = (λ h. tt, λ h. refl)
   all_entries (e ∷ es) = Decides-and (is_key s e.0 && test e.1) (list_all (λ e. is_key s e.0 && test e.1) es) (decides-entry e) (all_entries es)
 
-  -- a low key and a base that may stand in a frame
+  -- a low key and a base that a frame may contain
   pub decides-full : (low : List ℕ) (base : List (List ℕ × V)) →
       Decides (is_full s test low base) ((length low ≤ s.max_key) × (length base ≤ s.fan) × IsRising base × AllByRecursion (IsShortChange s Is) (as_changes base))
   decides-full low base =

@@ -1,4 +1,4 @@
--- Entries that are spelled one after the other, by place.
+-- Entries that are encoded one after the other, by place.
 use Rattle.std.proofs.Common.{◌≡◌, ℕ, zero, suc, ◌+◌, ◌-◌, ◌<◌, ◌≤◌, Bool, true, ◌&&◌, List, [], ◌∷◌, ◌++◌, length, drop, flat_map, slice_get, Option, Some, Vec, refl, sym, ap, subst, ◌∙◌, arith, add-one, append_assoc, length-append}
 use Rattle.std.proofs.lemmas.List.{append-nil, drop_all, length-drop}
 use Rattle.std.proofs.Math.Nat.{mod-eq_of_lt}
@@ -36,7 +36,7 @@ module _ {Z : Type 0} where
         room = omega arith;
       }
 
--- what is left of the whole is to come; what was before it was appended to what stood there
+-- the rest is still to come; the part before it was appended to the old bytes
 pub record IsPartOf {Z : Type 0} (whole left : List ℕ) (old now : Vec ℕ Z) : Type 0 where
   pub done : List ℕ
   pub appended : IsAppended old now done
@@ -66,7 +66,7 @@ module _ {Z : Type 0} (whole : List ℕ) where
       let same : part.done ≡ whole = sym (append-nil part.done) ∙ ap (λ (zs : List ℕ). part.done ++ zs) (sym none) ∙ part.all in
       rw same at part.appended
 
--- ---- what stands at a place
+-- ---- the entry at a place
 
 module _ {X : Type 0} where
   pub spellable-at : (cell : Codec X) (es : List (List ℕ × X)) (at : ℕ) (k : List ℕ) (v : X) → AreSpellable cell es
@@ -99,7 +99,7 @@ base-at_end Whole cell before = refl
 base-at_end Shared cell before = refl
 
 module _ {X : Type 0} (spelling : Spelling) (cell : Codec X) (low : List ℕ) (es : List (List ℕ × X)) where
-  -- the spellings of the entries from a place on, the first by the key before it
+  -- the encoded entries from a place on, the first one after the key before it
   abbrev pub spelled_from : List ℕ → ℕ → List ℕ
   spelled_from before at = spell_base spelling cell before (drop at es)
 
@@ -118,7 +118,7 @@ module _ {X : Type 0} (spelling : Spelling) (cell : Codec X) (low : List ℕ) (e
   pub spelled-at_end : (before : List ℕ) (at : ℕ) → length es ≤ at → spelled_from before at ≡ []
   spelled-at_end before at l = ap (spell_base spelling cell before) (drop_all at es l) ∙ base-at_end spelling cell before
 
-  -- the entries before this place were appended to what stood there before the first of them, and the next is spelled by this key
+  -- the entries before this place were appended to the old bytes, and the next entry is encoded after this key
   abbrev pub IsUpTo : {Z : Type 0} → List ℕ → ℕ → Vec ℕ Z → Vec ℕ Z → Type 0
   IsUpTo before at old now = IsPartOf (spelled_from low 0) (spelled_from before at) old now
 
@@ -143,7 +143,7 @@ module _ {X : Type 0} (spelling : Spelling) (cell : Codec X) (low : List ℕ) (e
       pub upto-done : length es ≤ at → IsAppended old now (spell_base spelling cell low es)
       upto-done l = part-done (spelled_from low 0) (spelled_from before at) old now (spelled-at_end before at l) up
 
--- one byte is its own spelling
+-- a byte is encoded as itself
 byte_spelled : (n : ℕ) → n < 256 → (number 1).spell n ≡ n ∷ []
 byte_spelled n h = ap (λ (m : ℕ). m ∷ []) (mod-eq_of_lt h)
 
@@ -169,7 +169,7 @@ sharing-appended before k old one two new shared count rest few e r c first seco
 
 -- ---- frames
 
--- what stands after the pid was appended to what stands before it
+-- the bytes after the pid were appended to those before it
 pub framed-whole : {Z : Type 0} (old mid new : Vec ℕ Z) (kind pid n : ℕ) (bytes : List ℕ) → n ≡ length bytes
     → IsAppended old mid (header.spell ((kind, pid_size + n), pid)) → IsAppended mid new bytes → new.items ≡ old.items ++ framed kind pid bytes
 framed-whole old mid new kind pid n bytes e head following =

@@ -1,29 +1,29 @@
--- Codecs that are made of others.
+-- Codecs that are composed of others.
 use Rattle.std.specs.Prelude.{ℕ, zero, suc, nat_eq, ◌==◌, List, [], ◌∷◌, ◌++◌, length, take, drop, flat_map, Option, Some, None}
 use Rattle.std.specs.List.{common_prefix_len}
 use Rattle.keys.specs.Bytes.{Bytes, Pairs}
 use Rattle.keys.specs.Cells.{Codec, read_on, read_as, read_where, number, read_bytes}
 
--- two things, one after the other
+-- a pair of values, one after the other
 abbrev pub both : {X Y : Type 0} → Codec X → Codec Y → Codec (X × Y)
 both c d = record {
   spell = λ p. c.spell p.0 ++ d.spell p.1;
   read = λ bs. read_on (c.read bs) (λ x rest. read_as (λ y. (x, y)) (d.read rest));
 }
 
--- two things, the second spelled by the first
+-- a pair of values, where the first one determines the encoding of the second
 abbrev pub both_by : {X Y : Type 0} → Codec X → (X → Codec Y) → Codec (X × Y)
 both_by c d = record {
   spell = λ p. c.spell p.0 ++ (d p.0).spell p.1;
   read = λ bs. read_on (c.read bs) (λ x rest. read_as (λ y. (x, y)) ((d x).read rest));
 }
 
--- n things, one after the other
+-- n values, one after the other
 abbrev pub read_each : {X : Type 0} → Codec X → ℕ → Bytes → Option (List X × Bytes)
 read_each c zero bs = Some ([], bs)
 read_each c (suc n) bs = read_on (c.read bs) (λ x rest. read_as (λ xs. x ∷ xs) (read_each c n rest))
 
--- a list: how long it is, in two bytes, and then each of it
+-- a list: its length, in two bytes, and then its elements
 abbrev pub listed : {X : Type 0} → Codec X → Codec (List X)
 listed c = record {
   spell = λ xs. (number 2).spell (length xs) ++ flat_map c.spell xs;
@@ -35,7 +35,7 @@ abbrev pub spell_flag : {V : Type 0} → Codec V → Option V → Bytes
 spell_flag c None = 0 ∷ []
 spell_flag c (Some v) = 1 ∷ c.spell v
 
--- the same as it is read; there is no other flag
+-- its decoder; there is no other flag
 abbrev pub read_flag : {V : Type 0} → Codec V → Bytes → Option (Option V × Bytes)
 read_flag c [] = None
 read_flag c (zero ∷ bs) = Some (None, bs)
@@ -46,37 +46,37 @@ read_flag c (suc (suc n) ∷ bs) = None
 abbrev pub flagged : {V : Type 0} → Codec V → Codec (Option V)
 flagged c = record { spell = spell_flag c; read = read_flag c }
 
--- ---- keys that share beginnings
+-- ---- prefix-compressed keys
 
--- bytes: how many there are, in one byte, and then they themselves
+-- bytes with their length, in one byte, before them
 abbrev pub counted_short : Codec Bytes
 counted_short = record { spell = λ bs. (number 1).spell (length bs) ++ bs; read = λ bs. read_on ((number 1).read bs) read_bytes }
 
--- how long the longest common beginning of two keys is
+-- the length of the longest common prefix of two keys
 abbrev pub common : Bytes → Bytes → ℕ
 common = common_prefix_len nat_eq
 
--- how many bytes a key shares with the one before, in one byte, and the rest of it
+-- the length of the prefix that a key shares with the key before it, in one byte, and the rest of the key
 abbrev pub shared_and_rest : Codec (ℕ × Bytes)
 shared_and_rest = both (number 1) counted_short
 
--- the key that begins with a number of bytes of the one before, and goes on with the rest
+-- a key from the key before it, the length of the shared prefix and the rest
 abbrev pub rejoined : Bytes → ℕ × Bytes → Bytes
 rejoined before p = take p.0 before ++ p.1
 
--- a key by the one before: it shares all that the two have in common at their beginnings, and no other number is read
+-- a key, given the key before it: its encoding uses the longest common prefix, and no shorter prefix is decoded
 abbrev pub sharing : Bytes → Codec Bytes
 sharing before = record {
   spell = λ k. shared_and_rest.spell (common before k, drop (common before k) k);
   read = λ bs. read_as (rejoined before) (read_where (λ p. common before (rejoined before p) == p.0) (shared_and_rest.read bs));
 }
 
--- entries, each spelled by the key before it, and the first by the one given
+-- entries, each encoded after the key before it, and the first one after the given key
 abbrev pub spell_in_turn : {V : Type 0} → (Bytes → Codec (Bytes × V)) → Bytes → Pairs V → Bytes
 spell_in_turn entry before [] = []
 spell_in_turn entry before (e ∷ es) = (entry before).spell e ++ spell_in_turn entry e.0 es
 
--- n such entries as they are read
+-- the decoder of n such entries
 abbrev pub read_in_turn : {V : Type 0} → (Bytes → Codec (Bytes × V)) → Bytes → ℕ → Bytes → Option (Pairs V × Bytes)
 read_in_turn entry before zero bs = Some ([], bs)
 read_in_turn entry before (suc n) bs = read_on ((entry before).read bs) (λ e rest. read_as (λ es. e ∷ es) (read_in_turn entry e.0 n rest))

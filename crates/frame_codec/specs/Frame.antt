@@ -1,5 +1,5 @@
--- A frame of the log: what it says of a page, its bytes, and which frames a log with given settings and of a given version may have.
--- A further kind is a further case of each definition on `Content` and a further line of `read_content`.
+-- A frame of the log: what it records about a page, its encoding in bytes, and which frames a log with given settings and of a given version may
+-- contain. A new kind needs a new case in each definition on `Content` and a new line in `read_content`.
 use Rattle.std.specs.Prelude.{ℕ, ◌+◌, ◌^◌, Bool, true, false, ◌&&◌, nat_le, nat_lt, [], ◌++◌, length, flat_map, Option}
 use Rattle.std.specs.List.{list_all}
 use Rattle.std.specs.Map.{keys_of}
@@ -15,7 +15,7 @@ use Rattle.keys.specs.declared.version.Version.{Version}
 use Rattle.keys.specs.declared.version.Version.TheVariants.{One, Two}
 use Rattle.frame_codec.specs.Codecs.{both, both_by, read_each, listed, flagged, sharing, spell_in_turn, read_in_turn}
 
--- the page is a base under a low key, with its keys spelled so; or it got a run; or there is no such page
+-- a full image of a page, with its low key, its base and the encoding of the base's keys; or a run; or that the page was freed
 pub data Content : Type 0 where
   FullLeaf : Spelling → Bytes → Pairs Bytes → Content
   DeltaLeaf : Changes Bytes → Content
@@ -23,24 +23,24 @@ pub data Content : Type 0 where
   DeltaIndex : Changes ℕ → Content
   Free : Content
 
--- a frame: the pid of its page, and what it says of that
+-- a frame: the pid of its page, and what it records about the page
 pub record Frame : Type 0 where
   pub pid : ℕ
   pub content : Content
 
 -- ---- bytes
 
--- the entries of a base under its low key: each its key, and its cell
+-- the encoded entries of a base under its low key: for each its key and its cell
 abbrev pub spell_base : {V : Type 0} → Spelling → Codec V → Bytes → Pairs V → Bytes
 spell_base Whole cell low es = flat_map (both counted cell).spell es
 spell_base Shared cell low es = spell_in_turn (λ before. both (sharing before) cell) low es
 
--- a number of them as they are read
+-- the decoder of n entries
 abbrev pub read_base : {V : Type 0} → Spelling → Codec V → Bytes → ℕ → Bytes → Option (Pairs V × Bytes)
 read_base Whole cell low = read_each (both counted cell)
 read_base Shared cell low = read_in_turn (λ before. both (sharing before) cell) low
 
--- a base: how many entries it has, and then these
+-- a base: the number of its entries, and then the entries
 abbrev pub based : {V : Type 0} → Spelling → Codec V → Bytes → Codec (Pairs V)
 based spelling cell low = record {
   spell = λ es. (number 2).spell (length es) ++ spell_base spelling cell low es;
@@ -51,11 +51,11 @@ based spelling cell low = record {
 abbrev pub full : {V : Type 0} → Spelling → Codec V → Codec (Bytes × Pairs V)
 full spelling cell = both_by counted (based spelling cell)
 
--- a run, of keys with their cells or none
+-- a run: keys, each with a cell or its absence
 abbrev pub delta : {V : Type 0} → Codec V → Codec (Changes V)
 delta cell = listed (both counted (flagged cell))
 
--- the number that names the kind of a base's frame: of a leaf, and of an index page
+-- the kind number of a full image, for a leaf and for an index page
 abbrev pub leaf_kind : Spelling → ℕ
 leaf_kind Whole = 1
 leaf_kind Shared = 6
@@ -64,7 +64,7 @@ abbrev pub index_kind : Spelling → ℕ
 index_kind Whole = 3
 index_kind Shared = 7
 
--- the number that names the kind
+-- the kind number of a content
 abbrev pub kind_of : Content → ℕ
 kind_of (FullLeaf spelling low base) = leaf_kind spelling
 kind_of (DeltaLeaf run) = 2
@@ -80,7 +80,7 @@ content_bytes (FullIndex spelling low base) = (full spelling pid_cell).spell (lo
 content_bytes (DeltaIndex run) = (delta pid_cell).spell run
 content_bytes Free = []
 
--- what every frame begins with: its kind, the length of all that follows the length, and the pid
+-- the header of every frame: its kind, the number of bytes after the length field, and the pid
 abbrev pub header : Codec ((ℕ × ℕ) × ℕ)
 header = both (both (number 1) (number 4)) pid_cell
 
@@ -88,7 +88,7 @@ header = both (both (number 1) (number 4)) pid_cell
 abbrev pub bytes_of : Frame → Bytes
 bytes_of f = header.spell ((kind_of f.content, pid_size + length (content_bytes f.content)), f.pid) ++ content_bytes f.content
 
--- ---- within settings
+-- ---- limits by settings
 
 -- a pid is a number of 64 bits
 abbrev pub is_pid : ℕ → Bool
@@ -98,7 +98,7 @@ is_pid p = nat_lt p (2 ^ 64)
 abbrev pub is_key : Settings → Bytes → Bool
 is_key s k = nat_le (length k) s.max_key
 
--- there are no more than fan, their keys rise, and each key and what it has are within the settings
+-- there are at most `fan` entries, their keys rise, and each key and what follows it are within the settings
 abbrev pub are_entries : {X : Type 0} → Settings → (X → Bool) → Pairs X → Bool
 are_entries s is_short es = nat_le (length es) s.fan && do_rise (keys_of es) && list_all (λ e. is_key s e.0 && is_short e.1) es
 
@@ -106,11 +106,11 @@ are_entries s is_short es = nat_le (length es) s.fan && do_rise (keys_of es) && 
 abbrev pub is_full : {V : Type 0} → Settings → (V → Bool) → Bytes → Pairs V → Bool
 is_full s is_short low base = is_key s low && are_entries s is_short base
 
--- a run, which has one change at least
+-- a run, which has at least one change
 abbrev pub is_run : {V : Type 0} → Settings → (V → Bool) → Changes V → Bool
 is_run s is_short run = nat_lt 0 (length run) && are_entries s (of_cell is_short) run
 
--- what is asked of a content, by its kind
+-- the limits of a content, by its kind
 abbrev pub is_content : Settings → Content → Bool
 is_content s (FullLeaf spelling low base) = is_full s (is_short_value s) low base
 is_content s (DeltaLeaf run) = is_run s (is_short_value s) run
@@ -118,15 +118,15 @@ is_content s (FullIndex spelling low base) = is_full s is_pid low base
 is_content s (DeltaIndex run) = is_run s is_pid run
 is_content s Free = true
 
--- ---- within a version
+-- ---- limits by version
 
--- a log of this version may have keys that are spelled so
+-- a log of this version may contain keys with this encoding
 abbrev pub is_known : Version → Spelling → Bool
 is_known One Whole = true
 is_known One Shared = false
 is_known Two spelling = true
 
--- and so the keys of the content are
+-- the version knows the key encoding of the content
 abbrev pub is_readable : Version → Content → Bool
 is_readable version (FullLeaf spelling low base) = is_known version spelling
 is_readable version (DeltaLeaf run) = true
@@ -134,12 +134,12 @@ is_readable version (FullIndex spelling low base) = is_known version spelling
 is_readable version (DeltaIndex run) = true
 is_readable version Free = true
 
--- ---- within a format
+-- ---- limits by format
 
--- the content is one that a log of this format may have
+-- a log of this format may contain the content
 abbrev pub is_allowed : Format → Content → Bool
 is_allowed format c = is_readable format.version c && is_content format.settings c
 
--- and so is the frame
+-- a log of this format may contain the frame
 abbrev pub is_frame : Format → Frame → Bool
 is_frame format f = is_pid f.pid && is_allowed format f.content

@@ -1,4 +1,4 @@
--- Which frame the code's frame stands for, and what code that reads found.
+-- The definitions' frame for the code's frame, and the results of the code that decodes frames.
 use Rattle.frame_codec.specs.declared.frame.Frame as code
 use Rattle.frame_codec.specs.declared.frame.Frame.TheVariants as kinds
 use Rattle.frame_codec.specs.Frame.{Frame}

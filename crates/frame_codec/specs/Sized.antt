@@ -1,4 +1,4 @@
--- What can be known of a page that nobody looked at: the sizes, but not that page ids are of 64 bits, which their reader sees.
+-- What is known about a page without reading it: the sizes are within the settings, but page ids may exceed 64 bits, which a decoder excludes.
 use Rattle.std.specs.Prelude.{◌≡◌, ℕ, ◌+◌, Bool, true, ◌++◌, length, None}
 use Rattle.keys.specs.Bytes.{Bytes}
 use Rattle.keys.specs.Limits.{first_bad_field}
@@ -9,7 +9,7 @@ use Rattle.frame_codec.specs.declared.format.Format.{Format}
 use Rattle.frame_codec.specs.Frame.{Content, Frame, header, is_full, is_run, is_readable, is_frame}
 use Rattle.frame_codec.specs.Frame.Content.{FullLeaf, DeltaLeaf, FullIndex, DeltaIndex, Free}
 
--- what is asked of a content, but for its page ids
+-- the limits of a content, without those of its page ids
 abbrev pub has_sizes : Settings → Content → Bool
 has_sizes s (FullLeaf spelling low base) = is_full s (is_short_value s) low base
 has_sizes s (DeltaLeaf run) = is_run s (is_short_value s) run
@@ -17,11 +17,11 @@ has_sizes s (FullIndex spelling low base) = is_full s is_any_pid low base
 has_sizes s (DeltaIndex run) = is_run s is_any_pid run
 has_sizes s Free = true
 
--- a store may have a page with this content, by its sizes
+-- the sizes allow some store to have a page with this content
 abbrev pub IsSized : Content → Type 0
 IsSized c = (s : Settings) × (first_bad_field s ≡ None) × (has_sizes s c ≡ true)
 
--- the page ids are of 64 bits: it is a frame of each log that may have its spelling, and whose store may have it by its sizes
+-- all page ids have 64 bits: a log may contain the frame if its version knows the key encoding and the sizes are within the store's settings
 abbrev pub HasWords : Frame → Type 0
 HasWords f = (g : Format) → is_readable g.version f.content ≡ true → has_sizes g.settings f.content ≡ true → is_frame g f ≡ true
 

@@ -1,4 +1,4 @@
--- How many bytes a frame has.
+-- The size of a frame in bytes.
 use Rattle.std.specs.Prelude.{ℕ, ◌+◌, [], ◌∷◌, length, drop, Option, Some, None, sum_by}
 use Rattle.keys.specs.Bytes.{Bytes, Pairs}
 use Rattle.keys.specs.Sizes.{length_size, pid_size, frame_header_size, full_header_size, delta_header_size, pair_header_size, child_header_size, change_header_size}
@@ -8,22 +8,22 @@ use Rattle.frame_codec.specs.Codecs.{common}
 use Rattle.frame_codec.specs.Frame.{Content}
 use Rattle.frame_codec.specs.Frame.Content.{FullLeaf, DeltaLeaf, FullIndex, DeltaIndex, Free}
 
--- the size of a cell, and nothing where it is absent
+-- the size of a cell, or zero if it is absent
 abbrev pub where_present : {V : Type 0} → (V → ℕ) → Option V → ℕ
 where_present size None = 0
 where_present size (Some v) = size v
 
--- entries with what each key doesn't share with the one before it
+-- entries, each with that part of its key which the key before it doesn't share
 abbrev pub rests : {V : Type 0} → Bytes → Pairs V → Pairs V
 rests before [] = []
 rests before (e ∷ es) = (drop (common before e.0) e.0, e.1) ∷ rests e.0 es
 
--- entries with what is spelled of each key
+-- entries, each with the part of its key that is stored
 abbrev pub spelled : {V : Type 0} → Spelling → Bytes → Pairs V → Pairs V
 spelled Whole low es = es
 spelled Shared low es = rests low es
 
--- the size of a frame with this content, from its kind to its last byte
+-- the size of a frame with this content, including its header
 abbrev pub size_of : Content → ℕ
 size_of (FullLeaf spelling low base) =
     full_header_size + length low + sum_by (λ e. pair_header_size + length e.0 + length e.1) (spelled spelling low base)

@@ -1,4 +1,4 @@
--- A frame that was identified and not decoded.
+-- A frame that was identified without decoding its content.
 use Rattle.std.specs.Prelude.{◌≡◌, Bool, true, Option, Some, None}
 use Rattle.std.specs.Ordering.{is_lt}
 use Rattle.keys.specs.Bytes.{Bytes}
@@ -17,7 +17,7 @@ kind_of (FullIndex spelling low base) = kinds.FullIndex
 kind_of (DeltaIndex run) = kinds.DeltaIndex
 kind_of Free = kinds.Free
 
--- it is this frame that was identified so
+-- the identified frame is this one
 abbrev pub IsSkimmed : Skimmed → Frame → Type 0
 IsSkimmed k f = (f.pid ≡ k.pid) × (kind_of f.content ≡ k.kind)
 

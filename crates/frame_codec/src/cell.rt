@@ -1,4 +1,4 @@
-//! What a page has at a key, as frames spell it: a value or a page id, and the absence of either.
+//! Cells in frames: a value or a page id, or the absence of either.
 ghost use Rattle.std.specs.Prelude.{◌≡◌, ℕ, ◌+◌, ◌<◌, true, length, None, Some, IfOk, MatchOption};
 ghost use Rattle.std.specs.Option.{option_copied};
 ghost use Rattle.keys.specs.Bytes.{Bytes};
@@ -11,18 +11,18 @@ use crate::parts::{append_byte, append_counted, append_pid, read_counted, read_p
 use keys::{Pid, Settings, Value};
 use std::alloc::{AllocError, Global};
 
-/// What frames have after a key: a cell, or a change, which is a cell or its absence.
+/// What follows a key in a frame: a cell, or a change, which is a cell or its absence.
 pub(crate) trait Spelled {
     ghost use Rattle.std.specs.Prelude.{Bool};
     ghost use Rattle.keys.specs.Cells.{Codec};
     ghost use Rattle.keys.specs.declared.settings.Settings as limits;
 
-    // How it is spelled, and which a frame may have under settings.
+    // The encoding, and which cells a frame may contain under the settings.
     ghost codec: { Codec Self };
 
     ghost is_short: { limits.Settings → Self → Bool };
 
-    /// Skips what is at the front, if a frame may have it, and returns the bytes after it.
+    /// Skips the cell at the front, if a frame may contain it, and returns the bytes after it.
     fn skip<'a>(bytes: &'a [u8], settings: &Settings) -> Option<&'a [u8]>
         ensures { let read = read_where (is_short settings.now) (codec.read bytes.now) in
             MatchOption result (read ≡ None)
@@ -34,12 +34,14 @@ pub(crate) trait FrameCell: Spelled + Drop {
     ghost use Rattle.std.specs.Prelude.{Bool, true};
     ghost use Rattle.keys.specs.declared.settings.Settings as limits;
 
-    // The two halves of `is_short`: what is known of a cell unread, and what reading it shows.
+    // The two halves of `is_short`: the part that is known of a cell without reading it, and the part that reading it
+    // shows.
     ghost has_size: { limits.Settings → Self → Bool };
 
     ghost is_word: { Self → Bool };
 
-    /// The cell at the front, if a frame may have it, with the bytes after it.
+    /// Decodes the cell at the front, if a frame may contain it, and returns it with the bytes
+    /// after it.
     fn read<'a>(
         alloc: Global,
         bytes: &'a [u8],
@@ -50,19 +52,19 @@ pub(crate) trait FrameCell: Spelled + Drop {
             (λ p. read_where (Self.is_short settings.now) (Self.codec.read bytes.now)
             ≡ Some (p.0, p.1.now))) };
 
-    /// How many bytes the cell takes.
+    /// Returns the number of bytes of the encoded cell.
     fn spelled_len(&self) -> usize
         requires { IsCount (length (Self.codec.spell self.now)) }
         ensures { result ≡ length (Self.codec.spell self.now) };
 
-    /// Appends the cell. There is room for it.
+    /// Appends the encoded cell. `out` has room for it.
     fn append(&self, out: &mut Vec<u8>)
         requires small { IsCount (length (Self.codec.spell self.now)) }
         requires room { HasRoomFor out.old (length (Self.codec.spell self.now)) }
         ensures bytes { IsAppended out.old out.new (Self.codec.spell self.now) }
         ensures word { is_word self.now ≡ true };
 
-    // The two together are what is asked of a frame.
+    // Together, the two halves are the requirement for frames.
     ghost is_short_by_both: { (s : limits.Settings) (cell : Self) → has_size s cell ≡ true →
         is_word cell ≡ true → Self.is_short s cell ≡ true };
 }
@@ -200,7 +202,8 @@ impl<V: Spelled> Spelled for Option<V> {
     }
 }
 
-/// The flag at the front, and the cell after a flag 1, if a frame may have it, with the bytes after that.
+/// Decodes the flag at the front, and after a flag 1 the cell, if a frame may contain it. Returns the change with the
+/// bytes after it.
 pub(crate) fn read_flagged<'a, V: FrameCell>(
     alloc: Global,
     bytes: &'a [u8],
@@ -221,7 +224,7 @@ pub(crate) fn read_flagged<'a, V: FrameCell>(
     }
 }
 
-/// How many bytes the flag takes, with the cell where there is one.
+/// The number of bytes of the flag and, if there is one, the cell.
 pub(crate) fn flagged_len<V: FrameCell>(cell: Option<&V>) -> usize
     requires { IsCount (length (spell_flag V.codec (option_copied cell))) }
     ensures { result ≡ length (spell_flag V.codec (option_copied cell.entry)) }
@@ -232,7 +235,7 @@ pub(crate) fn flagged_len<V: FrameCell>(cell: Option<&V>) -> usize
     }
 }
 
-/// Appends the flag, and the cell where there is one. There is room for them.
+/// Appends the flag and, if there is one, the cell. `out` has room for them.
 pub(crate) fn append_flagged<V: FrameCell>(out: &mut Vec<u8>, cell: Option<&V>)
     requires small { IsCount (length (spell_flag V.codec (option_copied cell))) }
     requires room { HasRoomFor out.old (length (spell_flag V.codec (option_copied cell))) }

@@ -1,19 +1,20 @@
-//! What a reader of a log knows of it besides its bytes, and how keys are spelled.
+//! The format of a log: what a reader must know besides its bytes, and how keys are encoded.
 ghost use Rattle.std.specs.Prelude.{◌≡◌};
 ghost use Rattle.frame_codec.specs.Frame.{is_known};
 
 use keys::{Settings, Version};
 
-/// How a frame spells the keys of a base.
+/// The encoding of a base's keys in a frame.
 #[derive(Clone, Copy, Debug, PartialEq, Eq)]
 pub enum Spelling {
-    /// Each key as it is.
+    /// Each key is stored whole.
     Whole,
-    /// Each key by what it shares with the key before it at its beginning, the first one with the low key.
+    /// Prefix compression: each key is stored without the prefix that it shares with the key before it, the first key
+    /// without the prefix that it shares with the low key.
     Shared,
 }
 
-/// What a reader of a log's frames needs besides their bytes.
+/// What a reader of a log's frames must know besides their bytes.
 #[derive(Clone, Copy, Debug, PartialEq, Eq)]
 pub struct Format {
     /// The settings of the store.
@@ -23,7 +24,7 @@ pub struct Format {
 }
 
 impl Format {
-    /// Whether a log of this format may have a base whose keys are spelled so.
+    /// Returns whether a log of this format may contain a base with this key encoding.
     pub fn knows(&self, spelling: Spelling) -> bool
         ensures { result ≡ is_known self.now.version spelling }
     {

@@ -1,38 +1,38 @@
-//! A frame of the log as a value, as a reader of segments keeps it.
+//! A decoded frame of the log.
 use crate::format::Spelling;
 use delta_chain::{Base, Run};
 use keys::{Key, Pid, Value};
 use std::alloc::Global;
 
-/// A frame of the log: what it says of the page with this id. `frame_of` of `specs/Shown.antt` is the frame of the
-/// definitions that it stands for.
+/// A frame of the log: a record about the page with this id. `frame_of` of `specs/Shown.antt` is the corresponding
+/// frame of the definitions.
 #[derive(Drop)]
 pub enum Frame {
-    /// The page is a leaf, with this base under this low key; so are its keys spelled.
+    /// A full image of a leaf: its low key, its base, and the encoding of the base's keys.
     FullLeaf {
         pid: Pid,
         spelling: Spelling,
         low: Key<Global>,
         base: Base<Value<Global>, Global>,
     },
-    /// The page, a leaf, got this run.
+    /// A run that was prepended to a leaf.
     DeltaLeaf {
         pid: Pid,
         run: Run<Value<Global>, Global>,
     },
-    /// The page is an index page, with this base under this low key; so are its keys spelled.
+    /// A full image of an index page: its low key, its base, and the encoding of the base's keys.
     FullIndex {
         pid: Pid,
         spelling: Spelling,
         low: Key<Global>,
         base: Base<Pid, Global>,
     },
-    /// The page, an index page, got this run.
+    /// A run that was prepended to an index page.
     DeltaIndex {
         pid: Pid,
         run: Run<Pid, Global>,
     },
-    /// There is no such page.
+    /// The page was freed.
     Free {
         pid: Pid,
     },

@@ -18,7 +18,7 @@ pub(crate) const SHARED_LEAF: u8 = 6;
 
 pub(crate) const SHARED_INDEX: u8 = 7;
 
-/// The kind of a leaf's base whose keys are spelled so.
+/// The kind number of a leaf's full image with this key encoding.
 pub(crate) fn leaf_kind(spelling: Spelling) -> u8
     ensures { result ≡ leaf_kind spelling }
 {
@@ -28,7 +28,7 @@ pub(crate) fn leaf_kind(spelling: Spelling) -> u8
     }
 }
 
-/// The kind of an index page's base whose keys are spelled so.
+/// The kind number of an index page's full image with this key encoding.
 pub(crate) fn index_kind(spelling: Spelling) -> u8
     ensures { result ≡ index_kind spelling }
 {

@@ -1,4 +1,4 @@
-//! The key before the next one, where keys are spelled by what they share with it.
+//! The previous key, from which the next prefix-compressed key is decoded.
 ghost use Rattle.std.specs.Prelude.{◌≡◌, ◌≢◌, ◌+◌, ◌≤◌, length, take, None, Some, MatchOption};
 ghost use Rattle.std.specs.Ordering.{is_lt};
 ghost use Rattle.keys.specs.Cells.{read_where};
@@ -11,13 +11,13 @@ use keys::Settings;
 use std::cmp::Ordering;
 use std::marker::Model;
 
-// The most bytes that one byte can count as shared with the key before, and as many after them.
+// A byte counts the shared prefix, and another one the rest of the key: at most 255 each.
 const ROOM: usize = 510;
 
-/// A key, kept in place, of up to 510 bytes. Contracts see it as the list of these.
+/// A key of up to 510 bytes, stored in place. Contracts see it as the list of its bytes.
 #[derive(Drop)]
 pub(crate) struct LastKey {
-    // How many of the places are in use, from the first on.
+    // How many of `places` are in use, from the first one on.
     len: usize,
     places: [u8; ROOM],
 }
@@ -33,7 +33,7 @@ impl Model for LastKey {
     ghost invariant = { λ k. k.len ≤ 510 };
 }
 
-// How the one compares to the other, if they have no first byte in common.
+// Compares the two by their first bytes. Returns `None` if they share the first byte.
 fn apart(one: &[u8], other: &[u8]) -> Option<Ordering>
     ensures { MatchOption result (common one.now other.now ≢ 0)
         (λ o. (common one.now other.now ≡ 0) × (o ≡ order one.now other.now)) }
@@ -49,8 +49,8 @@ fn apart(one: &[u8], other: &[u8]) -> Option<Ordering>
     }
 }
 
-// How the key compares to the one that begins with `shared` bytes of it and goes on with `rest`, if they part just there.
-// Only the bytes at that place need a look.
+// Compares `key` with the key made of its first `shared` bytes followed by `rest`, by the bytes at that place alone.
+// Returns `None` if they also share the byte there.
 fn parted(key: &[u8], shared: usize, rest: &[u8]) -> Option<Ordering>
     ensures { let next = rejoined key.now (shared, rest.now) in
         MatchOption result (common key.now next ≢ shared)
@@ -63,7 +63,6 @@ fn parted(key: &[u8], shared: usize, rest: &[u8]) -> Option<Ordering>
 }
 
 impl LastKey {
-    // The key of these bytes.
     fn of_bytes(bytes: &[u8]) -> Self
         requires { length bytes.now ≤ 510 }
         ensures { result ≡ bytes.now }
@@ -74,28 +73,26 @@ impl LastKey {
         LastKey { len, places }
     }
 
-    /// The first bytes of the low key: the first key is read by them as by all of it.
+    /// The first bytes of the low key. They are enough to decode the first key.
     pub(crate) fn of_low(low: &[u8]) -> Self
         ensures { result ≡ take 510 low.now }
     {
         LastKey::of_bytes(&low[..ROOM.min(low.len())])
     }
 
-    /// The bytes of the key.
     pub(crate) fn as_bytes(&self) -> &[u8]
         ensures { result.now ≡ self.now }
     {
         &self.places[..self.len]
     }
 
-    /// How many there are.
     pub(crate) fn len(&self) -> usize
         ensures { result ≡ length self.now }
     {
         self.len
     }
 
-    // Keeps `shared` bytes of the key, and appends `rest`.
+    // Keeps the first `shared` bytes of the key, and appends `rest`.
     fn go_on(&mut self, shared: usize, rest: &[u8])
         requires shared { shared ≤ length self.old }
         requires room { shared + length rest.now ≤ 510 }
@@ -106,8 +103,9 @@ impl LastKey {
         self.len = len;
     }
 
-    /// Becomes the key at the front, if that is no longer than settings allow: whether it is above the one before it, and the
-    /// bytes after it. Where there is no such key, it stays.
+    /// Decodes the key at the front, if it is no longer than the settings allow, and stores it as the previous key.
+    /// Returns whether it is above the old previous key, and the bytes after it. If there is no such key, nothing
+    /// changes.
     pub(crate) fn read_next<'a>(
         &mut self,
         bytes: &'a [u8],

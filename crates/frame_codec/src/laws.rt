@@ -1,4 +1,4 @@
-//! What the definitions of `specs/` mean. Each law is the contract of a function with an empty body.
+//! Laws about the definitions of `specs/`. Each law is the contract of a function with an empty body.
 ghost use Rattle.std.specs.Prelude.{◌≡◌, ℕ, ◌+◌, ◌<◌, ◌≤◌, ◌^◌, true, ◌++◌, length, Some, None};
 ghost use Rattle.std.specs.List.{AllByRecursion};
 ghost use Rattle.keys.specs.Bytes.{Bytes, Pairs, Names};
@@ -17,8 +17,8 @@ ghost use Rattle.frame_codec.specs.Frame.Content.{FullLeaf, DeltaLeaf, FullIndex
 ghost use Rattle.frame_codec.specs.Reading.{BeginsWithFrame, read_frame};
 ghost use Rattle.frame_codec.specs.Sizes.{size_of};
 
-/// A value of up to 65,535 bytes and a page id are read back from their cells, whatever follows them, and what is read of
-/// bytes stands there. No cell begins another.
+/// Values of up to 65,535 bytes and page ids are decoded from their cells, whatever follows them, and a decoded cell is
+/// encoded in the bytes. No cell is a prefix of another.
 pub fn a_cell_is_read_back()
     ensures value { (v : Bytes) → length v < 65536 → IsReadBack value_cell v }
     ensures pid { (p : ℕ) → p < 2 ^ 64 → IsReadBack pid_cell p }
@@ -31,27 +31,27 @@ pub fn a_cell_is_read_back()
         pid_cell.spell p ++ following ≡ pid_cell.spell q ++ other → (p ≡ q) × (following ≡ other) }
 {}
 
-/// A frame is read back from its bytes, whatever follows them.
+/// A frame is decoded from its bytes, whatever follows them.
 pub fn a_frame_is_read_back()
     ensures { (g : Format) (f : Frame) (rest : Bytes) → first_bad_field g.settings ≡ None →
         is_frame g f ≡ true → read_frame g (bytes_of f ++ rest) ≡ Some (f, rest) }
 {}
 
-/// A frame that is read of bytes is read of them too where more bytes follow.
+/// A frame that is decoded from some bytes is also decoded if more bytes follow.
 pub fn what_is_read_needs_no_byte_after_it()
     ensures { (g : Format) (bytes : Bytes) (f : Frame) (rest more : Bytes) →
         read_frame g bytes ≡ Some (f, rest) →
         read_frame g (bytes ++ more) ≡ Some (f, rest ++ more) }
 {}
 
-/// Two frames whose bytes begin alike are the same frame: no spelling begins another.
+/// Two frames that are prefixes of the same bytes are equal: no frame's encoding is a prefix of another's.
 pub fn a_frame_has_one_spelling()
     ensures { (g : Format) (e f : Frame) (following other : Bytes) →
         first_bad_field g.settings ≡ None → is_frame g e ≡ true → is_frame g f ≡ true →
         bytes_of e ++ following ≡ bytes_of f ++ other → (e ≡ f) × (following ≡ other) }
 {}
 
-/// The reader finds a frame just where bytes begin with one, and it finds that frame.
+/// The decoder returns a frame if and only if the bytes begin with one, and it returns that frame.
 pub fn what_is_read_is_what_stands_there()
     ensures found { (g : Format) (bytes : Bytes) (f : Frame) (rest : Bytes) → AreBytes bytes →
         read_frame g bytes ≡ Some (f, rest) → BeginsWithFrame g bytes f rest }
@@ -60,7 +60,7 @@ pub fn what_is_read_is_what_stands_there()
         read_frame g bytes ≡ None → BeginsWithFrame g bytes f rest → ⊥ }
 {}
 
-/// A frame of a log of version 1 is one of version 2, and is read alike.
+/// A frame of a log of version 1 is one of version 2, and is decoded alike.
 pub fn version_two_knows_what_version_one_knows()
     ensures frame { (s : Settings) (f : Frame) →
         is_frame (record { settings = s; version = One }) f ≡ true →
@@ -70,12 +70,12 @@ pub fn version_two_knows_what_version_one_knows()
         read_frame (record { settings = s; version = Two }) bytes ≡ Some (f, rest) }
 {}
 
-/// A frame has as many bytes as its fields give.
+/// The size of a frame follows from its fields.
 pub fn a_frame_has_its_size()
     ensures { (f : Frame) → length (bytes_of f) ≡ size_of f.content }
 {}
 
-/// A base takes no more bytes where its keys share beginnings than where they are whole.
+/// Prefix compression never makes a base longer.
 pub fn shared_keys_take_no_more()
     ensures leaf { (spelling : Spelling) (low : Bytes) (base : Pairs Bytes) →
         size_of (FullLeaf spelling low base) ≤ size_of (FullLeaf Whole low base) }
@@ -83,8 +83,8 @@ pub fn shared_keys_take_no_more()
         size_of (FullIndex spelling low base) ≤ size_of (FullIndex Whole low base) }
 {}
 
-/// The base of a page that is in order and within the settings is so as a frame, with its keys spelled in each way that the
-/// version knows, and so is each of its runs.
+/// If a page's base is in order and within the settings, its full image is a valid frame with each key encoding that
+/// the version knows, and so is the frame of each of its runs.
 pub fn a_page_has_frames_within_settings()
     ensures leaf { (g : Format) (spelling : Spelling) (pid : ℕ) (p : Page Bytes) →
         is_known g.version spelling ≡ true → pid < 2 ^ 64 → length p.low ≤ g.settings.max_key →

@@ -1,9 +1,10 @@
-//! What a frame of the log is: what each kind says of a page, its bytes, and which frames a log with given settings and of a
-//! given version may have. Frames are read from bytes, whatever these are, and are written from a page's own base and runs.
+//! The frames of the log: what each kind records about a page, its encoding in bytes, and which frames a log with given
+//! settings and of a given version may contain. Frames are decoded from arbitrary bytes, and encoded from a page's base
+//! and runs.
 //!
-//! Laws: a frame is read back from its bytes; no frame's bytes begin another's; what is read is what stands there; how many
-//! bytes a frame has; the base and the runs of a page are frames. The same of cells.
-//! Other crates name items by this root, and laws by the public module `laws`.
+//! Laws: a frame is decoded from its encoding; no encoding is a prefix of another; a decoded frame is encoded in the
+//! bytes; the size of a frame; the base and the runs of a page are frames. The same for cells. Other crates name items
+//! by this root, and laws by the public module `laws`.
 #![tactic(auto)]
 
 mod cell;

@@ -1,5 +1,5 @@
-//! The parts that frames are made of: numbers, and keys and values as they are spelled. Each is read by the definition's
-//! reader of it, and is appended to bytes that have room.
+//! The parts of frames: numbers, keys and values. The functions that decode them follow the definitions' decoders; the
+//! functions that encode them append to bytes that have room.
 ghost use Rattle.std.specs.Prelude.{◌≡◌, ◌≢◌, ◌+◌, ◌-◌, ◌≤◌, ◌∷◌, [], true, length, None, Some, MatchOption, IfSome};
 ghost use Rattle.keys.specs.Cells.{read_number, read_where, number, counted, pid_cell};
 ghost use Rattle.keys.specs.Sizes.{pid_size};
@@ -10,7 +10,7 @@ ghost use Rattle.frame_codec.specs.Frame.{header, is_pid, is_key};
 use byteorder::{BigEndian, ByteOrder};
 use keys::{Pid, Settings};
 
-/// The byte at the front, with the bytes after it.
+/// Decodes the byte at the front, and returns it with the bytes after it.
 pub(crate) fn read_byte(bytes: &[u8]) -> Option<(u8, &[u8])>
     ensures { MatchOption result (read_number 1 bytes.now ≡ None)
         (λ p. read_number 1 bytes.now ≡ Some (p.0, p.1.now)) }
@@ -19,7 +19,8 @@ pub(crate) fn read_byte(bytes: &[u8]) -> Option<(u8, &[u8])>
     Some((*first, rest))
 }
 
-/// The number of two bytes at the front, with the bytes after it. So lengths and counts are spelled.
+/// Decodes the two-byte number at the front, and returns it with the bytes after it. Lengths and counts are encoded in
+/// two bytes.
 pub(crate) fn read_length(bytes: &[u8]) -> Option<(usize, &[u8])>
     ensures number { MatchOption result (read_number 2 bytes.now ≡ None)
         (λ p. read_number 2 bytes.now ≡ Some (p.0, p.1.now)) }
@@ -31,7 +32,7 @@ pub(crate) fn read_length(bytes: &[u8]) -> Option<(usize, &[u8])>
     Some((BigEndian::read_u16(bytes) as usize, &bytes[2..]))
 }
 
-/// The number of four bytes at the front, with the bytes after it.
+/// Decodes the four-byte number at the front, and returns it with the bytes after it.
 pub(crate) fn read_u32(bytes: &[u8]) -> Option<(u32, &[u8])>
     ensures { MatchOption result (read_number 4 bytes.now ≡ None)
         (λ p. read_number 4 bytes.now ≡ Some (p.0, p.1.now)) }
@@ -42,7 +43,7 @@ pub(crate) fn read_u32(bytes: &[u8]) -> Option<(u32, &[u8])>
     Some((BigEndian::read_u32(bytes), &bytes[4..]))
 }
 
-/// The page id at the front, with the bytes after it.
+/// Decodes the page id at the front, and returns it with the bytes after it.
 pub(crate) fn read_pid(bytes: &[u8]) -> Option<(Pid, &[u8])>
     ensures number { MatchOption result (pid_cell.read bytes.now ≡ None)
         (λ p. pid_cell.read bytes.now ≡ Some (p.0, p.1.now)) }
@@ -54,7 +55,7 @@ pub(crate) fn read_pid(bytes: &[u8]) -> Option<(Pid, &[u8])>
     Some((Pid(BigEndian::read_u64(bytes)), &bytes[8..]))
 }
 
-/// The key or the value at the front, with the bytes after it.
+/// Decodes the key or the value at the front, and returns it with the bytes after it.
 pub(crate) fn read_counted(bytes: &[u8]) -> Option<(&[u8], &[u8])>
     ensures { MatchOption result (counted.read bytes.now ≡ None)
         (λ p. counted.read bytes.now ≡ Some (p.0.now, p.1.now)) }
@@ -66,7 +67,7 @@ pub(crate) fn read_counted(bytes: &[u8]) -> Option<(&[u8], &[u8])>
     Some(rest.split_at(len))
 }
 
-/// The bytes at the front whose number stands before them in one byte, with the bytes after them.
+/// Decodes the bytes at the front that follow their length in one byte, and returns them with the bytes after them.
 pub(crate) fn read_short(bytes: &[u8]) -> Option<(&[u8], &[u8])>
     ensures bytes { MatchOption result (counted_short.read bytes.now ≡ None)
         (λ p. counted_short.read bytes.now ≡ Some (p.0.now, p.1.now)) }
@@ -80,7 +81,7 @@ pub(crate) fn read_short(bytes: &[u8]) -> Option<(&[u8], &[u8])>
     Some(rest.split_at(len))
 }
 
-/// The kind at the front, the length and the number that is the page id, with the bytes after them.
+/// Decodes the frame header at the front: kind, length and page id. Returns them with the bytes after them.
 pub(crate) fn read_header(bytes: &[u8]) -> Option<(u8, u32, u64, &[u8])>
     ensures header { let read = header.read bytes.now in
         MatchOption result (read ≡ None) (λ p. read ≡ Some (((p.0, p.1), p.2), p.3.now)) }
@@ -94,7 +95,7 @@ pub(crate) fn read_header(bytes: &[u8]) -> Option<(u8, u32, u64, &[u8])>
     Some((kind, len, pid.0, rest))
 }
 
-/// The key at the front, if it is no longer than settings allow, with the bytes after it.
+/// Decodes the key at the front, if it is no longer than the settings allow, and returns it with the bytes after it.
 pub(crate) fn read_key<'a>(bytes: &'a [u8], settings: &Settings) -> Option<(&'a [u8], &'a [u8])>
     ensures { let read = read_where (is_key settings.now) (counted.read bytes.now) in
         MatchOption result (read ≡ None) (λ p. read ≡ Some (p.0.now, p.1.now)) }
@@ -106,7 +107,7 @@ pub(crate) fn read_key<'a>(bytes: &'a [u8], settings: &Settings) -> Option<(&'a 
     Some((key, rest))
 }
 
-/// How many bytes the frame takes whose content stands before the rest, if the length in its header is right.
+/// The size of the frame whose content is `content` without `rest`, if the length in its header is right.
 pub(crate) fn frame_size(bytes: &[u8], len: u32, content: &[u8], rest: &[u8]) -> Option<usize>
     requires following { length rest.now ≤ length content.now }
     requires within { length content.now ≤ length bytes.now }
@@ -121,7 +122,7 @@ pub(crate) fn frame_size(bytes: &[u8], len: u32, content: &[u8], rest: &[u8]) ->
     Some(bytes.len() - rest.len())
 }
 
-/// Appends the bytes. There is room for them, so that no memory is requested.
+/// Appends the bytes. There is room for them, so nothing is allocated.
 pub(crate) fn append(out: &mut Vec<u8>, bytes: &[u8])
     requires { HasRoomFor out.old (length bytes.now) }
     ensures { IsAppended out.old out.new bytes.now }
@@ -129,7 +130,6 @@ pub(crate) fn append(out: &mut Vec<u8>, bytes: &[u8])
     let _never_refused = out.extend_from_slice(bytes);
 }
 
-/// Appends a byte. There is room for it.
 pub(crate) fn append_byte(out: &mut Vec<u8>, byte: u8)
     requires { HasRoomFor out.old 1 }
     ensures { IsAppended out.old out.new (byte ∷ []) }
@@ -137,7 +137,6 @@ pub(crate) fn append_byte(out: &mut Vec<u8>, byte: u8)
     append(out, &[byte]);
 }
 
-/// Appends a number of two bytes. There is room for it.
 pub(crate) fn append_length(out: &mut Vec<u8>, count: usize)
     requires small { IsCount count }
     requires room { HasRoomFor out.old 2 }
@@ -148,7 +147,6 @@ pub(crate) fn append_length(out: &mut Vec<u8>, count: usize)
     append(out, &bytes);
 }
 
-/// Appends a number of four bytes. There is room for it.
 pub(crate) fn append_u32(out: &mut Vec<u8>, count: u32)
     requires { HasRoomFor out.old 4 }
     ensures { IsAppended out.old out.new ((number 4).spell count) }
@@ -158,7 +156,6 @@ pub(crate) fn append_u32(out: &mut Vec<u8>, count: u32)
     append(out, &bytes);
 }
 
-/// Appends a page id. There is room for it.
 pub(crate) fn append_pid(out: &mut Vec<u8>, pid: Pid)
     requires { HasRoomFor out.old 8 }
     ensures bytes { IsAppended out.old out.new (pid_cell.spell pid) }
@@ -169,7 +166,7 @@ pub(crate) fn append_pid(out: &mut Vec<u8>, pid: Pid)
     append(out, &bytes);
 }
 
-/// Appends a key or a value, as it is spelled. There is room for it.
+/// Appends a key or a value with its length. There is room for it.
 pub(crate) fn append_counted(out: &mut Vec<u8>, bytes: &[u8])
     requires small { IsCount (length bytes.now) }
     requires room { HasRoomFor out.old (2 + length bytes.now) }
@@ -179,7 +176,6 @@ pub(crate) fn append_counted(out: &mut Vec<u8>, bytes: &[u8])
     append(out, bytes);
 }
 
-// How many bytes the two begin with in common.
 fn common_len(one: &[u8], other: &[u8]) -> usize
     ensures same { result ≡ common one.now other.now }
     ensures within { result ≤ length other.now }
@@ -193,7 +189,7 @@ fn common_len(one: &[u8], other: &[u8]) -> usize
     most
 }
 
-/// How many bytes the spelling of the key by the one before it takes.
+/// The size of the prefix-compressed key, where `before` is the key before it.
 pub(crate) fn sharing_len(before: &[u8], key: &[u8]) -> usize
     requires { IsShortCount (length key.now) }
     ensures { result ≡ length ((sharing before.now).spell key.now) }
@@ -201,7 +197,7 @@ pub(crate) fn sharing_len(before: &[u8], key: &[u8]) -> usize
     2 + (key.len() - common_len(before, key))
 }
 
-/// Appends the key as it is spelled by the one before it. There is room for it.
+/// Appends the prefix-compressed key, where `before` is the key before it. There is room for it.
 pub(crate) fn append_sharing(out: &mut Vec<u8>, before: &[u8], key: &[u8])
     requires small { IsShortCount (length key.now) }
     requires room { HasRoomFor out.old (length ((sharing before.now).spell key.now)) }

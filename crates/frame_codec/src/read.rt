@@ -1,4 +1,4 @@
-//! Frames read from bytes, whatever these are. Nothing is held but what a frame keeps, and no more entries than `fan`.
+//! Decodes frames from arbitrary bytes. Allocates only for what the frame stores, for at most `fan` entries.
 ghost use Rattle.std.specs.Prelude.{◌≡◌, ◌≤◌, ◌&&◌, [], ◌∷◌, ◌++◌, Option, length, drop, None, Some, IfOk, IfSome, MatchOption};
 ghost use Rattle.keys.specs.Bytes.{Bytes, Pairs};
 ghost use Rattle.keys.specs.Cells.{read_as, read_where, counted, value_cell, pid_cell};
@@ -24,7 +24,7 @@ use delta_chain::{Base, BaseBuilder, PushError, Run};
 use keys::{Key, Pid, Settings};
 use std::alloc::{AllocError, Global};
 
-// The entry of a base at the front, if a frame may have it, with the bytes after it.
+// Decodes the entry of a base at the front, if a frame may contain it, and returns it with the bytes after it.
 fn read_entry<'a, V: FrameCell>(
     alloc: Global,
     bytes: &'a [u8],
@@ -45,7 +45,7 @@ fn read_entry<'a, V: FrameCell>(
     Ok(Some((key, cell, rest)))
 }
 
-// As many entries as this, in a base of its own, with the bytes after them.
+// Decodes `count` entries with whole keys into a base, and returns it with the bytes after them.
 fn read_whole<'a, V: FrameCell>(
     alloc: Global,
     count: usize,
@@ -74,8 +74,8 @@ fn read_whole<'a, V: FrameCell>(
     Ok(Some((base, rest)))
 }
 
-// As `read_entry`, of an entry whose key is spelled by the last one and then is the last. Where there is no such entry, the last
-// key may be any.
+// Like `read_entry`, for a prefix-compressed entry. `last` is the previous key, and becomes the entry's key. If there
+// is no such entry, `last` is unspecified.
 fn read_next_entry<'a, V: FrameCell>(
     alloc: Global,
     last: &mut LastKey,
@@ -96,7 +96,7 @@ fn read_next_entry<'a, V: FrameCell>(
     Ok(Some((cell, rest)))
 }
 
-// As `read_whole`, of entries under this low key whose keys share beginnings.
+// Like `read_whole`, for prefix-compressed entries under this low key.
 fn read_shared<'a, V: FrameCell>(
     alloc: Global,
     low: &[u8],
@@ -126,7 +126,8 @@ fn read_shared<'a, V: FrameCell>(
     Ok(Some((base, rest)))
 }
 
-// As many entries as this under this low key, with their keys spelled so, in a base of its own, with the bytes after them.
+// Decodes `count` entries with this key encoding under this low key into a base, and returns it with the bytes after
+// them.
 fn read_base<'a, V: FrameCell>(
     alloc: Global,
     spelling: Spelling,
@@ -145,7 +146,8 @@ fn read_base<'a, V: FrameCell>(
     }
 }
 
-// Appends the change at the front to the run, if a frame may have it there, and returns the bytes after it.
+// Decodes the change at the front and appends it to the run, if a frame may contain it there. Returns the bytes after
+// it.
 fn push_change<'a, V: FrameCell>(
     alloc: Global,
     run: &mut Run<V, Global>,
@@ -173,7 +175,7 @@ fn push_change<'a, V: FrameCell>(
     }
 }
 
-// As many changes as this, in a run of its own, with the bytes after them.
+// Decodes `count` changes into a run, and returns it with the bytes after them.
 fn read_run<'a, V: FrameCell>(
     alloc: Global,
     count: usize,
@@ -200,7 +202,8 @@ fn read_run<'a, V: FrameCell>(
     Ok(Some((run, rest)))
 }
 
-// The low key and the base at the front, if a frame may have them, with the bytes after them.
+// Decodes the low key and the base at the front, if a frame may contain them, and returns them with the bytes after
+// them.
 fn read_full<'a, V: FrameCell>(
     alloc: Global,
     spelling: Spelling,
@@ -224,7 +227,7 @@ fn read_full<'a, V: FrameCell>(
     Ok(Some((Key::from_bytes(alloc, low)?, base, rest)))
 }
 
-// The same, if the version knows keys that are spelled so.
+// `read_full`, if the version knows the key encoding.
 fn read_known<'a, V: FrameCell>(
     alloc: Global,
     spelling: Spelling,
@@ -243,7 +246,7 @@ fn read_known<'a, V: FrameCell>(
     read_full(alloc, spelling, bytes, &format.settings)
 }
 
-// The run at the front, if a frame may have it, with the bytes after it.
+// Decodes the run at the front, if a frame may contain it, and returns it with the bytes after it.
 fn read_delta<'a, V: FrameCell>(
     alloc: Global,
     bytes: &'a [u8],
@@ -263,7 +266,7 @@ fn read_delta<'a, V: FrameCell>(
     read_run(alloc, count, rest, settings)
 }
 
-// The frame of a leaf's base whose keys are spelled so.
+// Decodes a leaf's full image with this key encoding.
 fn read_leaf<'a>(
     alloc: Global,
     spelling: Spelling,
@@ -291,7 +294,7 @@ fn read_leaf<'a>(
     Ok(Some((frame, rest)))
 }
 
-// The frame of an index page's base whose keys are spelled so.
+// Decodes an index page's full image with this key encoding.
 fn read_index<'a>(
     alloc: Global,
     spelling: Spelling,
@@ -319,7 +322,8 @@ fn read_index<'a>(
     Ok(Some((frame, rest)))
 }
 
-// The frame of this kind and page id whose content is at the front, if a log may have it, with the bytes after it.
+// Decodes the content at the front of a frame with this kind and page id, if a log may contain it. Returns the frame
+// with the bytes after it.
 fn read_content<'a>(
     alloc: Global,
     kind: u8,
@@ -354,8 +358,8 @@ fn read_content<'a>(
     }
 }
 
-/// The frame at the front of these bytes, if a log of this format may have it, and how many bytes it takes. They may be any
-/// bytes. Lack of memory is the one error, and what was read by then is dropped.
+/// Returns the frame at the front of these bytes, if a log of this format may contain it, and its size in bytes. The
+/// bytes may be arbitrary. `Err` means that allocation failed.
 pub fn read_frame(
     alloc: Global,
     bytes: &[u8],

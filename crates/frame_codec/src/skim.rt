@@ -1,4 +1,4 @@
-//! Identifies the frame at the front of any bytes, without decoding it and without memory.
+//! Identifies the frame at the front of arbitrary bytes, without decoding its content and without allocating.
 ghost use Rattle.std.specs.Prelude.{◌≡◌, ◌≤◌, ◌&&◌, length, take, drop, None, Some, IfSome, MatchOption};
 ghost use Rattle.std.specs.Option.{option_copied};
 ghost use Rattle.keys.specs.Bytes.{Bytes, Pairs, Changes};
@@ -22,33 +22,33 @@ use crate::parts::{frame_size, read_header, read_key, read_length};
 use keys::{Pid, Settings, Value, compare};
 use std::alloc::Global;
 
-/// What kind of frame one is.
+/// The kind of a frame.
 #[derive(Clone, Copy, Debug, PartialEq, Eq)]
 pub enum FrameKind {
-    /// The page is a leaf, with a base under a low key.
+    /// A full image of a leaf.
     FullLeaf,
-    /// The page, a leaf, got a run.
+    /// A run of a leaf.
     DeltaLeaf,
-    /// The page is an index page, with a base under a low key.
+    /// A full image of an index page.
     FullIndex,
-    /// The page, an index page, got a run.
+    /// A run of an index page.
     DeltaIndex,
-    /// There is no such page.
+    /// The page was freed.
     Free,
 }
 
-/// A frame that was identified and not decoded.
+/// A frame that was identified without decoding its content.
 #[derive(Clone, Copy, Debug, PartialEq, Eq)]
 pub struct Skimmed {
-    /// The page that the frame is of.
+    /// The id of the frame's page.
     pub pid: Pid,
-    /// What kind of frame it is.
+    /// The kind of the frame.
     pub kind: FrameKind,
-    /// How many bytes it takes, from its kind to its last byte.
+    /// The size of the frame in bytes.
     pub size: usize,
 }
 
-// Whether the key is above the last one, if there is one.
+// Whether `key` is above the last key, if there is one.
 fn is_above(last: Option<&[u8]>, key: &[u8]) -> bool
     ensures { result ≡ is_above (option_copied last.entry) key.now }
 {
@@ -58,7 +58,7 @@ fn is_above(last: Option<&[u8]>, key: &[u8]) -> bool
     }
 }
 
-// The key of the entry of a base, or of the change of a run, at the front, if a frame may have it, with the bytes after it.
+// The key of the base entry or change at the front, if a frame may contain it, with the bytes after the entry.
 fn skip_entry<'a, C: Spelled>(bytes: &'a [u8], settings: &Settings) -> Option<(&'a [u8], &'a [u8])>
     ensures { let read =
         read_where (λ e. is_key settings.now e.0 && C.is_short settings.now e.1)
@@ -71,8 +71,8 @@ fn skip_entry<'a, C: Spelled>(bytes: &'a [u8], settings: &Settings) -> Option<(&
     Some((key, rest))
 }
 
-/// How many bytes the keys of as many entries as this, or changes, have together, if a frame may have these, with the bytes
-/// after them. So the memory of a base is requested once, and only for bytes that have one.
+/// The total number of bytes in the keys of `count` entries or changes at the front, if a frame may contain these, with
+/// the bytes after them. With this size, a base is allocated at once, and only for entries that exist.
 pub(crate) fn skim_entries<'a, C: Spelled>(
     count: usize,
     bytes: &'a [u8],
@@ -101,8 +101,9 @@ pub(crate) fn skim_entries<'a, C: Spelled>(
     Some((sum, rest))
 }
 
-// As `skip_entry`, of an entry whose key is spelled by the last one and then is the last: whether it is above that, with the
-// bytes after it. Where there is no such entry, the last key may be any.
+// Like `skip_entry`, for a prefix-compressed entry. `last` is the previous key, and becomes the entry's key. Returns
+// whether the key is above the previous one, with the bytes after the entry. If there is no such entry, `last` is
+// unspecified.
 fn skip_shared<'a, C: Spelled>(
     last: &mut LastKey,
     bytes: &'a [u8],
@@ -120,7 +121,7 @@ fn skip_shared<'a, C: Spelled>(
     Some((rises, rest))
 }
 
-/// As `skim_entries`, of entries under this low key whose keys share beginnings. No more bytes are copied than are read.
+/// Like `skim_entries`, for prefix-compressed entries under this low key. Copies at most as many bytes as it reads.
 pub(crate) fn skim_shared<'a, C: Spelled>(
     low: &[u8],
     count: usize,
@@ -148,7 +149,7 @@ pub(crate) fn skim_shared<'a, C: Spelled>(
     Some((sum, rest))
 }
 
-// As `skim_entries`, of the entries of a base whose keys are spelled so.
+// Like `skim_entries`, for entries of a base with this key encoding.
 fn skim_base<'a, V: FrameCell>(
     spelling: Spelling,
     low: &[u8],
@@ -166,7 +167,7 @@ fn skim_base<'a, V: FrameCell>(
     }
 }
 
-// The bytes after the low key and the base at the front, if a frame may have them.
+// The bytes after the low key and the base at the front, if a frame may contain them.
 fn skim_full<'a, V: FrameCell>(
     spelling: Spelling,
     bytes: &'a [u8],
@@ -183,7 +184,7 @@ fn skim_full<'a, V: FrameCell>(
     Some(rest)
 }
 
-// The same, if the version knows keys that are spelled so.
+// `skim_full`, if the version knows the key encoding.
 fn skim_known<'a, V: FrameCell>(
     spelling: Spelling,
     bytes: &'a [u8],
@@ -202,7 +203,7 @@ fn skim_known<'a, V: FrameCell>(
     skim_full::<V>(spelling, bytes, &format.settings)
 }
 
-// The bytes after the run at the front, if a frame may have it.
+// The bytes after the run at the front, if a frame may contain it.
 fn skim_run<'a, V: FrameCell>(bytes: &'a [u8], settings: &Settings) -> Option<&'a [u8]>
     ensures { let read =
         read_where (is_run settings.now (V.is_short settings.now))
@@ -218,7 +219,7 @@ fn skim_run<'a, V: FrameCell>(bytes: &'a [u8], settings: &Settings) -> Option<&'
     Some(rest)
 }
 
-// The kind that this number names, with the bytes after the content of that kind at the front, if a log may have it.
+// The kind with this number, with the bytes after the content of that kind at the front, if a log may contain it.
 fn skim_content<'a>(number: u8, bytes: &'a [u8], format: &Format) -> Option<(FrameKind, &'a [u8])>
     ensures { let read = read_where (is_allowed format.now) (read_content number bytes.now) in
         MatchOption result (read ≡ None)
@@ -255,15 +256,15 @@ fn skim_content<'a>(number: u8, bytes: &'a [u8], format: &Format) -> Option<(Fra
     }
 }
 
-// The kind with the bytes after the content, where there is one.
+// The kind with `rest`, if there is a rest.
 fn with_kind<'a>(kind: FrameKind, rest: Option<&'a [u8]>) -> Option<(FrameKind, &'a [u8])>
     ensures { MatchOption rest.entry (result ≡ None) (λ rest. result ≡ Some (kind, rest)) }
 {
     Some((kind, rest?))
 }
 
-/// Like `read_frame`, but returns only the page, the kind and the size, and takes no memory. It finds a frame for exactly
-/// the same bytes and formats.
+/// Like `read_frame`, but returns only the page, the kind and the size, and does not allocate. It finds a frame for
+/// exactly the same bytes and formats.
 pub fn skim_frame(bytes: &[u8], format: &Format) -> Option<Skimmed>
     ensures found { let read = read_frame format.now bytes.now in MatchOption result (read ≡ None)
         (λ k. (f : said.Frame) × (read ≡ Some (f, drop k.size bytes.now)) × IsSkimmed k f

@@ -1,4 +1,4 @@
-//! Frames written from what a page holds. Each is appended to bytes whose memory is requested once, by the frame's size.
+//! Encodes frames from the contents of pages. Each frame's size is computed first, and its bytes are allocated at once.
 ghost use Rattle.std.specs.Prelude.{◌≡◌, ◌+◌, ◌<◌, ◌^◌, ◌++◌, true, length, flat_map, None, OnOk, OnErr};
 ghost use Rattle.std.specs.List.{list_all};
 ghost use Rattle.index_page.specs.Rules.{of_cell};
@@ -25,7 +25,7 @@ use delta_chain::{Base, Run};
 use keys::{Pid, Value};
 use std::alloc::{AllocError, Global};
 
-// How many bytes the entries of a base take, where their keys are whole.
+// The size of a base's entries with whole keys.
 fn whole_len<V: FrameCell>(base: &Base<V, Global>) -> usize
     requires small { AreSpellable V.codec base.now }
     requires few { length (flat_map (both counted V.codec).spell base.now) < 2 ^ 31 }
@@ -38,7 +38,7 @@ fn whole_len<V: FrameCell>(base: &Base<V, Global>) -> usize
     len
 }
 
-// The same, where their keys share beginnings.
+// The size of a base's entries with prefix compression.
 fn shared_len<V: FrameCell>(low: &[u8], base: &Base<V, Global>) -> usize
     requires small { AreSpellable V.codec base.now }
     requires few { length (spell_base Shared V.codec low.now base.now) < 2 ^ 31 }
@@ -55,7 +55,7 @@ fn shared_len<V: FrameCell>(low: &[u8], base: &Base<V, Global>) -> usize
     len
 }
 
-// How many bytes the entries of a base take, with their keys spelled so.
+// The size of a base's entries with this key encoding.
 fn base_len<V: FrameCell>(spelling: Spelling, low: &[u8], base: &Base<V, Global>) -> usize
     requires small { AreSpellable V.codec base.now }
     requires few { length (spell_base spelling V.codec low.now base.now) < 2 ^ 31 }
@@ -67,7 +67,6 @@ fn base_len<V: FrameCell>(spelling: Spelling, low: &[u8], base: &Base<V, Global>
     }
 }
 
-// How many bytes the changes of a run take.
 fn run_len<V: FrameCell>(run: &Run<V, Global>) -> usize
     requires small { AreSpellable (flagged V.codec) run.now }
     requires few { length (flat_map (both counted (flagged V.codec)).spell run.now) < 2 ^ 31 }
@@ -80,7 +79,7 @@ fn run_len<V: FrameCell>(run: &Run<V, Global>) -> usize
     len
 }
 
-// Appends the entries of a base, one after the other, with whole keys. There is room for them.
+// Appends the entries of a base in order, with whole keys. There is room for them.
 fn append_whole<V: FrameCell>(base: &Base<V, Global>, out: &mut Vec<u8>)
     requires small { AreSpellable V.codec base.now }
     requires room { HasRoomFor out.old (length (flat_map (both counted V.codec).spell base.now)) }
@@ -94,7 +93,7 @@ fn append_whole<V: FrameCell>(base: &Base<V, Global>, out: &mut Vec<u8>)
     }
 }
 
-// The same, with keys that share beginnings.
+// Appends the entries of a base in order, with prefix compression. There is room for them.
 fn append_shared<V: FrameCell>(low: &[u8], base: &Base<V, Global>, out: &mut Vec<u8>)
     requires small { AreSpellable V.codec base.now }
     requires room { HasRoomFor out.old (length (spell_base Shared V.codec low.now base.now)) }
@@ -111,7 +110,7 @@ fn append_shared<V: FrameCell>(low: &[u8], base: &Base<V, Global>, out: &mut Vec
     }
 }
 
-// Appends the entries of a base, one after the other, with their keys spelled so. There is room for them.
+// Appends the entries of a base in order, with this key encoding. There is room for them.
 fn append_entries<V: FrameCell>(
     spelling: Spelling,
     low: &[u8],
@@ -129,7 +128,7 @@ fn append_entries<V: FrameCell>(
     }
 }
 
-// Appends the changes of a run, one after the other. There is room for them.
+// Appends the changes of a run in order. There is room for them.
 fn append_changes<V: FrameCell>(run: &Run<V, Global>, out: &mut Vec<u8>)
     requires small { AreSpellable (flagged V.codec) run.now }
     requires room { HasRoomFor out.old
@@ -145,8 +144,8 @@ fn append_changes<V: FrameCell>(run: &Run<V, Global>, out: &mut Vec<u8>)
     }
 }
 
-// Requests the memory of a whole frame with `len` bytes after the pid, and appends what stands before those. Where memory
-// is refused nothing is appended.
+// Allocates room for a whole frame with `len` bytes after the page id, and appends the frame's header. If allocation
+// fails, nothing is appended.
 fn begin_frame(kind: u8, pid: Pid, len: usize, out: &mut Vec<u8>) -> Result<(), AllocError>
     requires { len < 2 ^ 31 }
     ensures ok { OnOk result
@@ -163,7 +162,7 @@ fn begin_frame(kind: u8, pid: Pid, len: usize, out: &mut Vec<u8>) -> Result<(), 
     Ok(())
 }
 
-// Appends the frame of this kind with a low key and a base, whose keys are spelled so.
+// Appends a full image of this kind number: a low key, and a base with this key encoding.
 fn write_full<V: FrameCell>(
     kind: u8,
     pid: Pid,
@@ -194,7 +193,7 @@ fn write_full<V: FrameCell>(
     Ok(())
 }
 
-// Appends the frame of this kind with a run.
+// Appends the frame of a run with this kind number.
 fn write_delta<V: FrameCell>(
     kind: u8,
     pid: Pid,
@@ -216,9 +215,9 @@ fn write_delta<V: FrameCell>(
     Ok(())
 }
 
-/// Appends the frame that says that the page is this base under this low key, with its keys spelled so, from its kind to its
-/// last byte. On Ok each page id in it is known to be of 64 bits. Where memory is refused nothing is appended. So do the
-/// other writers.
+/// Appends a full image of a leaf: this base under this low key, with this key encoding. Like the other functions that
+/// write frames, appends the whole frame, from its kind to its last byte; if allocation fails, appends nothing. After
+/// `Ok`, all page ids in the frame are known to have 64 bits.
 pub fn write_full_leaf(
     pid: Pid,
     spelling: Spelling,
@@ -236,7 +235,7 @@ pub fn write_full_leaf(
     write_full(leaf_kind(spelling), pid, spelling, low, base, out)
 }
 
-/// Appends the frame that says that the page, a leaf, got this run.
+/// Appends the frame of a run that was prepended to a leaf.
 pub fn write_delta_leaf(
     pid: Pid,
     run: &Run<Value<Global>, Global>,
@@ -251,7 +250,7 @@ pub fn write_delta_leaf(
     write_delta(DELTA_LEAF, pid, run, out)
 }
 
-/// Appends the frame that says that the page, an index page, is this base under this low key.
+/// Appends a full image of an index page: this base under this low key, with this key encoding.
 pub fn write_full_index(
     pid: Pid,
     spelling: Spelling,
@@ -269,7 +268,7 @@ pub fn write_full_index(
     write_full(index_kind(spelling), pid, spelling, low, base, out)
 }
 
-/// Appends the frame that says that the page, an index page, got this run.
+/// Appends the frame of a run that was prepended to an index page.
 pub fn write_delta_index(
     pid: Pid,
     run: &Run<Pid, Global>,
@@ -284,7 +283,7 @@ pub fn write_delta_index(
     write_delta(DELTA_INDEX, pid, run, out)
 }
 
-/// Appends the frame that says that there is no such page.
+/// Appends the frame that records that the page was freed.
 pub fn write_free(pid: Pid, out: &mut Vec<u8>) -> Result<(), AllocError>
     ensures ok { OnOk result
         (out.new.items ≡ out.old.items ++ bytes_of (record { pid = pid; content = Free })) }

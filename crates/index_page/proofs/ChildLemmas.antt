@@ -71,7 +71,7 @@ count-children k e es end =
 counted : (b c : Bool) (n m : ℕ) → b ≡ c → n ≡ m → cond b 1 0 + n ≡ cond c 1 0 + m
 counted b c n m h e = rw (h, e) refl
 
--- none, where the key is below all low keys
+-- none, if the key is below all low keys
 pub none_below : (k : List ℕ) (es : List (List ℕ × ℕ)) (end : Option (List ℕ)) → IsBelowAll k (keys_of es) → count_by (is_place_for k) (children es end) ≡ 0
 none_below k [] end a = refl
 none_below k (e ∷ es) end a =
@@ -83,7 +83,7 @@ next_after k e es None h a = absurd (cc)
 next_after k e [] (Some hi) h a = (h, tt)
 next_after k e (f ∷ es) (Some hi) h a = (not_below_lower f.0 k (less_through f.0 k hi (a.1).0 h), a.1)
 
--- none, where the key isn't before the end, and all low keys are
+-- none, if the key isn't before the end, and all low keys are
 pub none_after : (k : List ℕ) (es : List (List ℕ × ℕ)) (end : Option (List ℕ)) → is_before end k ≡ false → AreBefore end (keys_of es) → count_by (is_place_for k) (children es end) ≡ 0
 none_after k [] end h a = refl
 none_after k (e ∷ es) end h a =
@@ -103,7 +103,7 @@ next_by false k e f es end c r h ih =
     count-children k e (f ∷ es) end
     ∙ counted (is_within e.0 (Some f.0) k) false (count_by (is_place_for k) (children (f ∷ es) end)) 1 (not_within_after e.0 (Some f.0) k c) (ih c)
 
--- just one, where the key isn't below the first low key, and is before the end
+-- exactly one, if the key isn't below the first low key, and is before the end
 one_by : (k : List ℕ) (e : List ℕ × ℕ) (es : List (List ℕ × ℕ)) (end : Option (List ℕ)) → IsRising (e ∷ es) → is_below k e.0 ≡ false → is_before end k ≡ true → count_by (is_place_for k) (children (e ∷ es) end) ≡ 1
 unfolding IsStrictlySortedBy
 one_by k e [] end r h b = count-children k e [] end ∙ counted (is_within e.0 end k) true 0 0 (within e.0 end k h b) refl
@@ -112,7 +112,7 @@ one_by k e (f ∷ es) end r h b = next_by (is_below k f.0) k e f es end refl r.1
 pub within_parts : (low : List ℕ) (end : Option (List ℕ)) (k : List ℕ) → is_within low end k ≡ true → (is_below k low ≡ false) × (is_before end k ≡ true)
 within_parts low end k h = let p = and_parts (not (is_below k low)) (is_before end k) h in (not-true (is_below k low) p.0, p.1)
 
--- each key from the first one on and before the end is in the range of just one place
+-- each key from the first one on and before the end is in the range of exactly one place
 pub one_child : (es : List (List ℕ × ℕ)) (end : Option (List ℕ)) (k : List ℕ) → IsRising es → 0 < length es → is_within (first_key es) end k ≡ true → count_by (is_place_for k) (children es end) ≡ 1
 one_child [] end k r l h = absurd (omega arith)
 one_child (e ∷ es) end k r l h = let p = within_parts e.0 end k h in one_by k e es end r p.0 p.1
@@ -134,7 +134,7 @@ no_child (e ∷ es) end k r a h = none_by (is_below k e.0) e es end k refl r a h
 -- ---- the child for a key, by the last entry whose key isn't above it
 
 module _ (k : List ℕ) where
-  -- there is no last entry, where the key is below all
+  -- there is no last entry, if the key is below all
   pub no_floor : (es : List (List ℕ × ℕ)) → IsBelowAll k (keys_of es) → floor k es ≡ None
   no_floor [] a = refl
   no_floor (e ∷ es) a = rw (no_floor es a.1, a.0) refl
@@ -143,11 +143,11 @@ module _ (k : List ℕ) where
   or_this None e h = absurd (cc)
   or_this (Some f) e h = absurd (cc)
 
-  -- where the first key isn't above it, there is one
+  -- if the first key isn't above it, there is one
   pub some_floor : (e : List ℕ × ℕ) (es : List (List ℕ × ℕ)) → is_below k e.0 ≡ false → floor k (e ∷ es) ≢ None
   some_floor e es h n = or_this (floor k es) e (sym (ap (λ (b : Bool). option_or (floor k es) (cond b None (Some e))) h) ∙ n)
 
-  -- there is one, just where the first key isn't above the key
+  -- there is one, if and only if the first key isn't above the key
   pub has_floor : (es : List (List ℕ × ℕ)) → (0 < length es) × (is_below k (first_key es) ≡ false) → None ≡ floor k es → ⊥
   has_floor [] h p = let none = h.0 in absurd (omega arith)
   has_floor (e ∷ es) h p = some_floor e es h.1 (sym p)

@@ -39,7 +39,7 @@ module _ (k : Bytes) where
     from = λ m i l q. rw (g.above m i l q) refl;
   }
 
-  -- ---- what stands there
+  -- ---- the entries after the place
 
   following : (e : Bytes × ℕ) (es : Names) (n : ℕ) → AreParted (keys_of (e ∷ es)) (suc n) → AreParted (keys_of es) n
   following e es n h = record {

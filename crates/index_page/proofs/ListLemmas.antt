@@ -1,4 +1,4 @@
--- Lemmas on what holds of all of a list, for the proofs of this crate and of those above it.
+-- Lemmas on properties of all elements of a list, for the proofs of this crate and of those above it.
 use Rattle.std.specs.Prelude.{Bool, true, false, cond, List, [], ◌∷◌, ◌++◌}
 use Rattle.std.specs.List.{AllByRecursion, filter}
 use Rattle.std.specs.Map.{keys_of}

@@ -6,7 +6,7 @@ use Rattle.index_page.specs.Children.{is_between}
 use Rattle.index_page.specs.Range.{is_below, is_before, is_within}
 use Rattle.index_page.proofs.RangeLemmas.{below_is_less, less_is_below, low_through}
 
--- where a key isn't below a low key, and is before an end, the low key is before that end
+-- if a key isn't below a low key, and is before an end, the low key is before that end
 before_through : (end : Option (List ℕ)) (low k : List ℕ) → is_below k low ≡ false → is_before end k ≡ true → is_before end low ≡ true
 before_through None low k h b = refl
 before_through (Some end) low k h b = less_is_below low end (low_through low k end h (below_is_less k end b))

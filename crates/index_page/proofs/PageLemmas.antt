@@ -1,4 +1,4 @@
--- Lemmas on what a page says and on its entries, for the proofs of this crate and of those above it.
+-- Lemmas on the changes and the entries of a page, for the proofs of this crate and of those above it.
 use Rattle.std.specs.Prelude.{◌≡◌, ℕ, Bool, true, false, cond, List, [], ◌∷◌, Option, Some, None}
 use Rattle.std.proofs.Common.{refl, subst, Ordering, Less, Equal, Greater}
 use Rattle.std.specs.Ordering.{is_eq, match_ordering}

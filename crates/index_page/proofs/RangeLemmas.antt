@@ -72,7 +72,7 @@ low_through_by Less a b c e h l = absurd (cc)
 low_through_by Equal a b c e h l = rw (← total.congr b a c e) l
 low_through_by Greater a b c e h l = total.trans a b c (rw (total.antisymm a b, e) refl) l
 
--- where b isn't below a, and is below c, a is below c
+-- if b isn't below a, and is below c, a is below c
 pub low_through : (a b c : List ℕ) → is_below b a ≡ false → order b c ≡ Less → order a c ≡ Less
 low_through a b c h l = low_through_by (order b a) a b c refl h l
 

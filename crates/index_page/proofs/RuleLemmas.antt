@@ -1,4 +1,4 @@
--- Each test of `Rules` passes exactly where its fact holds: for the proofs of this crate and of those above it.
+-- Each test of `Rules` passes if and only if its fact holds: for the proofs of this crate and of those above it.
 use Rattle.std.specs.Prelude.{◌≡◌, ℕ, ◌≤◌, Bool, true, false, not, ◌&&◌, nat_lt, nat_le, ◌↔◌, List, [], ◌∷◌, Option, Some, None, length}
 use Rattle.std.proofs.Common.{refl, Decides, le-leb, leb-true}
 use Rattle.std.proofs.lemmas.Bool.Decides.{Decides-and, Decides-like, Decides-ltb}

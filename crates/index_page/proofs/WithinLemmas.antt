@@ -144,7 +144,7 @@ module _ (hi : Option (List ℕ)) where
   abbrev Before : List (List ℕ × ℕ) → List (List ℕ × ℕ)
   Before es = filter (λ (e : List ℕ × ℕ). is_before hi e.0) es
 
-  -- where all are above k, those after k are all those before the end
+  -- if all are above k, those after k are all those before the end
   between-all : (k : List ℕ) (es : List (List ℕ × ℕ)) → IsBelowAll k (keys_of es) → entries_between k hi es ≡ Before es
   between-all k [] a = refl
   between-all k (e ∷ es) a =
@@ -176,7 +176,7 @@ one_more : (n : ℕ) → suc n ≡ n + 1
 one_more n = omega arith
 
 module _ (hi : Option (List ℕ)) where
-  -- the entry at a place, where it is before the end, and those after it
+  -- the entry at a place, if it is before the end, and those after it
   pub left_at-here : (n : ℕ) (es : List (List ℕ × ℕ)) (e : List ℕ × ℕ) → slice_get es n ≡ Some e → is_before hi e.0 ≡ true → left_at n hi es ≡ e ∷ left_at (suc n) hi es
   left_at-here n [] e h b = absurd (cc)
   left_at-here zero (f ∷ es) e h b = let same : f ≡ e = cc in rw (same, b) refl
@@ -189,7 +189,7 @@ module _ (hi : Option (List ℕ)) where
     parts = λ at e l g. let same : at ≡ n = omega (arith, l) in let there : slice_get es n ≡ Some e = (rw same at g) in let key : e.0 ≡ k = one_key (key_at es n e there) h in left_at-here n es e there (rw key b) ∙ ap (λ (m : ℕ). e ∷ left_at m hi es) (one_more n);
   }
 
-  -- nothing is left where it isn't, or there is none
+  -- nothing remains if it isn't, or if there is none
   pub left_at-end : (n : ℕ) (es : List (List ℕ × ℕ)) (k : List ℕ) → IsRising es → slice_get (keys_of es) n ≡ Some k → is_before hi k ≡ false → left_at n hi es ≡ []
   unfolding IsStrictlySortedBy
   left_at-end n [] k r h b = absurd (cc)
@@ -302,7 +302,7 @@ module _ (lo : List ℕ) (hi : Option (List ℕ)) where
         ∙ ap (λ (x : List (List ℕ × ℕ)). e ∷ x) (left_at-after hi at es e r h ∙ ap (λ (m : ℕ). left_at m hi es) (one_more at ∙ l));
   }
 
-  -- and where none is, all those before the end
+  -- and if none is, all those before the end
   within-none : (es : List (List ℕ × ℕ)) → IsRising es → None ≡ floor lo es → left_at 0 hi es ≡ children_within lo hi es
   within-none [] r p = refl
   within-none (e ∷ es) r p = sym (within-all (e ∷ es) (none_by (is_below lo e.0) e es refl r p))

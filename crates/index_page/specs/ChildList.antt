@@ -1,17 +1,16 @@
--- The children of an index page in one list, and where a key stands among them.
+-- The list of the children of an index page, and the place of a key in it.
 use Rattle.std.specs.Prelude.{◌≡◌, ℕ, ◌+◌, ◌≤◌, [], length, slice_get, Option, Some, None}
 use Rattle.keys.specs.Bytes.{Bytes, Names}
 use Rattle.delta_chain.specs.Layers.{Layers, entries_of}
 use Rattle.page_search.specs.Above.{above}
 use Rattle.page_search.specs.Floor.{floor}
 
--- the list is that of the page's entries; a page without runs needs none, since its base is that list
+-- the list is that of the page's entries; a page without runs has none, because its base is that list
 abbrev pub IsListOf : Layers ℕ → Option Names → Type 0
 IsListOf p None = p.runs ≡ []
 IsListOf p (Some es) = es ≡ entries_of p
 
--- the first n entries have keys that aren't above k: the last of them is the last such entry, and after them stands the first whose key is
--- above
+-- the first n entries have keys that aren't above k: the last of them is the last such entry, and the next entry is the first whose key is above k
 pub record IsCountUpTo (k : Bytes) (es : Names) (n : ℕ) : Type 0 where
   pub within : n ≤ length es
   pub none : n ≡ 0 → floor k es ≡ None

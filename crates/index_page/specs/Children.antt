@@ -6,13 +6,13 @@ use Rattle.index_page.specs.Page.{PageOfKind, entries, first_key}
 use Rattle.index_page.specs.Page.PageOfKind.{Leaf, Index}
 use Rattle.index_page.specs.Range.{is_below, is_before, is_within}
 
--- a child as an entry of an index page names it: its pid, and the range from the entry's key to the next entry's
+-- a child as an entry of an index page describes it: its pid, and its range, from the entry's key to the next entry's key
 pub record Place : Type 0 where
   pub pid : ℕ
   pub low : Bytes
   pub end : Option Bytes
 
--- the children that entries name, the last of them up to the page's own end
+-- the children that entries describe; the last one's range ends at the page's own end
 abbrev pub children : Names → Option Bytes → List Place
 children [] end = []
 children (e ∷ []) end = record { pid = e.1; low = e.0; end = end } ∷ []
@@ -31,7 +31,7 @@ child_entries (Index p) = entries p
 abbrev pub HasChildFor : PageOfKind → Bytes → Type 0
 HasChildFor p k = (0 < length (child_entries p)) × (is_below k (first_key (child_entries p)) ≡ false)
 
--- where the first entry's key isn't above k: the pid of the child in whose range k lies, and the next entry's key, at which that range ends
+-- if the first entry's key isn't above k: the pid of the child whose range contains k, and the next entry's key, at which that range ends
 abbrev pub child_with_end : Bytes → Names → ℕ × Option Bytes
 child_with_end k [] = (0, None)
 child_with_end k (e ∷ []) = (e.1, None)
@@ -45,7 +45,7 @@ is_between lo hi k = is_below lo k && is_before hi k
 abbrev pub meets : Bytes → Option Bytes → Place → Bool
 meets lo hi at = is_place_for lo at || is_between lo hi at.low
 
--- of the children that entries name, the last one's range open: the low keys and pids of those whose range meets the bounds, in order
+-- the low keys and pids of those children, in order, whose range meets the bounds, where the last child's range has no end
 abbrev pub children_within : Bytes → Option Bytes → Names → Names
 children_within lo hi es = map (λ at. (at.low, at.pid)) (filter (meets lo hi) (children es None))
 
@@ -53,7 +53,7 @@ children_within lo hi es = map (λ at. (at.low, at.pid)) (filter (meets lo hi) (
 abbrev pub entries_between : Bytes → Option Bytes → Names → Names
 entries_between k hi es = filter (λ e. is_between k hi e.0) es
 
--- what is left of a walk over entries up to hi: the next one, where there is one, and those after it
+-- the remaining entries of an iteration up to hi: the next one, if there is one, and those after it
 abbrev pub left_from : Option (Bytes × ℕ) → Option Bytes → Names → Names
 left_from None hi es = []
 left_from (Some e) hi es = e ∷ entries_between e.0 hi es

@@ -10,7 +10,7 @@ pub record IsOver {V : Type 0} (older now : Page V) : Type 0 where
   pub base : now.layers.base ≡ older.layers.base
   pub runs : (newer : List (Changes V)) × (now.layers.runs ≡ newer ++ older.layers.runs)
 
--- and they are of one kind: the older page stands as it did under the one that is now
+-- both pages are of one kind, and the new page is the old one with runs in front
 abbrev pub IsPageOver : PageOfKind → PageOfKind → Type 0
 IsPageOver (Leaf older) (Leaf now) = IsOver older now
 IsPageOver (Index older) (Index now) = IsOver older now

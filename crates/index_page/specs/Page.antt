@@ -19,7 +19,7 @@ abbrev pub low_of : PageOfKind → Bytes
 low_of (Leaf p) = p.low
 low_of (Index p) = p.low
 
--- the page that a leaf is, and the page that an index page is; a page of the other kind counts as one that holds nothing
+-- the page of a leaf, and the page of an index page; a page of the other kind counts as an empty page
 abbrev pub leaf_of : PageOfKind → Page Bytes
 leaf_of (Leaf p) = p
 leaf_of (Index p) = record { low = p.low; layers = record { runs = []; base = [] } }
@@ -37,24 +37,24 @@ abbrev pub IsIndex : PageOfKind → Type 0
 IsIndex (Leaf p) = ⊥
 IsIndex (Index p) = ⊤
 
--- a page that is a base without runs
+-- a page with a base and no runs
 abbrev pub bare : {V : Type 0} → Bytes → Pairs V → Page V
 bare low base = record { low = low; layers = record { runs = []; base = base } }
 
--- the present pairs of the page, in key order
+-- the pairs that are present in the page, in key order
 abbrev pub entries : {V : Type 0} → Page V → Pairs V
 entries p = entries_of p.layers
 
--- the key of the first pair, and the empty key where there is none
+-- the key of the first pair, or the empty key if there is none
 abbrev pub first_key : {V : Type 0} → Pairs V → Bytes
 first_key [] = []
 first_key (e ∷ es) = e.0
 
--- pairs as changes: each key has its value
+-- pairs as changes that set each key's value
 abbrev pub as_changes : {V : Type 0} → Pairs V → Changes V
 as_changes es = map (λ e. (e.0, Some e.1)) es
 
--- the changes of the runs, newest first, and under them the base's pairs
+-- the changes of the runs, newest first, and then the base's pairs
 abbrev pub changes_over : {V : Type 0} → List (Changes V) → Pairs V → Changes V
 changes_over [] base = as_changes base
 changes_over (run ∷ runs) base = run ++ changes_over runs base
@@ -63,6 +63,6 @@ changes_over (run ∷ runs) base = run ++ changes_over runs base
 abbrev pub said : {V : Type 0} → Page V → Changes V
 said p = changes_over p.layers.runs p.layers.base
 
--- the keys that it names
+-- the keys of these changes and pairs
 abbrev pub named : {V : Type 0} → Page V → List Bytes
 named p = keys_of (said p)

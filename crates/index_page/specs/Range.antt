@@ -1,4 +1,4 @@
--- Keys that lie in a range: from a low key on, and below an end where there is one.
+-- Keys that lie in a range: at or above a low key, and below an optional end.
 use Rattle.std.specs.Prelude.{◌≡◌, true, false, ⊤, List, Option, Some, None}
 use Rattle.std.specs.declared.cmp.Ordering.TheVariants.{Less}
 use Rattle.std.specs.List.{AllByRecursion}

@@ -1,4 +1,4 @@
--- What is asked of a page by itself: as facts, and as the tests by which a checker finds what is wrong.
+-- The requirements on a single page: as facts, and as the tests by which a checker finds violations.
 use Rattle.std.specs.Prelude.{◌≡◌, ℕ, ◌≤◌, ◌<◌, Bool, true, ◌&&◌, nat_lt, nat_le, ⊤, List, [], ◌∷◌, Option, Some, None, length}
 use Rattle.std.specs.Ordering.{is_lt, is_eq}
 use Rattle.std.specs.List.{AllByRecursion, list_all}
@@ -12,7 +12,7 @@ use Rattle.index_page.specs.Range.{is_within, AreFrom, AreBefore}
 
 -- ---- its keys
 
--- the keys of each run and of the base rise, and lie from this low key on and before this end
+-- the keys of each run and of the base rise, and are at or above this low key and before this end
 pub record KeepsRange {V : Type 0} (low : Bytes) (end : Option Bytes) (p : Page V) : Type 0 where
   pub rising : IsInOrder p.layers
   pub from : AreFrom low (named p)
@@ -34,7 +34,7 @@ keeps_range low end p = all_rise p.layers.runs p.layers.base && list_all (is_wit
 
 -- ---- its sizes
 
--- a value is within the settings, and so is every pid
+-- a value is within the settings; every pid is
 abbrev pub IsShortValue : Settings → Bytes → Type 0
 IsShortValue s v = length v ≤ s.max_value
 
@@ -47,7 +47,7 @@ is_short_value s v = nat_le (length v) s.max_value
 abbrev pub is_any_pid : ℕ → Bool
 is_any_pid pid = true
 
--- what holds of the cell, where there is one
+-- the property of the cell, if there is one
 abbrev pub OfCell : {V : Type 0} → (V → Type 0) → Option V → Type 0
 OfCell IsShort None = ⊤
 OfCell IsShort (Some v) = IsShort v
@@ -72,7 +72,7 @@ pub record IsRunSized {X : Type 0} (s : Settings) (run : List X) : Type 0 where
 abbrev pub is_run_sized : {X : Type 0} → Settings → List X → Bool
 is_run_sized s run = nat_lt 0 (length run) && nat_le (length run) s.fan
 
--- base and runs are no larger than the settings allow, keys and cells no longer, and no more runs than chain
+-- base and runs are no larger than the settings allow, keys and cells are no longer, and there are at most `chain` runs
 pub record Fits {V : Type 0} (s : Settings) (IsShort : V → Type 0) (p : Page V) : Type 0 where
   pub base : length p.layers.base ≤ s.fan
   pub runs : AllByRecursion (IsRunSized s) p.layers.runs

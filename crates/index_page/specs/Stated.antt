@@ -1,4 +1,4 @@
--- What the state of a page in memory stands for.
+-- The page in memory that a low key and a state form.
 use Rattle.index_page.specs.InMemory.{InMemory}
 use Rattle.index_page.specs.InMemory.InMemory.{LeafInMemory, IndexInMemory}
 use Rattle.index_page.specs.declared.in_memory.State.{State}

@@ -13,8 +13,8 @@ use page_search::{Probes, place};
 use std::alloc::{AllocError, Allocator};
 use std::marker::Model;
 
-/// The present children of an index page in one list, which stands beside the page's runs, so that a child is found by one search
-/// by halves. A page without runs needs none, since its base is such a list. Contracts see it as that list, or none.
+/// The present children of an index page in one list, kept beside the page's runs, so that one binary search finds a
+/// child. A page without runs stores no such list, because its base is one. Contracts see it as that list, or none.
 #[derive(Drop)]
 pub struct ChildList<A: Allocator> {
     listed: Option<Box<Base<Pid, A>, A>>,
@@ -31,15 +31,15 @@ impl<A: Allocator> Model for ChildList<A> {
 }
 
 impl<A: Allocator + Copy> ChildList<A> {
-    /// No list, for a page without runs.
+    /// Returns no list, for a page without runs.
     pub fn none() -> Self
         ensures { result ≡ None }
     {
         ChildList { listed: None }
     }
 
-    /// The list of a page of these runs and this base, which are only read: none where there are no runs. `AllocError` comes only where
-    /// memory was refused.
+    /// Returns the list of the children in `chain`, or no list if the chain has no runs. `Err` means that allocation
+    /// failed.
     pub fn of(alloc: A, chain: &Chain<Pid, A>) -> Result<Self, AllocError>
         ensures { IfOk result (λ list. IsListOf chain.now list) }
     {
@@ -49,7 +49,6 @@ impl<A: Allocator + Copy> ChildList<A> {
         ChildList::of_runs(alloc, chain)
     }
 
-    // The list of a page with runs.
     fn of_runs(alloc: A, chain: &Chain<Pid, A>) -> Result<Self, AllocError>
         ensures { IfOk result (λ list. IsListOf chain.now list) }
     {
@@ -61,7 +60,7 @@ impl<A: Allocator + Copy> ChildList<A> {
         })
     }
 
-    // The children in one list: this one, or the base of a page without runs.
+    // The children in one list: this list, or the base of a page without runs.
     pub(crate) fn children<'a>(&'a self, chain: &'a Chain<Pid, A>) -> &'a Base<Pid, A>
         requires { IsListOf chain.now self.now }
         ensures { result.now ≡ entries_of chain.now }
@@ -73,7 +72,7 @@ impl<A: Allocator + Copy> ChildList<A> {
     }
 }
 
-/// How many of the children begin at the key or below it. It is found by halves.
+/// How many of the children have low keys at or below `key`. Takes one binary search.
 pub(crate) fn count_up_to<A: Allocator + Copy>(list: &Base<Pid, A>, key: &[u8]) -> usize
     ensures count { IsCountUpTo key.now list.now result }
     ensures rising { IsRising list.now }
@@ -85,7 +84,7 @@ pub(crate) fn count_up_to<A: Allocator + Copy>(list: &Base<Pid, A>, key: &[u8]) 
     }
 }
 
-/// The child at this place: its low key and its page id.
+/// The low key and the page id of the child at place `at`.
 pub(crate) fn child_at<A: Allocator + Copy>(list: &Base<Pid, A>, at: usize) -> (&[u8], Pid)
     requires { at < length list.now }
     ensures { slice_get list.now at ≡ Some (result.0.now, result.1) }
@@ -93,7 +92,7 @@ pub(crate) fn child_at<A: Allocator + Copy>(list: &Base<Pid, A>, at: usize) -> (
     (list.key(at), *list.cell(at))
 }
 
-/// The low key of the child at this place, if there is one.
+/// The low key of the child at place `at`, if there is one.
 pub(crate) fn low_key_at<A: Allocator + Copy>(list: &Base<Pid, A>, at: usize) -> Option<&[u8]>
     ensures { option_copied result ≡ option_map (λ e. e.0) (slice_get list.now at) }
 {
@@ -104,8 +103,8 @@ pub(crate) fn low_key_at<A: Allocator + Copy>(list: &Base<Pid, A>, at: usize) ->
     }
 }
 
-/// The place after the first child whose range meets the bounds, from `lo` on and before `hi`, if there is one. Where no key lies
-/// between the bounds, it is the place after the child in whose range `lo` is.
+/// The place after the first child whose range meets the bounds (at or above `lo`, below `hi`), if there is one. If no
+/// key lies between the bounds, it is the place after the child in whose range `lo` is.
 pub(crate) fn after_first<A: Allocator + Copy>(
     list: &Base<Pid, A>,
     lo: &[u8],
@@ -122,7 +121,7 @@ pub(crate) fn after_first<A: Allocator + Copy>(
     Some(count)
 }
 
-/// The place after this one, if there is a child at this one, which begins before the end.
+/// The next place, if there is a child at this one that begins before the end.
 pub(crate) fn after_next<A: Allocator + Copy>(
     list: &Base<Pid, A>,
     at: usize,

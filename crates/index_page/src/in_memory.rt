@@ -1,4 +1,4 @@
-//! A page as it lies in memory.
+//! The representation of a page in memory.
 ghost use Rattle.std.specs.Prelude.{◌≡◌, MatchOption};
 ghost use Rattle.index_page.specs.ChildList.{IsListOf};
 ghost use Rattle.index_page.specs.Children.{child_entries};
@@ -13,8 +13,9 @@ use keys::{Key, Pid, Value};
 use std::alloc::Allocator;
 use std::marker::Model;
 
-/// A page as it lies in memory: its low key, and a chain, some of whose runs may count as merged with the base where it is a leaf. Who
-/// works a page, or makes others of it, sees it so; for everybody else it is a `Page`, which is what it stands for.
+/// The representation of a page in memory: its low key and a chain; in a leaf, some runs of the chain may count as
+/// merged into the base. Code that changes pages or makes new ones uses this type; all other code uses the `Page` that
+/// it represents.
 #[derive(Drop)]
 pub struct PageInMemory<A: Allocator> {
     low: Key<A>,
@@ -37,7 +38,7 @@ impl<A: Allocator> Model for PageInMemory<A> {
 }
 
 impl<A: Allocator + Copy> PageInMemory<A> {
-    /// The leaf with this low key and these values.
+    /// Makes a leaf with this low key and these values.
     pub fn leaf(low: Key<A>, chain: LateChain<Value<A>, A>) -> Self
         ensures { result ≡ LeafInMemory low chain }
     {
@@ -47,7 +48,7 @@ impl<A: Allocator + Copy> PageInMemory<A> {
         }
     }
 
-    // The index page with this low key, these page ids and the list of its children.
+    // Makes an index page with this low key, the page ids of its children, and the list of its children.
     pub(crate) fn index(low: Key<A>, chain: Chain<Pid, A>, list: ChildList<A>) -> Self
         requires { IsListOf chain list }
         ensures { result ≡ IndexInMemory low chain }
@@ -58,14 +59,14 @@ impl<A: Allocator + Copy> PageInMemory<A> {
         }
     }
 
-    /// The bytes of the low key.
+    /// Returns the bytes of the low key.
     pub fn low(&self) -> &[u8]
         ensures { result.now ≡ low_of (page_shown self.now) }
     {
         self.low.as_bytes()
     }
 
-    /// The values, where this is a leaf.
+    /// Returns the values if this is a leaf.
     pub fn as_leaf(&self) -> Option<&LateChain<Value<A>, A>>
         ensures { MatchOption result (IsIndex (page_shown self.now))
             (λ chain. self.now ≡ LeafInMemory (low_of (page_shown self.now)) chain.now) }
@@ -76,7 +77,7 @@ impl<A: Allocator + Copy> PageInMemory<A> {
         }
     }
 
-    /// The page ids of the children, where this is an index page.
+    /// Returns the page ids of the children if this is an index page.
     pub fn as_index(&self) -> Option<&Chain<Pid, A>>
         ensures { MatchOption result (IsLeaf (page_shown self.now))
             (λ chain. self.now ≡ IndexInMemory (low_of (page_shown self.now)) chain.now) }
@@ -87,7 +88,7 @@ impl<A: Allocator + Copy> PageInMemory<A> {
         }
     }
 
-    /// The children in one list, in order, where this is an index page: of each the low key and the page id.
+    /// Returns the children's low keys and page ids in one list, in order, if this is an index page.
     pub fn child_list(&self) -> Option<&Base<Pid, A>>
         ensures { MatchOption result (IsLeaf (page_shown self.now))
             (λ list. (list.now ≡ child_entries (page_shown self.now))
@@ -99,7 +100,7 @@ impl<A: Allocator + Copy> PageInMemory<A> {
         }
     }
 
-    /// The low key and the values of this leaf. `as_leaf` is the test for the condition.
+    /// Returns the low key and the values of a leaf. Test with `as_leaf` first.
     pub fn into_leaf(self) -> (Key<A>, LateChain<Value<A>, A>)
         requires { IsLeaf (page_shown self) }
         ensures { self ≡ LeafInMemory result.0 result.1 }
@@ -111,7 +112,7 @@ impl<A: Allocator + Copy> PageInMemory<A> {
         }
     }
 
-    // The low key and the page ids of this index page, with its children in one list.
+    // The low key, the page ids and the list of children of an index page.
     pub(crate) fn into_index(self) -> (Key<A>, Chain<Pid, A>, ChildList<A>)
         requires { IsIndex (page_shown self) }
         ensures page { self ≡ IndexInMemory result.0 result.1 }

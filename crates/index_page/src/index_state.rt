@@ -1,4 +1,4 @@
-//! The state of an index page: its chain, and its children in one list.
+//! The state of an index page: its chain, and the list of its children.
 ghost use Rattle.std.specs.Prelude.{◌≡◌};
 ghost use Rattle.delta_chain.specs.Layers.{entries_of};
 ghost use Rattle.index_page.specs.ChildList.{IsListOf};
@@ -9,7 +9,7 @@ use keys::Pid;
 use std::alloc::Allocator;
 use std::marker::Model;
 
-/// The state of an index page: its chain of page ids, and its children in one list. Contracts see it as the chain.
+/// The state of an index page: its chain of page ids, and the list of its children. Contracts see it as the chain.
 #[derive(Drop)]
 pub(crate) struct IndexState<A: Allocator> {
     chain: Chain<Pid, A>,
@@ -29,7 +29,6 @@ impl<A: Allocator> Model for IndexState<A> {
 }
 
 impl<A: Allocator + Copy> IndexState<A> {
-    // The state of this chain, with its list.
     pub(crate) fn new(chain: Chain<Pid, A>, list: ChildList<A>) -> Self
         requires { IsListOf chain list }
         ensures { result ≡ chain }
@@ -43,14 +42,13 @@ impl<A: Allocator + Copy> IndexState<A> {
         &self.chain
     }
 
-    // The children in one list.
     pub(crate) fn children(&self) -> &Base<Pid, A>
         ensures { result.now ≡ entries_of self.now }
     {
         self.list.children(&self.chain)
     }
 
-    // The chain and its list. This undoes `new`.
+    // Undoes `new`.
     pub(crate) fn into_parts(self) -> (Chain<Pid, A>, ChildList<A>)
         ensures chain { result.0 ≡ self }
         ensures list { IsListOf result.0 result.1 }

@@ -1,4 +1,4 @@
-//! What the definitions of `specs/` mean. Each law is the contract of a function with an empty body.
+//! Laws about the definitions of `specs/`. Each law is the contract of a function with an empty body.
 ghost use Rattle.std.specs.Prelude.{◌≡◌, ℕ, ◌<◌, true, false, ◌↔◌, Option, map, length, count_by};
 ghost use Rattle.std.specs.Map.{keys_of, values_of};
 ghost use Rattle.keys.specs.Bytes.{Bytes, Names};
@@ -9,7 +9,7 @@ ghost use Rattle.index_page.specs.Range.{is_before, is_within, AreBefore};
 ghost use Rattle.index_page.specs.Children.{Place, children, is_place_for, meets};
 ghost use Rattle.index_page.specs.Rules.{KeepsRange, keeps_range, IsShortValue, IsAnyPid, is_short_value, is_any_pid, Fits, fits_sizes, fits_depth, IsHeaded, is_headed};
 
-/// A page passes each test of its keys, its sizes and its children exactly where the fact that the test stands for holds.
+/// A page passes a test of its keys, sizes or children if and only if the corresponding fact holds.
 pub fn a_page_passes_a_test_where_the_fact_holds<V>()
     ensures keys { (low : Bytes) (end : Option Bytes) (p : Page V) →
         (keeps_range low end p ≡ true) ↔ KeepsRange low end p }
@@ -21,8 +21,8 @@ pub fn a_page_passes_a_test_where_the_fact_holds<V>()
     ensures children { (least : ℕ) (p : Page ℕ) → (is_headed least p ≡ true) ↔ IsHeaded least p }
 {}
 
-/// The places of the children that entries name have the entries' pids and low keys, and tile the range from the first
-/// key up to the end: each key of that range lies in the range of just one of them, and any other key in that of none.
+/// The children that entries denote have the entries' page ids and low keys, and tile the range from the first key to
+/// the end: each key of that range lies in the range of exactly one child, and any other key in the range of none.
 pub fn children_tile_the_range_of_their_page()
     ensures pids { (es : Names) (end : Option Bytes) →
         map (λ at. at.pid) (children es end) ≡ values_of es }
@@ -35,8 +35,8 @@ pub fn children_tile_the_range_of_their_page()
         count_by (is_place_for k) (children es end) ≡ 0 }
 {}
 
-/// The range of a place meets bounds just where it has a key with them in common. Where there is no key between the
-/// bounds, it meets them just where the lower bound lies in it.
+/// A child's range meets two bounds if and only if some key lies in both. If there is no key between the bounds, it
+/// meets them if and only if the lower bound lies in the range.
 pub fn a_range_meets_bounds_where_they_share_a_key()
     ensures shared { (lo : Bytes) (hi : Option Bytes) (at : Place) → is_before hi lo ≡ true →
         is_before at.end at.low ≡ true →

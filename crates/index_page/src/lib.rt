@@ -1,10 +1,9 @@
-//! Pages of either kind: a low key, and a chain of runs over a base; the search for the child that a key belongs to, and
-//! the walk over the children whose ranges meet two bounds.
+//! Pages of either kind: a low key, and a chain of runs over a base; the search for the child that covers a key, and
+//! iteration over the children whose ranges meet two bounds.
 //!
-//! `specs/` has what a page is, its children, and what is asked of a page. Laws: the tests by which a page is checked
-//! find exactly the pages where the facts don't hold; the children's ranges tile that of their page; a range meets
-//! bounds where they share a key.
-//! Other crates name items by this root, and laws by the public module `laws`.
+//! `specs/` defines pages, their children, and the requirements on a page. Laws: the tests by which a page is checked
+//! find exactly the pages that break a requirement; the children's ranges tile the range of their page; a range meets
+//! bounds if they share a key. Other crates name items by this root, and laws by the public module `laws`.
 #![tactic(auto)]
 
 mod child_list;

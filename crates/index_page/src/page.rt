@@ -21,8 +21,8 @@ use keys::{Key, Pid, Value, is_before};
 use std::alloc::Allocator;
 use std::marker::Model;
 
-/// A page of the tree: the low key, at which its range of keys begins, and its state, a chain of values for a leaf and
-/// of page ids for an index page. Contracts see it as a `PageOfKind`.
+/// A page of the tree: its low key, at which its range of keys begins, and a chain of values for a leaf or of page ids
+/// for an index page. Contracts see it as a `PageOfKind`.
 #[derive(Drop)]
 pub struct Page<A: Allocator> {
     held: PageInMemory<A>,
@@ -38,43 +38,43 @@ impl<A: Allocator> Model for Page<A> {
 }
 
 impl<A: Allocator + Copy> Page<A> {
-    /// The page that this one in memory stands for.
+    /// Makes the page that `held` represents.
     pub fn of_memory(held: PageInMemory<A>) -> Self
         ensures { result ≡ page_shown held }
     {
         Page { held }
     }
 
-    /// The page as it lies in memory.
+    /// Returns the representation in memory.
     pub fn in_memory(&self) -> &PageInMemory<A>
         ensures { page_shown result.now ≡ self.now }
     {
         &self.held
     }
 
-    /// The same, for good.
+    /// Converts the page into its representation in memory.
     pub fn into_memory(self) -> PageInMemory<A>
         ensures { page_shown result ≡ self }
     {
         self.held
     }
 
-    /// The leaf with this low key and these values.
+    /// Makes a leaf with this low key and these values.
     pub fn leaf(low: Key<A>, chain: Chain<Value<A>, A>) -> Self
         ensures { result ≡ Leaf (record { low = low; layers = chain }) }
     {
         Page::late_leaf(low, LateChain::of(chain))
     }
 
-    /// The leaf with this low key and these values, some of whose runs may count as merged with the base.
+    /// Makes a leaf with this low key and these values, some of whose runs may count as merged into the base.
     pub fn late_leaf(low: Key<A>, chain: LateChain<Value<A>, A>) -> Self
         ensures { result ≡ Leaf (record { low = low; layers = seen chain }) }
     {
         Page::of_memory(PageInMemory::leaf(low, chain))
     }
 
-    /// The index page with this low key and the page ids of these children, each under the child's low key. Its children in one
-    /// list are `ChildList::of` the chain.
+    /// Makes an index page with this low key and the page ids of its children, each under the child's low key. `list`
+    /// is `ChildList::of` the chain.
     pub fn index(low: Key<A>, chain: Chain<Pid, A>, list: ChildList<A>) -> Self
         requires { IsListOf chain list }
         ensures { result ≡ Index (record { low = low; layers = chain }) }
@@ -82,21 +82,21 @@ impl<A: Allocator + Copy> Page<A> {
         Page::of_memory(PageInMemory::index(low, chain, list))
     }
 
-    /// The index page with this low key and this base of children, without runs.
+    /// Makes an index page with this low key and this base of children, without runs.
     pub fn bare_index(low: Key<A>, base: Base<Pid, A>) -> Self
         ensures { result ≡ Index (bare low base) }
     {
         Page::index(low, Chain::of_base(base), ChildList::none())
     }
 
-    /// The bytes of the low key.
+    /// Returns the bytes of the low key.
     pub fn low(&self) -> &[u8]
         ensures { result.now ≡ low_of self.now }
     {
         self.held.low()
     }
 
-    /// The values, where this is a leaf.
+    /// Returns the values if this is a leaf.
     pub fn as_leaf(&self) -> Option<&LateChain<Value<A>, A>>
         ensures { MatchOption result (IsIndex self.now)
             (λ chain. self.now ≡ Leaf (record { low = low_of self.now; layers = seen chain.now })) }
@@ -104,7 +104,7 @@ impl<A: Allocator + Copy> Page<A> {
         self.held.as_leaf()
     }
 
-    /// The page ids of the children, where this is an index page.
+    /// Returns the page ids of the children if this is an index page.
     pub fn as_index(&self) -> Option<&Chain<Pid, A>>
         ensures { MatchOption result (IsLeaf self.now)
             (λ chain. self.now ≡ Index (record { low = low_of self.now; layers = chain.now })) }
@@ -112,7 +112,7 @@ impl<A: Allocator + Copy> Page<A> {
         self.held.as_index()
     }
 
-    /// The children in one list, in order, where this is an index page: of each the low key and the page id.
+    /// Returns the children's low keys and page ids in one list, in order, if this is an index page.
     pub fn child_list(&self) -> Option<&Base<Pid, A>>
         ensures { MatchOption result (IsLeaf self.now)
             (λ list. (list.now ≡ child_entries self.now) × IsIndex self.now) }
@@ -120,7 +120,7 @@ impl<A: Allocator + Copy> Page<A> {
         self.held.child_list()
     }
 
-    /// The low key and the values of this leaf. `as_leaf` is the test for the condition.
+    /// Returns the low key and the values of a leaf. Test with `as_leaf` first.
     pub fn into_leaf(self) -> (Key<A>, LateChain<Value<A>, A>)
         requires { IsLeaf self }
         ensures { self ≡ Leaf (record { low = result.0; layers = seen result.1 }) }
@@ -128,7 +128,7 @@ impl<A: Allocator + Copy> Page<A> {
         self.held.into_leaf()
     }
 
-    /// The low key and the page ids of this index page, with its children in one list. `as_index` is the test for the condition.
+    /// Returns the low key, the page ids and the list of children of an index page. Test with `as_index` first.
     pub fn into_index(self) -> (Key<A>, Chain<Pid, A>, ChildList<A>)
         requires { IsIndex self }
         ensures page { self ≡ Index (record { low = result.0; layers = result.1 }) }
@@ -137,16 +137,16 @@ impl<A: Allocator + Copy> Page<A> {
         self.held.into_index()
     }
 
-    /// Whether this is an index page that has a child at the key or below it, so that `child_for` has an answer.
+    /// Returns whether this is an index page with a child whose low key is not above `key`: the condition of
+    /// `child_for`.
     pub fn has_child_for(&self, key: &[u8]) -> bool
         ensures { IsTrue result ↔ HasChildFor self.now key.now }
     {
         self.last_child(key).is_some()
     }
 
-    /// The page id of the one child in whose range the key lies: the children's ranges follow one another, and the last
-    /// one's ends wherever the page's own does, beyond the key. `has_child_for` is the test for the condition. It takes
-    /// no memory.
+    /// Returns the page id of the child whose range contains `key`. The last child's range is taken to have no end,
+    /// because it ends where the page's own range does. Test with `has_child_for` first. Does not allocate.
     pub fn child_for(&self, key: &[u8]) -> Pid
         requires { HasChildFor self.now key.now }
         ensures { (end : Option Bytes) → is_before end key.now ≡ true →
@@ -160,9 +160,9 @@ impl<A: Allocator + Copy> Page<A> {
         }
     }
 
-    /// The page id of the child that `child_for` gives, and the key at which its range ends: the next child's low key, or
-    /// `None` for the page's last child, whose range ends wherever the page's own does. `has_child_for` is the test for
-    /// the condition. It takes no memory.
+    /// Returns the page id of the child whose range contains `key`, and the end of that range: the next child's low
+    /// key, or `None` for the last child, whose range ends where the page's own does. Test with `has_child_for` first.
+    /// Does not allocate.
     pub fn child_with_end(&self, key: &[u8]) -> (Pid, Option<&[u8]>)
         requires { HasChildFor self.now key.now }
         ensures child { (result.0, option_copied result.1)
@@ -182,8 +182,8 @@ impl<A: Allocator + Copy> Page<A> {
         }
     }
 
-    /// The children whose ranges meet the bounds, from `lo` on and before `hi`, in order: the low key and the page id of
-    /// each. Where no key lies between the bounds, it is the child in whose range `lo` is. It takes no memory.
+    /// Returns the children whose ranges meet the bounds (at or above `lo`, below `hi`) in order, with their low keys
+    /// and page ids. If no key lies between the bounds, it is the child in whose range `lo` is. Does not allocate.
     pub fn children<'a>(&'a self, lo: &'a [u8], hi: Option<&'a [u8]>) -> Children<'a, A>
         ensures { result
             ≡ children_within lo.now (option_copied hi.entry) (child_entries self.now) }
@@ -195,7 +195,7 @@ impl<A: Allocator + Copy> Page<A> {
         }
     }
 
-    // The last child whose low key isn't above the key.
+    // The last child whose low key isn't above `key`.
     fn last_child<'a>(&'a self, key: &'a [u8]) -> Option<(&'a [u8], Pid)>
         ensures child { option_map (λ e. (e.0.now, e.1)) result
             ≡ floor key.now (child_entries self.now) }

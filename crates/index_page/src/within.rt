@@ -11,9 +11,9 @@ use keys::Pid;
 use std::alloc::Allocator;
 use std::marker::Model;
 
-/// The children whose ranges meet two bounds, in order: of each the low key and the page id. The first step searches the
-/// page for the first of them, each later one knows its place, and none takes memory. Contracts see it as the list of those that
-/// are left.
+/// An iterator over the children whose ranges meet two bounds, in order, with their low keys and page ids. The first
+/// step takes a binary search, later steps take none, and no step allocates. Contracts see it as the list of the
+/// remaining children.
 #[derive(Drop)]
 pub struct Children<'a, A: Allocator> {
     pub(crate) page: &'a Page<A>,
@@ -21,12 +21,12 @@ pub struct Children<'a, A: Allocator> {
     pub(crate) next: NextChild<'a>,
 }
 
-// Which child comes next. It isn't searched for before it is asked for.
+// The next child. The first child is searched for when it is asked for.
 #[derive(Clone, Copy)]
 pub(crate) enum NextChild<'a> {
-    // The one in whose range this key lies.
+    // The child whose range contains this key.
     For(&'a [u8]),
-    // The one at this place of the page's children.
+    // The child at this place.
     At(usize),
 }
 

@@ -1,4 +1,4 @@
--- Cells are read back from their spellings, and what is read stands in the bytes: for the proofs of the crates above.
+-- Encoded cells are decoded again, and decoded cells are encoded in the bytes: for the proofs of the crates above.
 use Rattle.std.proofs.Common.{◌≡◌, ℕ, zero, suc, ◌+◌, ◌*◌, ◌^◌, ◌/◌, ◌%◌, ◌<◌, ◌≤◌, Bool, true, false, nat_le, if◌then◌else◌, List, [], ◌∷◌, ◌++◌, length, take, drop, Option, Some, None, refl, sym, ap, ◌∙◌, arith, append_assoc, length-append, le-leb, leb-true}
 use Rattle.std.proofs.Math.Nat.{add-mul, add_assoc, div-add-mod', mod-eq_of_lt, mod-lt, div-one, div-eq_of_lt, mul-add-mod_self_right, mul-add-div_right, mul-le-mul_right, mul_assoc, one-le-pow, pow-succ'}
 use Rattle.std.proofs.Math.Seq.{take-append_seam, drop-append_seam}
@@ -6,7 +6,7 @@ use Rattle.std.proofs.lemmas.List.{take-append-drop, length-take-le}
 use Rattle.std.specs.Int.{byte_at, bytes_high_first}
 use Rattle.keys.specs.Cells.{Codec, AreBytes, IsReadBack, ReadsSpellings, read_on, read_as, read_where, read_number, number, read_bytes, counted, pid_cell}
 
--- ---- what was read, where the whole is known
+-- ---- what was read, if the whole is known
 
 -- something and the bytes after it were read
 abbrev pub gave : {X : Type 0} → X → List ℕ → Option (X × List ℕ)
@@ -40,13 +40,13 @@ read_where-gave test (Some p) x rest h =
     let e = where_passed (test p.0) p.0 x p.1 rest h in
     (e.0, ap test (sym e.1) ∙ e.2)
 
--- ---- a reader that goes on after a codec's
+-- ---- a reader that continues after a codec's
 
 pub bytes_after : (us vs : List ℕ) → AreBytes (us ++ vs) → AreBytes vs
 bytes_after [] vs h = h
 bytes_after (u ∷ us) vs h = bytes_after us vs h.1
 
--- the value that was read first, whose spelling the bytes begin with, and what came of the bytes after it
+-- the value that was decoded first, whose encoding the bytes begin with, and the result of the next decoder on the remaining bytes
 pub record Went {X Y : Type 0} (c : Codec X) (bs : List ℕ) (next : X → List ℕ → Option (Y × List ℕ)) (y : Y) (rest : List ℕ) : Type 0 where
   pub first : X
   pub following : List ℕ
@@ -178,7 +178,7 @@ pid-back p small rest = number-back 8 p small rest
 pub pid-spelled : ReadsSpellings pid_cell
 pid-spelled bs p rest bytes h = number-spelled 8 bs p rest bytes h
 
--- ---- no spelling begins another
+-- ---- no encoding is a prefix of another
 
 pub one_spelling : {X : Type 0} (c : Codec X) (x y : X) → IsReadBack c x → IsReadBack c y → (u v : List ℕ) → c.spell x ++ u ≡ c.spell y ++ v → (x ≡ y) × (u ≡ v)
 one_spelling c x y bx by u v e = same_reading x y u v (sym (bx u) ∙ ap c.read e ∙ by v)

@@ -1,4 +1,4 @@
--- What settings that pass their check say of each field.
+-- Consequences of valid settings for each field.
 use Rattle.std.proofs.Common.{◌≡◌, ℕ, ◌≤◌, Bool, true, false, if◌then◌else◌, nat_le, Some, None, refl, leb-true}
 use Rattle.std.proofs.lemmas.Bool.{and_parts}
 use Rattle.keys.specs.Limits.{is_in_limits, longest_frame, first_bad_field}

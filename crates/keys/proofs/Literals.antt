@@ -75,7 +75,7 @@ ca = 99 ∷ 97 ∷ []
 abbrev pub row_2 : List (Command ℕ)
 row_2 = Get a ∷ Put a (49 ∷ []) ∷ Get a ∷ Put a (50 ∷ []) ∷ Get a ∷ Del a ∷ Get a ∷ []
 
--- row 8: scans see what stands before them in the batch
+-- row 8: a scan sees the commands before it in the batch
 abbrev pub row_8 : List (Command ℕ)
 row_8 = Scan [] None 10 ∷ Del c ∷ Scan b (Some d) 10 ∷ Put ca (57 ∷ []) ∷ Scan b None 2 ∷ []
 

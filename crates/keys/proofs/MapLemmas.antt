@@ -63,7 +63,7 @@ below_all k j [] h a = tt
 below_all k j (i ∷ is) h a = (total.trans k j i h a.0, below_all k j is h a.1)
 
 module _ {V : Type 0} where
-  -- ---- what is put
+  -- ---- puts
 
   -- one step of setting a key, by how the key compares to the first pair's
   abbrev Set : Ordering → List ℕ → V → List ℕ × V → List (List ℕ × V) → List (List ℕ × V) → List (List ℕ × V)
@@ -114,7 +114,7 @@ module _ {V : Type 0} where
   rising-with_pair [] k v r = (tt, tt)
   rising-with_pair (e ∷ es) k v r = rising_put_by (order k e.0) k v e es refl r (rising-with_pair es k v r.1)
 
-  -- ---- what is deleted
+  -- ---- deletes
 
   pub value_at-without : (m : List (List ℕ × V)) (k q : List ℕ) → IsRising m → value_at q (without m k) ≡ cond (is_eq (order k q)) None (value_at q m)
   value_at-without m k q r = lookup-remove_entry alike (λ j. is_eq (order k j)) (λ x y h. alike.congr k x y h) q m (IsDistinct-from_sorted order (keys_of m) r)
@@ -144,7 +144,7 @@ module _ {V : Type 0} where
   rising-without [] k r = tt
   rising-without (e ∷ es) k r = rising_del_by (is_eq (order k e.0)) e es (without es k) r (all_keys-without (λ j. order e.0 j ≡ Less) es k r.0) (rising-without es k r.1)
 
-  -- ---- a map is what it has
+  -- ---- a map is determined by its values
 
   value_at_first : (e : List ℕ × V) (es : List (List ℕ × V)) → value_at e.0 (e ∷ es) ≡ Some e.1
   value_at_first e es = lookup_head (λ j. is_eq (order e.0 j)) e es (is_itself e.0)

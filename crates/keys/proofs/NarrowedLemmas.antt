@@ -1,4 +1,4 @@
--- Lemmas on scans that end at a nearer key, for the proofs of this crate and of those above it.
+-- Lemmas on scans with a closer upper bound, for the proofs of this crate and of those above it.
 use Rattle.std.specs.Prelude.{◌≡◌, ℕ, zero, suc, ◌≤◌, Bool, true, false, not, cond, List, [], ◌∷◌, ◌++◌, length, take, drop, slice_get, Option, Some, None}
 use Rattle.std.proofs.Common.{refl, sym, ap, ◌∙◌, arith, Less}
 use Rattle.std.specs.List.Sorted.{IsStrictlySortedBy}
@@ -52,7 +52,7 @@ module _ {V : Type 0} (lo : List ℕ) (hi : Option (List ℕ)) (end : List ℕ) 
       let none : in_range lo (Some end) es ≡ [] = none_from e.0 es q a in
       record { rest = in_range lo hi (e ∷ es); parts = rw (p, q, none) refl }
 
-  -- of pairs that rise, those before an end stand first
+  -- in a rising list, the pairs before an end are a prefix of it
   pub begins : (es : List (List ℕ × V)) → IsRising es → Begins es
   unfolding IsStrictlySortedBy
   begins [] r = record { rest = []; parts = refl }
@@ -63,7 +63,7 @@ module _ {V : Type 0} (lo : List ℕ) (hi : Option (List ℕ)) (end : List ℕ) 
   first_of_front (suc n) [] ys h = absurd (omega arith)
   first_of_front (suc n) (x ∷ xs) ys h = ap (λ (zs : List (List ℕ × V)). x ∷ zs) (first_of_front n xs ys (omega arith))
 
-  -- where there are enough of them, there are no other rows
+  -- if there are enough of them, there are no other rows
   pub same_rows : (limit : ℕ) (es : List (List ℕ × V)) → IsRising es → limit ≤ length (in_range lo (Some end) es) → rows lo (Some end) limit es ≡ rows lo hi limit es
   same_rows limit es r h =
       let b = begins es r in

@@ -31,7 +31,7 @@ none_by false true lo hi k p q h = absurd (wrong (order k lo) refl)
         cc
 
 module _ {V : Type 0} where
-  -- ---- what is kept of a rising list rises
+  -- ---- a part of a rising list rises
 
   all_by : (P : List ℕ → Type 0) (b : Bool) (e : List ℕ × V) (rest : List (List ℕ × V)) → P e.0 → AllByRecursion P (keys_of rest) → AllByRecursion P (keys_of (cond b (e ∷ rest) rest))
   all_by P true e rest p a = (p, a)
@@ -65,13 +65,13 @@ module _ {V : Type 0} where
   pub rising-rows : (m : List (List ℕ × V)) (lo : List ℕ) (hi : Option (List ℕ)) (limit : ℕ) → IsRising m → IsRising (rows lo hi limit m)
   rising-rows m lo hi limit r = rising-taken limit (in_range lo hi m) (rising-filtered (λ e. is_within lo hi e.0) m r)
 
-  -- ---- look-ups
+  -- ---- lookups
 
   value_at-in_range_by : (b : Bool) (m : List (List ℕ × V)) (lo : List ℕ) (hi : Option (List ℕ)) (k : List ℕ) → is_within lo hi k ≡ b → value_at k (in_range lo hi m) ≡ cond b (value_at k m) None
   value_at-in_range_by b m lo hi k h =
       lookup-filter-keys (λ j. is_eq (order k j)) (is_within lo hi) b (λ j p. ap (is_within lo hi) (sym (passes_same k j p)) ∙ h) m
 
-  -- outside a range a look-up finds what it found, and within it nothing
+  -- outside a range a lookup finds what it found before, and within it nothing
   pub value_at-out_of_range : (m : List (List ℕ × V)) (lo : List ℕ) (hi : Option (List ℕ)) (k : List ℕ) → value_at k (out_of_range lo hi m) ≡ cond (not (is_within lo hi k)) (value_at k m) None
   value_at-out_of_range m lo hi k =
       lookup-filter-keys (λ j. is_eq (order k j)) (λ j. not (is_within lo hi j)) (not (is_within lo hi k)) (λ j p. ap (λ (i : List ℕ). not (is_within lo hi i)) (sym (passes_same k j p))) m
@@ -88,7 +88,7 @@ module _ {V : Type 0} where
       let all = length-filter_both (λ (e : List ℕ × V). is_within lo hi e.0) (λ (e : List ℕ × V). not (is_within lo hi e.0)) (λ e. refl) m in
       omega (arith, all)
 
-  -- a look-up among the first pairs finds nothing else
+  -- a lookup among the first pairs finds nothing else
   cut_by : (b : Bool) (k : List ℕ) (v : V) (e : List ℕ × V) (es rest : List (List ℕ × V)) → (value_at k rest ≡ Some v → value_at k es ≡ Some v) → cond b (Some e.1) (value_at k rest) ≡ Some v → cond b (Some e.1) (value_at k es) ≡ Some v
   cut_by true k v e es rest ih h = h
   cut_by false k v e es rest ih h = ih h

@@ -22,7 +22,7 @@ front n xs ys h = rw (← h) (take-append_seam xs ys)
 rest : (n : ℕ) (xs ys : Bytes) → length xs ≡ n → drop n (xs ++ ys) ≡ ys
 rest n xs ys h = rw (← h) (drop-append_seam xs ys)
 
--- two lengths, a key and a value, and what stands after them
+-- two lengths, a key and a value, and the bytes after them
 abbrev parted : Bytes → Bytes → Bytes → Bytes → Bytes → Bytes
 parted l m key value x = l ++ (m ++ (key ++ (value ++ x)))
 
@@ -33,7 +33,7 @@ record AreParts (l m key value : Bytes) : Type 0 where
   of_key : from_le_bytes w64 l ≡ length key
   of_value : from_le_bytes w64 m ≡ length value
 
--- a row stands first, and is read
+-- the bytes begin with a row, which is decoded
 record IsRead (bytes k v x : Bytes) : Type 0 where
   whole : IsWhole bytes
   key : first_key bytes ≡ k
@@ -116,7 +116,7 @@ count_within (suc n) bytes h = omega (
   count_within n (after_row bytes) h.1,
 )
 
--- two lists whose rows stand in one have no more rows than that has bytes
+-- two lists of rows that are encoded in one byte string have together no more rows than it has bytes
 pub counts_fit : (n m : ℕ) (a b all : Bytes) → AreRows n a → AreRows m b → all ≡ a ++ b → length all < 2 ^ 64 → n + m < 2 ^ 64
 counts_fit n m a b all h k e l =
     let s : length all ≡ length a + length b = rw e (length-append a b) in
@@ -156,7 +156,7 @@ StartWithRows-fewer zero m bytes h l = tt
 StartWithRows-fewer (suc n) zero bytes h l = absurd (omega (arith, l))
 StartWithRows-fewer (suc n) (suc m) bytes h l = (h.0, StartWithRows-fewer n m (after_row bytes) h.1 (omega (arith, l)))
 
--- the bytes of the first rows, and what stands after them
+-- the bytes of the first rows, and the bytes after them
 record IsCut (n m : ℕ) (bytes first : Bytes) : Type 0 where
   all : first ++ after_rows n bytes ≡ bytes
   are : AreRows n first
@@ -181,7 +181,7 @@ cut_at first x bytes h =
     let n : length (first ++ x) - length x ≡ length first = omega (arith, length-append first x) in
     rw (← h, n) (take-append_seam first x)
 
--- the bytes up to what stands after the first rows are those of the first rows
+-- the bytes before the suffix that follows the first n rows are the bytes of the first n rows
 pub AreRows-take : (n m : ℕ) (bytes : Bytes) → AreRows m bytes → n ≤ m → AreRows n (take (length bytes - length (after_rows n bytes)) bytes)
 AreRows-take n m bytes h l =
     let s = cut n m bytes h l in
@@ -197,7 +197,7 @@ after_rows-upto n m bytes h l =
     let s = cut n m bytes h l in
     omega (arith, ap (λ (x : Bytes). length x) s.1.all, length-append s.0 (after_rows n bytes))
 
--- ---- the first row, where there is one
+-- ---- the first row, if there is one
 
 pub first_is_whole : (n : ℕ) (bytes : Bytes) → StartWithRows n bytes → (n ≡ 0 → ⊥) → IsWhole bytes
 first_is_whole zero bytes h l = absurd (l refl)
@@ -251,7 +251,7 @@ Fit-after bytes h =
     Fit-drop (first_len (drop 8 bytes)) (after_key bytes)
     (Fit-drop (first_len bytes) (after_lens bytes) (Fit-drop 8 (drop 8 bytes) (Fit-drop 8 bytes h)))
 
--- a row's bytes as they are pushed, and what stands after them
+-- a row's bytes as they are appended, and the bytes after them
 abbrev spelled : Bytes → Bytes → Bytes → Bytes
 spelled key value x = parted (to_le_bytes w64 (length key)) (to_le_bytes w64 (length value)) key value x
 
@@ -296,7 +296,7 @@ pair_decides p q = (
 pub same_pairs-decides : (m n : Pairs Bytes) → Decides (same_pairs m n) (m ≡ n)
 same_pairs-decides = pointwise_decides pair_decides
 
--- as many rows are the same pairs exactly where their bytes are equal
+-- as many rows are the same pairs if and only if their bytes are equal
 pub bytes_decide : (n m : ℕ) (b c : Bytes) → Fit b → Fit c → AreRows n b → AreRows m c → n ≡ m → pointwise nat_eq b c ≡ same_pairs (rows_in n b) (rows_in m c)
 bytes_decide n m b c f g h k e =
     let d = bytes_decides b c in

@@ -1,5 +1,5 @@
--- The worked rows that speak of commands, computed by the checker. A letter is the key of one byte that stands
--- for it, and a digit the value of one byte. docs/EXAMPLES.md numbers the rows.
+-- The worked rows about commands, evaluated by the checker. A letter denotes the key of that one byte, and a digit the value of that one byte.
+-- docs/EXAMPLES.md numbers the rows.
 use Rattle.std.specs.Prelude.{◌≡◌, ℕ, List, [], ◌∷◌, Some, None}
 use Rattle.std.proofs.Common.{refl}
 use Rattle.keys.specs.Step.{replies_to, map_after_all}
@@ -84,7 +84,7 @@ row_9_map = refl
 beginnings_first : left [] (Put (97 ∷ 0 ∷ []) [] ∷ Put (97 ∷ []) [] ∷ Put [] [] ∷ []) ≡ ([], []) ∷ (97 ∷ [], []) ∷ (97 ∷ 0 ∷ [], []) ∷ []
 beginnings_first = refl
 
--- row 8: scans see what stands before them in the batch
+-- row 8: a scan sees the commands before it in the batch
 abbrev row_8_pairs : Pairs
 row_8_pairs = (a, 49 ∷ []) ∷ (b, 50 ∷ []) ∷ (c, 51 ∷ []) ∷ (d, 52 ∷ []) ∷ (e, 53 ∷ []) ∷ []
 

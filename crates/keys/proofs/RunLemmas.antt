@@ -1,4 +1,4 @@
--- Lemmas on runs of commands.
+-- Lemmas on lists of commands.
 use Rattle.std.specs.Prelude.{◌≡◌, ℕ, Bool, true, false, if◌then◌else◌, not, is_some, List, [], ◌∷◌, ◌++◌}
 use Rattle.std.proofs.Common.{refl, ap}
 use Rattle.keys.specs.Order.{IsRising}

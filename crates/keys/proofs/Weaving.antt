@@ -1,4 +1,4 @@
--- Lemmas on pieces where those without rows stand in a list of their own.
+-- Lemmas on pieces whose scans without rows are in a separate list.
 use Rattle.std.specs.Prelude.{◌≡◌, ℕ, suc, ◌+◌, ◌≤◌, List, [], ◌∷◌, ◌++◌, Option, Some, None, is_some, false, option_to_list, length, take, drop}
 use Rattle.std.proofs.Common.{refl, ap, sym, ◌∙◌, arith}
 use Rattle.std.proofs.lemmas.List.{append_assoc, length-append, take-append-drop, take-append-le, drop-append-le, take_all, drop_all}
@@ -41,7 +41,7 @@ module _ {A : Type 0} where
       rw (take_all r.before ps (omega (arith, h)), drop_all r.before ps (omega (arith, h))) refl
   woven-rowless ps (q ∷ rs) r h = woven-rowless (put_in ps q) rs r h
 
--- ---- where they stand
+-- ---- positions
 
 pub StandWithin-more : (n m : ℕ) (rs : List Rowless) → n ≤ m → StandWithin n rs → StandWithin m rs
 StandWithin-more n m [] l h = tt
@@ -51,7 +51,7 @@ pub StandWithin-push : (n : ℕ) (rs : List Rowless) (r : Rowless) → StandWith
 StandWithin-push n [] r h l = (omega (arith, l), tt)
 StandWithin-push n (q ∷ rs) r h l = (h.0, StandWithin-push (suc n) rs r h.1 (omega (arith, l)))
 
--- ---- what stands in the three parts of a page's answers
+-- ---- the three parts of a page's answers
 
 is_none_by : {X : Type 0} → (o : Option X) → is_some o ≡ false → o ≡ None
 is_none_by None h = refl

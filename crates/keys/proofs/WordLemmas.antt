@@ -1,4 +1,4 @@
--- Words that are compared as numbers, the greatest byte first, compare as their bytes do.
+-- Big-endian words compare as the bytes that they encode.
 use Rattle.std.proofs.Common.{◌≡◌, ℕ, zero, suc, ◌+◌, ◌*◌, ◌<◌, ◌≤◌, List, [], ◌∷◌, length, take, drop, refl, sym, ap, ◌∙◌, arith, slice_index_or, subst}
 use Rattle.keys.specs.Words.{word_after, IsWordOf}
 use Rattle.keys.proofs.MapLemmas.{flipped_less}
@@ -61,7 +61,7 @@ then_again Less p q = refl
 then_again Equal p q = refl
 then_again Greater p q = refl
 
--- what is first decides, and else what is after it
+-- the first word decides, and else the bytes after it
 parted : (n : ℕ) (xs ys : List ℕ) → n ≤ length xs → n ≤ length ys → ordering_then (order (take n xs) (take n ys)) (order (drop n xs) (drop n ys)) ≡ order xs ys
 parted zero xs ys g h = refl
 parted (suc n) [] ys g h = absurd (omega arith)

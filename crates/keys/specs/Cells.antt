@@ -1,62 +1,62 @@
--- How numbers, keys, values and page ids are spelled in bytes, and how they are read.
+-- How numbers, keys, values and page ids are encoded in bytes, and how they are decoded.
 use Rattle.std.specs.Prelude.{◌≡◌, ℕ, zero, suc, ◌+◌, ◌*◌, ◌^◌, ◌<◌, Bool, nat_le, if◌then◌else◌, [], ◌∷◌, ◌++◌, length, take, drop, Option, Some, None}
 use Rattle.std.specs.Int.{bytes_high_first}
 use Rattle.std.specs.List.{AllByRecursion}
 use Rattle.keys.specs.Bytes.{Bytes}
 
--- a spelling in bytes, and its reader: what bytes begin with, where they begin with a spelling, and the bytes after it
+-- an encoding, and its decoder: the decoded value and the bytes after it, or None if the bytes do not begin with an encoded value
 pub record Codec (X : Type 0) : Type 0 where
   pub spell : X → Bytes
   pub read : Bytes → Option (X × Bytes)
 
--- each is a byte
+-- each element is a byte
 abbrev pub AreBytes : Bytes → Type 0
 AreBytes bs = AllByRecursion (λ b. b < 256) bs
 
--- ---- what is asked of a codec
+-- ---- requirements on a codec
 
--- x is read back from its spelling, whatever follows it
+-- x is decoded from its encoding, whatever follows it
 abbrev pub IsReadBack : {X : Type 0} → Codec X → X → Type 0
 IsReadBack c x = (rest : Bytes) → c.read (c.spell x ++ rest) ≡ Some (x, rest)
 
--- what is read from bytes stands there in its spelling
+-- if a value is decoded from bytes, the bytes begin with that value's encoding
 abbrev pub ReadsSpellings : {X : Type 0} → Codec X → Type 0
 ReadsSpellings {X = X} c = (bs : Bytes) (x : X) (rest : Bytes) → AreBytes bs → c.read bs ≡ Some (x, rest) → bs ≡ c.spell x ++ rest
 
--- ---- steps of a reader
+-- ---- combinators for decoders
 
--- what comes of what was read and of the bytes after it, where there is any
+-- passes the decoded value and the remaining bytes to the next decoder, or fails if there is no value
 abbrev pub read_on : {X Y : Type 0} → Option (X × Bytes) → (X → Bytes → Option (Y × Bytes)) → Option (Y × Bytes)
 read_on None next = None
 read_on (Some p) next = next p.0 p.1
 
--- what was read, as f has it
+-- maps the decoded value by f
 abbrev pub read_as : {X Y : Type 0} → (X → Y) → Option (X × Bytes) → Option (Y × Bytes)
 read_as f o = read_on o (λ x rest. Some (f x, rest))
 
--- what was read, where it passes the test
+-- fails unless the decoded value passes the test
 abbrev pub read_where : {X : Type 0} → (X → Bool) → Option (X × Bytes) → Option (X × Bytes)
 read_where test o = read_on o (λ x rest. if test x then Some (x, rest) else None)
 
 -- ---- numbers
 
--- the number that the first w bytes are, the highest byte first
+-- decodes a big-endian number of w bytes
 abbrev pub read_number : ℕ → Bytes → Option (ℕ × Bytes)
 read_number zero bs = Some (0, bs)
 read_number (suc w) [] = None
 read_number (suc w) (b ∷ bs) = read_as (λ n. b * 256 ^ w + n) (read_number w bs)
 
--- a number in w bytes, the highest byte first
+-- the codec of big-endian numbers of w bytes
 abbrev pub number : ℕ → Codec ℕ
 number w = record { spell = bytes_high_first w; read = read_number w }
 
 -- ---- keys and cells
 
--- the first n bytes
+-- decodes n bytes as they are
 abbrev pub read_bytes : ℕ → Bytes → Option (Bytes × Bytes)
 read_bytes n bs = if nat_le n (length bs) then Some (take n bs, drop n bs) else None
 
--- bytes: how many there are, in two bytes, and then they themselves; so a key is spelled
+-- byte strings with their length in two bytes before them; keys are encoded in this way
 abbrev pub counted : Codec Bytes
 counted = record { spell = λ bs. (number 2).spell (length bs) ++ bs; read = λ bs. read_on ((number 2).read bs) read_bytes }
 

@@ -1,5 +1,5 @@
--- What a command touches, what it may do there, and how its reply is put together: said once for each command. Where a command
--- goes, what it may take away and how its pages' answers are joined is derived from these.
+-- What a command touches, what it may do there, and how its reply is put together, defined once for each command. Where a command goes, what it may
+-- delete and how the answers of its pages are joined is derived from these definitions.
 use Rattle.std.specs.Prelude.{ℕ, Bool, true, false, Option}
 use Rattle.std.specs.Ordering.{is_eq}
 use Rattle.keys.specs.Bytes.{Bytes}
@@ -8,7 +8,7 @@ use Rattle.keys.specs.Range.{is_within}
 use Rattle.keys.specs.declared.command.Command.{Command}
 use Rattle.keys.specs.declared.command.Command.TheVariants.{Get, Put, Add, Del, Scan, Wipe}
 
--- the keys that a command is on: one, or those from a lower bound on, and below an upper one where there is one
+-- the keys that a command covers: one key, or a range from a lower bound up to (but excluding) an optional upper bound
 pub data Span : Type 0 where
   One : Bytes → Span
   Range : Bytes → Option Bytes → Span
@@ -21,7 +21,7 @@ span_of (Del k) = One k
 span_of (Scan lo hi limit) = Range lo hi
 span_of (Wipe lo hi) = Range lo hi
 
--- what a command may do to its keys: it only looks, gives them values, or takes them away
+-- what a command may do to its keys: read them, set their value, or delete them
 pub data Deed : Type 0 where
   Looks : Deed
   Gives : Bytes → Deed
@@ -35,8 +35,7 @@ deed_of (Del k) = Takes
 deed_of (Scan lo hi limit) = Looks
 deed_of (Wipe lo hi) = Takes
 
--- how what its pages answer makes its reply: it is the answer of its one page, all their rows up to a limit, or the sum of their
--- counts
+-- how the reply is made of the pages' answers: the answer of a single page, all their rows up to a limit, or the sum of their counts
 pub data Joining : Type 0 where
   Alone : Joining
   RowsUpTo : ℕ → Joining
@@ -50,12 +49,12 @@ joining_of (Del k) = Alone
 joining_of (Scan lo hi limit) = RowsUpTo limit
 joining_of (Wipe lo hi) = Summed
 
--- the key with which a span begins
+-- the first key of a span
 abbrev pub first_of : Span → Bytes
 first_of (One k) = k
 first_of (Range lo hi) = lo
 
--- whether a span is a range, and so may lie in several pages
+-- whether a span is a range, which may lie in several pages
 abbrev pub is_range : Span → Bool
 is_range (One k) = false
 is_range (Range lo hi) = true
@@ -65,13 +64,13 @@ abbrev pub is_in_span : Span → Bytes → Bool
 is_in_span (One k) q = is_eq (order q k)
 is_in_span (Range lo hi) q = is_within lo hi q
 
--- whether a deed leaves every map as it is
+-- whether a command of this kind leaves every map unchanged
 abbrev pub is_looking : Deed → Bool
 is_looking Looks = true
 is_looking (Gives v) = false
 is_looking Takes = false
 
--- whether a reply is put together of rows, and whether of counts
+-- whether a reply is joined from rows; whether it is a sum of counts
 abbrev pub is_of_rows : Joining → Bool
 is_of_rows Alone = false
 is_of_rows (RowsUpTo limit) = true

@@ -10,15 +10,15 @@ use Rattle.keys.specs.declared.settings.Field.TheVariants.{Fan, Chain, MaxKey, M
 abbrev pub is_in_limits : ℕ → ℕ → ℕ → Bool
 is_in_limits least greatest n = nat_le least n && nat_le n greatest
 
--- the bytes that the longest change takes, with its key and its cell: a value, or a page id
+-- the greatest size in bytes of an encoded change, with its key and its cell: a value or a page id
 abbrev pub longest_change : Settings → ℕ
 longest_change s = change_header_size + s.max_key + max (length_size + s.max_value) pid_size
 
--- the bytes that a segment's header and the longest frame take: a low key, and fan entries, each no longer than the longest change
+-- the size in bytes of a segment's header and the longest frame: a low key, and `fan` entries, each as long as the longest change
 abbrev pub longest_frame : Settings → ℕ
 longest_frame s = segment_header_size + full_header_size + s.max_key + s.fan * longest_change s
 
--- each field with its test, in the order in which they are looked at; last the segment's size, which has to hold the longest frame
+-- each field with its test, in the order in which the tests are made; the last one checks that a segment can hold the longest frame
 abbrev pub field_tests : Settings → List (Field × Bool)
 field_tests s =
     (Fan, is_in_limits 4 64 s.fan)
@@ -35,11 +35,11 @@ abbrev pub first_failed : List (Field × Bool) → Option Field
 first_failed [] = None
 first_failed (t ∷ ts) = if t.1 then first_failed ts else Some t.0
 
--- the first field that is out of range, and last the segment's size where the longest frame is longer
+-- the first field that is out of range, or the segment's size if only the longest frame does not fit
 abbrev pub first_bad_field : Settings → Option Field
 first_bad_field s = first_failed (field_tests s)
 
--- how a field is spelled
+-- the name of a field
 abbrev pub field_name : Field → Bytes
 field_name Fan = codes "fan"
 field_name Chain = codes "chain"

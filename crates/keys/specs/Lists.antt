@@ -1,6 +1,6 @@
 -- Lists of lists.
 use Rattle.std.specs.Prelude.{List, flat_map}
 
--- the lists, one after the other, as one list
+-- the concatenation of the lists
 abbrev pub flat : {X : Type 0} → List (List X) → List X
 flat xss = flat_map (λ xs. xs) xss

@@ -7,7 +7,7 @@ use Rattle.std.specs.List.Sorted.{IsStrictlySortedBy}
 use Rattle.std.specs.Map.{keys_of}
 use Rattle.keys.specs.Bytes.{Bytes, Pairs}
 
--- how two byte strings compare: by their bytes, a proper beginning first
+-- byte strings compare bytewise, and a proper prefix comes first
 abbrev pub order : Bytes → Bytes → Ordering
 order = slice_cmp nat_cmp
 
@@ -23,6 +23,6 @@ IsRising es = AreRisingKeys (keys_of es)
 abbrev pub same_pair : Bytes × Bytes → Bytes × Bytes → Bool
 same_pair p q = eq_by_cmp order p.0 q.0 && eq_by_cmp order p.1 q.1
 
--- there are as many pairs, and each is the same as the one at its place
+-- both lists have the same length, and equal pairs at each place
 abbrev pub same_pairs : Pairs Bytes → Pairs Bytes → Bool
 same_pairs = pointwise same_pair

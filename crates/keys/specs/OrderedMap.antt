@@ -10,7 +10,7 @@ use Rattle.keys.specs.Order.{order}
 abbrev pub value_at : {V : Type 0} → Bytes → Pairs V → Option V
 value_at k m = lookup (λ j. is_eq (order k j)) m
 
--- the map with the value at the key: in the place of the pair that has it, else before the first greater key
+-- the map with the value at the key: it replaces the pair with this key, or is inserted before the first greater key
 abbrev pub with_pair : {V : Type 0} → Pairs V → Bytes → V → Pairs V
 with_pair m k v = insert_entry order m k v
 

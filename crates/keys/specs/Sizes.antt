@@ -1,8 +1,8 @@
--- How many bytes the parts of a log take, besides the bytes of keys and values. They stand here, below the log, since the longest
--- frame decides which settings a store may have.
+-- The sizes in bytes of the parts of a log, without the bytes of keys and values. They are defined here, below the crates of the log, because the
+-- longest frame limits the settings.
 use Rattle.std.specs.Prelude.{ℕ}
 
--- how long a key or a value is, and how many entries there are
+-- the field for the length of a key or a value, or for a number of entries
 abbrev pub length_size : ℕ
 length_size = 2
 
@@ -10,30 +10,30 @@ length_size = 2
 abbrev pub pid_size : ℕ
 pid_size = 8
 
--- what a segment begins with: a word, zeros, and the segment's number
+-- a segment's header: a word, zeros, and the segment's number
 abbrev pub segment_header_size : ℕ
 segment_header_size = 16
 
--- what a frame begins with: its kind, the length of all that follows it, and the page's id (1 + 4 + 8)
+-- a frame's header: its kind, the length of the rest of the frame, and the page id (1 + 4 + 8)
 abbrev pub frame_header_size : ℕ
 frame_header_size = 13
 
--- a full frame besides its low key and its entries: its header, the low key's length, and how many entries there are (13 + 2 + 2)
+-- a full frame without its low key and entries: its header, the low key's length, and the number of entries (13 + 2 + 2)
 abbrev pub full_header_size : ℕ
 full_header_size = 17
 
--- a delta frame besides its changes: its header, and how many changes there are (13 + 2)
+-- a delta frame without its changes: its header, and the number of changes (13 + 2)
 abbrev pub delta_header_size : ℕ
 delta_header_size = 15
 
--- a pair besides its key and its value: how long they are (2 + 2)
+-- a pair without its key and value: their lengths (2 + 2)
 abbrev pub pair_header_size : ℕ
 pair_header_size = 4
 
--- a child besides its key: how long that is, and the page id (2 + 8)
+-- a child without its key: the key's length, and the page id (2 + 8)
 abbrev pub child_header_size : ℕ
 child_header_size = 10
 
--- a change besides its key and its cell: how long the key is, and the flag (2 + 1)
+-- a change without its key and cell: the key's length, and the flag (2 + 1)
 abbrev pub change_header_size : ℕ
 change_header_size = 3

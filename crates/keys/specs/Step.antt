@@ -1,4 +1,4 @@
--- What a command answers and what it leaves, of an ordered map; and a run of commands.
+-- The reply to a command and its effect on an ordered map, for one command and for a list of commands.
 use Rattle.std.specs.Prelude.{length, List, [], ◌∷◌, Option, Some, None, is_some, if◌then◌else◌}
 use Rattle.keys.specs.Bytes.{Bytes, Pairs}
 use Rattle.keys.specs.OrderedMap.{value_at, with_pair, without}
@@ -8,12 +8,12 @@ use Rattle.keys.specs.declared.command.Command.TheVariants.{Get, Put, Add, Del, 
 use Rattle.keys.specs.declared.command.Reply.{Reply}
 use Rattle.keys.specs.declared.command.Reply.TheVariants.{Value, Missing, New, Replaced, Added, Exists, Deleted, Rows, Wiped}
 
--- the reply to a Get that finds this
+-- the reply to a Get that finds this value, or none
 abbrev pub found : {A : Type 0} → Option Bytes → Reply A
 found None = Missing
 found (Some v) = Value v
 
--- the reply to the command, of the map before it
+-- the reply to the command on this map
 abbrev pub reply_to : {A : Type 0} → Pairs Bytes → Command A → Reply A
 reply_to m (Get k) = found (value_at k m)
 reply_to m (Put k v) = if is_some (value_at k m) then Replaced else New
@@ -31,12 +31,12 @@ map_after m (Del k) = without m k
 map_after m (Scan lo hi limit) = m
 map_after m (Wipe lo hi) = out_of_range lo hi m
 
--- the replies to commands that are executed in the order of the list
+-- the replies to a list of commands, executed in order
 abbrev pub replies_to : {A : Type 0} → Pairs Bytes → List (Command A) → List (Reply A)
 replies_to m [] = []
 replies_to m (c ∷ cs) = reply_to m c ∷ replies_to (map_after m c) cs
 
--- the map after them all
+-- the map after all of them
 abbrev pub map_after_all : {A : Type 0} → Pairs Bytes → List (Command A) → Pairs Bytes
 map_after_all m [] = m
 map_after_all m (c ∷ cs) = map_after_all (map_after m c) cs

@@ -1,15 +1,15 @@
--- The first bytes of a byte string as one number, by which byte strings are told apart at a glance.
+-- The first eight bytes of a byte string as a number, which is compared before the bytes.
 use Rattle.std.specs.Prelude.{◌≡◌, ℕ, zero, suc, ◌+◌, ◌*◌, [], ◌∷◌}
 use Rattle.keys.specs.Bytes.{Bytes}
 use Rattle.keys.specs.Cells.{AreBytes}
 
--- the next k bytes after a number, the greatest first; zeros stand for those that aren't there
+-- a number followed by the next k bytes, big-endian; missing bytes count as zeros
 abbrev pub word_after : ℕ → ℕ → Bytes → ℕ
 word_after zero n bs = n
 word_after (suc k) n [] = word_after k (n * 256) []
 word_after (suc k) n (b ∷ bs) = word_after k (n * 256 + b) bs
 
--- the first eight
+-- the first eight bytes
 abbrev pub first_word : Bytes → ℕ
 first_word bs = word_after 8 0 bs
 

@@ -1,18 +1,18 @@
-//! The trait of what a page has at a key: a value or a page id.
+//! The trait of what a page stores at a key: a value or a page id.
 ghost use Rattle.std.specs.Prelude.{◌≡◌, IfOk};
 
 use crate::pid::Pid;
 use crate::value::Value;
 use std::alloc::{AllocError, Allocator};
 
-/// What a page has at a key: a value, or for an index page a page id.
+/// What a page stores at a key: a value in a leaf, a page id in an index page.
 pub trait Cell<A: Allocator + Copy> {
-    /// An equal cell, in memory of its own.
+    /// Returns an equal cell in memory of its own, or `Err` if allocation fails.
     fn copy(&self, alloc: A) -> Result<Self, AllocError>
         ensures { IfOk result (λ cell. cell ≡ self.now) };
 
-    /// A cell that takes no memory, to stand where another was taken out. Its content doesn't
-    /// matter.
+    /// Returns a placeholder to leave where a cell was moved out. Its content is unspecified; it
+    /// does not allocate.
     fn blank(alloc: A) -> Self;
 }
 

@@ -8,35 +8,36 @@ use crate::row_list::RowList;
 use crate::value::Value;
 use std::alloc::{AllocError, Allocator};
 
-/// What a caller asks of the store. The commands of a batch count as executed in the order of their places;
-/// `specs/Step.antt` says what each does.
+/// A request to the store. The commands of a batch take effect in the order of their places; `specs/Step.antt` defines
+/// what each one does.
 #[derive(Drop)]
 #[derive_where(Debug, PartialEq, Eq)]
 pub enum Command<A: Allocator> {
-    /// The value at the key.
+    /// Reads the value at the key.
     Get(Key<A>),
-    /// The key has the value from now on.
+    /// Sets the value at the key.
     Put(Key<A>, Value<A>),
-    /// The key has the value from now on, if it was not there.
+    /// Sets the value at the key if the key is absent.
     Add(Key<A>, Value<A>),
-    /// The key is not there from now on.
+    /// Deletes the key.
     Del(Key<A>),
-    /// The first pairs whose keys are the lower bound or above, and below the upper bound where there is one, in key
-    /// order: as many as the limit, at most.
+    /// Reads pairs in key order: those at or above the lower bound and below the upper bound (if there is one), at most
+    /// as many as the limit.
     Scan(Key<A>, Option<Key<A>>, u32),
-    /// No key that is the lower bound or above, and below the upper bound where there is one, is there from now on.
+    /// Deletes all keys at or above the lower bound and below the upper bound (if there is one).
     Wipe(Key<A>, Option<Key<A>>),
 }
 
 impl<A: Allocator + Copy> Command<A> {
-    /// Asks for the value at this key. Keys and values of up to 23 bytes take no memory; `Err` where memory was refused. So do the others.
+    /// Makes a `Get` of `key`. Like the other constructors it copies its bytes: keys and values of up to 23 bytes are
+    /// stored in place, longer ones are allocated, and `Err` means that the allocation failed.
     pub fn get(alloc: A, key: &[u8]) -> Result<Self, AllocError>
         ensures { IfOk result (λ command. command ≡ Get key.now) }
     {
         Ok(Command::Get(Key::from_bytes(alloc, key)?))
     }
 
-    /// Gives this key this value.
+    /// Makes a `Put` of `value` at `key`.
     pub fn put(alloc: A, key: &[u8], value: &[u8]) -> Result<Self, AllocError>
         ensures { IfOk result (λ command. command ≡ Put key.now value.now) }
     {
@@ -45,7 +46,7 @@ impl<A: Allocator + Copy> Command<A> {
         Ok(Command::Put(key, value))
     }
 
-    /// Gives this key this value, if it isn't there.
+    /// Makes an `Add` of `value` at `key`.
     pub fn add(alloc: A, key: &[u8], value: &[u8]) -> Result<Self, AllocError>
         ensures { IfOk result (λ command. command ≡ Add key.now value.now) }
     {
@@ -54,7 +55,7 @@ impl<A: Allocator + Copy> Command<A> {
         Ok(Command::Add(key, value))
     }
 
-    /// Removes this key.
+    /// Makes a `Del` of `key`.
     pub fn del(alloc: A, key: &[u8]) -> Result<Self, AllocError>
         ensures { IfOk result (λ command. command ≡ Del key.now) }
     {
@@ -63,7 +64,7 @@ impl<A: Allocator + Copy> Command<A> {
 }
 
 impl<A: Allocator> Command<A> {
-    /// The key that the command is on; of a scan or a wipe it is the lower bound.
+    /// Returns the key of the command; for a scan or a wipe, its lower bound.
     pub fn key(&self) -> &Key<A>
         ensures { result.now ≡ key_of self.now }
     {
@@ -77,7 +78,7 @@ impl<A: Allocator> Command<A> {
         }
     }
 
-    /// Whether the command is on a range of keys, and so may go to several pages: a scan or a wipe.
+    /// Returns whether the command is a scan or a wipe: it covers a range of keys, which may lie in several pages.
     pub fn is_ranged(&self) -> bool
         ensures { result ≡ is_ranged self.now }
     {
@@ -88,7 +89,7 @@ impl<A: Allocator> Command<A> {
         }
     }
 
-    /// Whether the command is a scan, and so is answered with rows.
+    /// Returns whether the command is a scan. Only scans are answered with rows.
     pub fn is_scan(&self) -> bool
         ensures { result ≡ is_scan self.now }
     {
@@ -96,26 +97,26 @@ impl<A: Allocator> Command<A> {
     }
 }
 
-/// What the store answers to one command.
+/// The store's answer to one command.
 #[derive(Drop)]
 #[derive_where(Debug, PartialEq, Eq)]
 pub enum Reply<A: Allocator> {
-    /// To `Get`: what the key has.
+    /// To `Get`: the value at the key.
     Value(Value<A>),
-    /// To `Get` and `Del`: the key was not there.
+    /// To `Get` and `Del`: the key was absent.
     Missing,
-    /// To `Put`: the key was not there.
+    /// To `Put`: the key was absent.
     New,
-    /// To `Put`: the key was there.
+    /// To `Put`: the key was present.
     Replaced,
-    /// To `Add`: the key was not there.
+    /// To `Add`: the key was absent.
     Added,
-    /// To `Add`: the key was there, and keeps its value.
+    /// To `Add`: the key was present and keeps its value.
     Exists,
-    /// To `Del`: the key was there.
+    /// To `Del`: the key was present.
     Deleted,
     /// To `Scan`: the pairs, in key order.
     Rows(RowList<A>),
-    /// To `Wipe`: how many keys were there, and are no more.
+    /// To `Wipe`: the number of keys that it deleted.
     Wiped(u128),
 }

@@ -1,4 +1,4 @@
-//! Faults: why a call of the store is refused.
+//! Faults: the reasons for which a call of the store is refused.
 ghost use Rattle.std.specs.Prelude.{◌≡◌};
 ghost use Rattle.keys.specs.declared.fault.Fault.TheVariants.{NoMemory};
 
@@ -7,8 +7,8 @@ use crate::settings::Field;
 use std::alloc::{AllocError, AllocFailed};
 use thiserror::Error;
 
-/// Why a call of the store is refused. It prints as its number, its name and what it carries, in decimal, with
-/// single spaces between. After each of these but `Device` the store is as it was before the call.
+/// Why a call of the store was refused. It prints as its number, its name and its fields, in decimal, separated by
+/// single spaces. After any fault except `Device` the store is as it was before the call.
 #[derive(Debug, Drop, Error, PartialEq, Eq)]
 pub enum Fault {
     /// This field of the settings is out of range.
@@ -23,46 +23,48 @@ pub enum Fault {
     /// The batch has more commands than a batch may have.
     #[error("4 BatchTooLong")]
     BatchTooLong,
-    /// The crew has no workers or more than 64, or its pieces no jobs or more than 65,535.
+    /// The crew has no workers or more than 64, or its grain (the number of jobs that a worker takes at a time) is 0
+    /// or above 65,535.
     #[error("5 BadCrew")]
     BadCrew,
-    /// Memory was refused.
+    /// An allocation failed.
     #[error("6 NoMemory")]
     NoMemory,
-    /// A call before this one failed: the store is to be opened again from its disk.
+    /// An earlier call failed: the store must be opened again from its disk.
     #[error("8 Failed")]
     Failed,
-    /// The disk failed. The pages in memory are as before the call; what was being written may be on the disk or not.
+    /// The disk failed. The pages in memory are as before the call; the write that failed may or may not be on the
+    /// disk.
     #[error("9 Device")]
     Device,
-    /// What is to be written would leave no segment free.
+    /// The write would leave no segment free.
     #[error("10 Full")]
     Full,
-    /// The log is in one segment, so that none can be cleaned.
+    /// The log occupies one segment, so there is no segment to clean.
     #[error("11 NothingToClean")]
     NothingToClean,
-    /// The disk has no settings block, or is shorter than that requires.
+    /// The disk has no settings block, or is shorter than its settings require.
     #[error("12 NotAStore")]
     NotAStore,
-    /// No slot is open, or an open one is not well formed.
+    /// No slot is open, or an open slot is malformed.
     #[error("13 NoSlot")]
     NoSlot,
     /// The header of this segment is wrong.
     #[error("14 BadSegment {0}")]
     BadSegment(u64),
-    /// In this segment, at this offset, there is neither a frame nor the end of the frames.
+    /// At this offset of this segment there is neither a valid frame nor the end of the frames.
     #[error("15 BadFrame {0} {1}")]
     BadFrame(u64, u32),
-    /// The tree breaks this rule, at this page.
+    /// The tree breaks this rule at this page.
     #[error("16 BadStructure {0}")]
     BadStructure(Finding),
     /// The tree would have more than 64 levels, or a position or the sequence number would pass 2^62.
     #[error("17 Spent")]
     Spent,
-    /// The disk is too short for the segments that the settings ask for.
+    /// The disk is too short for the number of segments in the settings.
     #[error("18 DiskTooSmall")]
     DiskTooSmall,
-    /// The log has the second version already.
+    /// The log already has the second version.
     #[error("19 AlreadyUpgraded")]
     AlreadyUpgraded,
 }

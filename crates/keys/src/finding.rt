@@ -3,13 +3,13 @@ use crate::pid::Pid;
 use std::fmt;
 use std::marker::Model;
 
-/// A rule of the structure of a tree that doesn't hold, by its number (1 to 10), and the page that breaks it. It prints
-/// as the rule and the page id, in decimal. Contracts see it as a `Finding` of the definitions.
+/// A violated structural rule of the tree: the rule's number (1 to 10) and the page that breaks it. It prints as the
+/// rule and the page id, in decimal. Contracts see it as the definitions' `Finding`.
 #[derive(Clone, Copy, Debug, PartialEq, Eq)]
 pub struct Finding {
     /// The number of the rule.
     pub rule: u32,
-    /// The page that breaks it; for rule 2, which says that there is such a page, the page id.
+    /// The page that breaks the rule; for rule 2 (a page must exist), the id of the missing page.
     pub pid: Pid,
 }
 

@@ -1,17 +1,18 @@
-//! A small number for each key, by which a page knows which of its runs can't name it.
+//! A small hash of a key, by which a page skips runs that cannot contain the key.
 ghost use Rattle.std.specs.Prelude.{◌≡◌, ◌<◌};
 ghost use Rattle.keys.specs.Fingerprint.{spread, fingerprint_of};
 
 use crate::key_ref::first_word;
 
-/// How many fingerprints there are.
+/// The number of possible fingerprints.
 pub const FINGERPRINTS: usize = 64;
 
-// 2^64 by the golden ratio.
+// 2^64 divided by the golden ratio.
 const SPREAD: u64 = 11_400_714_819_323_198_485;
 
-/// The key's fingerprint (the FPTree's word for a small hash of a key), a number below `FINGERPRINTS`. It is made of the first eight
-/// bytes and the last eight: keys of one page mostly begin alike, and others end alike.
+/// Returns the key's fingerprint (the FPTree's word for a small hash of a key), a number below `FINGERPRINTS`. It is
+/// computed from the first eight and the last eight bytes, because some sets of keys share their beginnings and others
+/// their ends.
 #[inline]
 pub fn fingerprint_of(key: &[u8]) -> usize
     ensures fingerprint { result ≡ fingerprint_of key.now }
@@ -22,7 +23,7 @@ pub fn fingerprint_of(key: &[u8]) -> usize
     (spread(both) >> 58) as usize
 }
 
-// The bits of a number, spread over those at the top (Fibonacci hashing, as Knuth describes it).
+// Fibonacci hashing (Knuth): multiplication spreads the bits of `number` over the top bits of the result.
 #[inline]
 fn spread(number: u64) -> u64
     ensures { result ≡ spread number }

@@ -1,11 +1,12 @@
-//! The bytes of a key or a value: few in place, more in a list.
+//! The bytes of a key or a value: short ones in place, longer ones in a list.
 ghost use Rattle.std.specs.Prelude.{◌≡◌, [], IfOk};
 
 use crate::short_bytes::ShortBytes;
 use std::alloc::{AllocError, Allocator};
 use std::marker::Model;
 
-/// The bytes of a key or a value: up to 23 of them are kept in place, more in a list. Contracts see them as their list.
+/// The bytes of a key or a value: up to 23 bytes in place, more in an allocated list. Contracts see them as a list of
+/// bytes.
 #[derive(Drop)]
 pub(crate) struct KeptBytes<A: Allocator> {
     form: Form<A>,
@@ -27,7 +28,7 @@ impl<A: Allocator> Model for KeptBytes<A> {
 }
 
 impl<A: Allocator> KeptBytes<A> {
-    /// No bytes. They take no memory.
+    /// Returns the empty byte string. Does not allocate.
     #[inline]
     pub(crate) fn empty() -> Self
         ensures { result ≡ [] }
@@ -37,7 +38,7 @@ impl<A: Allocator> KeptBytes<A> {
         }
     }
 
-    /// A copy of these bytes. Up to 23 of them take no memory.
+    /// Copies `bytes`. Allocates only if there are more than 23; `Err` if that fails.
     #[inline]
     pub(crate) fn from_bytes(alloc: A, bytes: &[u8]) -> Result<Self, AllocError>
         ensures { IfOk result (λ kept. kept ≡ bytes.now) }
@@ -52,7 +53,6 @@ impl<A: Allocator> KeptBytes<A> {
         }
     }
 
-    /// The bytes.
     #[inline]
     pub(crate) fn as_bytes(&self) -> &[u8]
         ensures { result.now ≡ self.now }

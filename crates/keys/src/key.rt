@@ -13,8 +13,8 @@ use std::alloc::{AllocError, Allocator};
 use std::cmp::Ordering;
 use std::marker::Model;
 
-/// A key: a byte string, which contracts see as the list of its bytes. Keys compare by their bytes, a proper
-/// beginning first, so that the empty key is the least. Keys of up to 23 bytes take no memory of their own.
+/// A key: a byte string, which contracts see as the list of its bytes. Keys compare bytewise, and a proper prefix comes
+/// first, so the empty key is the least. Keys of up to 23 bytes are stored in place and need no allocation.
 #[derive(Drop)]
 pub struct Key<A: Allocator> {
     kept: KeptBytes<A>,
@@ -29,7 +29,7 @@ impl<A: Allocator> Model for Key<A> {
 }
 
 impl<A: Allocator + Copy> Key<A> {
-    /// The empty key. It takes no memory.
+    /// Returns the empty key. Does not allocate.
     #[inline]
     pub fn empty(_alloc: A) -> Self
         ensures { result ≡ [] }
@@ -39,7 +39,7 @@ impl<A: Allocator + Copy> Key<A> {
         }
     }
 
-    /// The key of these bytes. Up to 23 of them take no memory.
+    /// Copies `bytes` into a key. Allocates only if there are more than 23; `Err` if that fails.
     pub fn from_bytes(alloc: A, bytes: &[u8]) -> Result<Self, AllocError>
         ensures { IfOk result (λ key. key ≡ bytes.now) }
     {
@@ -48,7 +48,7 @@ impl<A: Allocator + Copy> Key<A> {
         })
     }
 
-    /// An equal key, in memory of its own where it is longer than 23 bytes.
+    /// Returns an equal key. Allocates only if the key is longer than 23 bytes; `Err` if that fails.
     pub fn copy(&self, alloc: A) -> Result<Self, AllocError>
         ensures { IfOk result (λ key. key ≡ self.now) }
     {
@@ -57,7 +57,7 @@ impl<A: Allocator + Copy> Key<A> {
 }
 
 impl<A: Allocator> Key<A> {
-    /// The bytes of the key.
+    /// Returns the bytes of the key.
     #[inline]
     pub fn as_bytes(&self) -> &[u8]
         ensures { result.now ≡ self.now }
@@ -65,7 +65,7 @@ impl<A: Allocator> Key<A> {
         self.kept.as_bytes()
     }
 
-    /// How many bytes the key has.
+    /// Returns the number of bytes of the key.
     #[inline]
     pub fn len(&self) -> usize
         ensures { result ≡ length self.now }

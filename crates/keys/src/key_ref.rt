@@ -15,8 +15,8 @@ use std::alloc::Allocator;
 use std::cmp::Ordering;
 use std::marker::Model;
 
-/// A key, lent: its bytes, and beside them the first eight as a number, which mostly tells two keys apart without a look at
-/// the bytes. Contracts see it as the list of its bytes.
+/// A borrowed key with its first eight bytes as a number, so that most comparisons need only the numbers. Contracts see
+/// it as the list of its bytes.
 #[derive(Drop)]
 pub struct KeyRef<'a> {
     word: u64,
@@ -35,7 +35,7 @@ impl<'a> Model for KeyRef<'a> {
 }
 
 impl<'a> KeyRef<'a> {
-    /// The key of these bytes.
+    /// Wraps `bytes` and computes their first word.
     #[inline]
     pub fn new(bytes: &'a [u8]) -> Self
         ensures { result ≡ bytes.entry.now }
@@ -46,7 +46,7 @@ impl<'a> KeyRef<'a> {
         }
     }
 
-    /// The same, once more.
+    /// Returns a copy of this reference.
     #[inline]
     pub fn again(&self) -> KeyRef<'a>
         ensures { result ≡ self.now }
@@ -57,7 +57,7 @@ impl<'a> KeyRef<'a> {
         }
     }
 
-    /// The bytes of the key.
+    /// Returns the bytes of the key.
     #[inline]
     pub fn as_bytes(&self) -> &'a [u8]
         ensures { result.now ≡ self.now }
@@ -65,7 +65,7 @@ impl<'a> KeyRef<'a> {
         self.bytes
     }
 
-    /// How this key compares to the other.
+    /// Compares this key to `other` in the order of keys.
     #[inline]
     pub fn compare(&self, other: &KeyRef<'_>) -> Ordering
         ensures { result ≡ order self.now other.now }
@@ -119,8 +119,8 @@ impl Ord for KeyRef<'_> {
     }
 }
 
-/// A key with its first eight bytes as a number beside it, so that a list of keys is mostly searched without a look at the
-/// bytes of each (the poor man's normalized keys of B-trees). Contracts see it as the list of its bytes.
+/// An owned key with its first eight bytes as a number, so that a search in a list of keys seldom reads the bytes of a
+/// key (the poor man's normalized keys of B-trees). Contracts see it as the list of its bytes.
 #[derive(Drop)]
 pub struct KeyWithWord<A: Allocator> {
     word: u64,
@@ -139,7 +139,7 @@ impl<A: Allocator> Model for KeyWithWord<A> {
 }
 
 impl<A: Allocator> KeyWithWord<A> {
-    /// The key, with the number that its bytes begin with.
+    /// Stores `key` together with the number of its first eight bytes.
     pub fn new(key: Key<A>) -> Self
         ensures { result ≡ key }
     {
@@ -149,7 +149,7 @@ impl<A: Allocator> KeyWithWord<A> {
         }
     }
 
-    /// The bytes of the key.
+    /// Returns the bytes of the key.
     #[inline]
     pub fn as_bytes(&self) -> &[u8]
         ensures { result.now ≡ self.now }
@@ -157,7 +157,7 @@ impl<A: Allocator> KeyWithWord<A> {
         self.key.as_bytes()
     }
 
-    /// The key, lent.
+    /// Borrows the key together with its word.
     #[inline]
     pub fn key_ref(&self) -> KeyRef<'_>
         ensures { result ≡ self.now }
@@ -169,7 +169,7 @@ impl<A: Allocator> KeyWithWord<A> {
     }
 }
 
-// The first eight bytes as a number, the greatest first; zeros stand for those that aren't there.
+// The first eight bytes as a big-endian number; missing bytes count as zeros.
 #[inline]
 pub(crate) fn first_word(bytes: &[u8]) -> u64
     ensures word { result ≡ first_word bytes.now }
@@ -181,7 +181,7 @@ pub(crate) fn first_word(bytes: &[u8]) -> u64
     }
 }
 
-// The same of less than eight bytes.
+// `first_word` of fewer than eight bytes.
 fn short_word(bytes: &[u8]) -> u64
     requires { length bytes.now < 8 }
     ensures word { result ≡ first_word bytes.now }

@@ -1,4 +1,4 @@
-//! What the definitions of `specs/` mean, in the words of an ordered map. Each law is the contract of a function
+//! Laws about the definitions of `specs/`, stated in terms of an ordered map. Each law is the contract of a function
 //! with an empty body.
 ghost use Rattle.std.specs.Prelude.{◌≡◌, ◌≢◌, ◌⊎◌, ℕ, ◌+◌, ◌≤◌, true, false, List, [], ◌++◌, length, Option, None, Some};
 ghost use Rattle.std.specs.List.{AllByRecursion};
@@ -17,19 +17,19 @@ ghost use Rattle.keys.specs.declared.command.Reply.TheVariants.{Rows, Wiped};
 
 use std::alloc::Allocator;
 
-/// The order of keys is total, and keys that compare alike are the same bytes.
+/// The order of keys is total, and only equal byte strings compare as equal.
 pub fn keys_are_totally_ordered()
     ensures total { IsTotalOrder order }
     ensures exact { (j k : Bytes) → order j k ≡ Equal → j ≡ k }
 {}
 
-/// Rows are equal exactly where they are the same pairs.
+/// Two lists of rows are equal if and only if they are the same pairs.
 pub fn equal_rows_are_the_same_pairs()
     ensures itself { (m : Pairs Bytes) → same_pairs m m ≡ true }
     ensures exact { (m n : Pairs Bytes) → same_pairs m n ≡ true → m ≡ n }
 {}
 
-/// What is put at a key is read back, and every other key has what it had.
+/// After a put, the key has the new value, and every other key has its old one.
 pub fn what_is_put_is_read_back<V>()
     ensures here { (m : Pairs V) (k : Bytes) (v : V) → value_at k (with_pair m k v) ≡ Some v }
     ensures elsewhere { (m : Pairs V) (k q : Bytes) (v : V) → q ≢ k →
@@ -37,7 +37,7 @@ pub fn what_is_put_is_read_back<V>()
     ensures rising { (m : Pairs V) (k : Bytes) (v : V) → IsRising m → IsRising (with_pair m k v) }
 {}
 
-/// What is deleted is missing, and every other key has what it had.
+/// After a delete, the key is absent, and every other key has its old value.
 pub fn what_is_deleted_is_missing<V>()
     ensures here { (m : Pairs V) (k : Bytes) → IsRising m → value_at k (without m k) ≡ None }
     ensures elsewhere { (m : Pairs V) (k q : Bytes) → IsRising m → q ≢ k →
@@ -45,20 +45,20 @@ pub fn what_is_deleted_is_missing<V>()
     ensures rising { (m : Pairs V) (k : Bytes) → IsRising m → IsRising (without m k) }
 {}
 
-/// Two maps that have the same at every key are the same list of pairs.
+/// Two maps with the same value at every key are the same list of pairs.
 pub fn a_map_is_what_it_has<V>()
     ensures { (m n : Pairs V) → IsRising m → IsRising n →
         ((q : Bytes) → value_at q m ≡ value_at q n) → m ≡ n }
 {}
 
-/// Commands leave a map of strictly rising keys.
+/// Commands keep the keys of a map strictly rising.
 pub fn commands_keep_the_order<A: Allocator>()
     ensures one { (m : Pairs Bytes) (c : Command A) → IsRising m → IsRising (map_after m c) }
     ensures all { (m : Pairs Bytes) (cs : List (Command A)) → IsRising m →
         IsRising (map_after_all m cs) }
 {}
 
-/// A scan is answered with the rows of its range, and leaves the map as it was.
+/// A scan is answered with the rows of its range and does not change the map.
 pub fn a_scan_leaves_the_map<A: Allocator>()
     ensures reply { (m : Pairs Bytes) (lo : Bytes) (hi : Option Bytes) (limit : ℕ) →
         reply_to {A = A} m (Scan lo hi limit) ≡ Rows (rows lo hi limit m) }
@@ -66,8 +66,8 @@ pub fn a_scan_leaves_the_map<A: Allocator>()
         map_after {A = A} m (Scan lo hi limit) ≡ m }
 {}
 
-/// A wipe is answered with how many pairs of the map lie in its range. None of their keys is there afterwards, every other key has
-/// what it had, and the map is that many pairs shorter.
+/// A wipe is answered with the number of pairs of the map in its range. Afterwards these keys are absent, every other
+/// key has its old value, and the map is shorter by that number of pairs.
 pub fn a_wipe_removes_what_lies_in_its_range<A: Allocator>()
     ensures reply { (m : Pairs Bytes) (lo : Bytes) (hi : Option Bytes) →
         reply_to {A = A} m (Wipe lo hi) ≡ Wiped (length (in_range lo hi m)) }
@@ -79,8 +79,8 @@ pub fn a_wipe_removes_what_lies_in_its_range<A: Allocator>()
         length (map_after {A = A} m (Wipe lo hi)) + length (in_range lo hi m) ≡ length m }
 {}
 
-/// Lists of commands joined end to end are executed one after the other: the second list finds the map that the
-/// first one left. So what is proved of one batch is proved of any list of batches.
+/// Executing the concatenation of two lists of commands is executing the second list on the map that the first one
+/// produced. So a theorem about one batch extends to any list of batches.
 pub fn joined_commands_follow_one_another<A: Allocator>()
     ensures replies { (m : Pairs Bytes) (cs ds : List (Command A)) →
         replies_to m (cs ++ ds) ≡ replies_to m cs ++ replies_to (map_after_all m cs) ds }
@@ -88,8 +88,9 @@ pub fn joined_commands_follow_one_another<A: Allocator>()
         map_after_all m (cs ++ ds) ≡ map_after_all (map_after_all m cs) ds }
 {}
 
-/// The rows of a range rise. Each is a pair of the map whose key lies in the range; and such a pair is a row, unless there
-/// are as many rows as may be, each of a lesser key. There are none where the range is empty, or none may be.
+/// The rows of a range are in rising order. Each row is a pair of the map whose key lies in the range. Conversely, each
+/// such pair is a row, unless the limit is reached by rows with smaller keys. There are no rows if the range is empty
+/// or the limit is zero.
 pub fn rows_are_the_first_pairs_of_a_range<V>()
     ensures rising { (m : Pairs V) (lo : Bytes) (hi : Option Bytes) (limit : ℕ) → IsRising m →
         IsRising (rows lo hi limit m) }
@@ -109,8 +110,9 @@ pub fn rows_are_the_first_pairs_of_a_range<V>()
     ensures no_limit_left { (m : Pairs V) (lo : Bytes) (hi : Option Bytes) → rows lo hi 0 m ≡ [] }
 {}
 
-/// A scan that ends at a nearer key, before which it has as many rows as it may, is answered as before; so what lies after that key
-/// needn't be looked at for it. Replies and map of a batch are the same, whichever of its scans end so.
+/// A scan that reaches its limit before some key of the tree may use that key as its upper bound: its answer is the
+/// same, and nothing above that key needs to be read for it. Replies and map of a batch stay the same, whichever of its
+/// scans are narrowed in this way.
 pub fn a_scan_with_enough_rows_may_end<A: Allocator>()
     ensures rows { (keys : List Bytes) (m : Pairs Bytes) (lo : Bytes)
         (hi : Option Bytes) (limit : ℕ) (end : Bytes) →

@@ -1,6 +1,6 @@
-//! What every layer of the engine speaks of: keys, values and page ids, settings, the version of a log, commands and
-//! their replies, and the faults. `specs/` has the order of keys, the ordered map, and what a command does to it.
-//! Other crates name items by this root, and laws by the public module `laws`.
+//! The vocabulary of all layers of the engine: keys, values and page ids, settings, the version of a log, commands and
+//! their replies, and the faults. `specs/` defines the order of keys, the ordered map, and the effect of each command
+//! on it. Other crates name items by this root, and laws by the public module `laws`.
 #![tactic(auto)]
 
 mod cell;

@@ -6,8 +6,8 @@ ghost use Rattle.keys.specs.Range.{is_before};
 
 use std::cmp::Ordering;
 
-/// How the first byte string compares to the second: the first byte in which they differ decides, and a proper
-/// beginning stands first. Eight bytes are compared at a time, as one number.
+/// Compares two byte strings: the first byte in which they differ decides, and a proper prefix comes first. Compares
+/// eight bytes at a time, as numbers.
 #[inline]
 pub fn compare(one: &[u8], other: &[u8]) -> Ordering
     ensures { result ≡ order one.now other.now }
@@ -24,7 +24,7 @@ pub fn compare(one: &[u8], other: &[u8]) -> Ordering
     }
 }
 
-/// Whether the key is below the end; each is where there is none.
+/// Returns whether `key` is below `end`. Without an end, every key is.
 #[inline]
 pub fn is_before(end: Option<&[u8]>, key: &[u8]) -> bool
     ensures { result ≡ is_before (option_copied end.entry) key.now }
@@ -35,7 +35,7 @@ pub fn is_before(end: Option<&[u8]>, key: &[u8]) -> bool
     }
 }
 
-// As `compare`, byte by byte: for the ends that are shorter than a word.
+// Compares byte by byte: for the remainders that are shorter than eight bytes.
 fn compare_bytes(one: &[u8], other: &[u8]) -> Ordering
     ensures { result ≡ order one.now other.now }
 {

@@ -1,8 +1,8 @@
 //! Page ids.
 use std::marker::Model;
 
-/// A page id: the number by which pages name one another, and under which the mapping table keeps a page's
-/// present state. Contracts see it as that number.
+/// A page id: pages refer to each other by it, and the mapping table finds a page's current state by it. Contracts see
+/// it as a number.
 #[derive(Clone, Copy, Debug, PartialEq, Eq, PartialOrd, Ord)]
 pub struct Pid(pub u64);
 

@@ -2,7 +2,7 @@
 use crate::command::Reply;
 use std::alloc::Allocator;
 
-/// What one page answers to the command at one place of a batch.
+/// The answer of one page to the command at one place of a batch.
 #[derive(Drop)]
 pub struct Piece<A: Allocator> {
     /// The command's place in the batch, counted from 0.

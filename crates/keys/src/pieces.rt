@@ -10,22 +10,22 @@ use std::alloc::{AllocError, Allocator};
 use std::marker::Model;
 use std::mem;
 
-// The greatest place, and the greatest number of pieces, that a `Rowless` can hold.
+// The greatest place, and the greatest number of preceding pieces, that a `Rowless` can hold.
 const MOST: usize = u32::MAX as usize;
 
-/// The answer to a scan that found no rows on its page: all that is kept of such a piece, since a batch of scans over emptied
-/// pages has millions of them.
+/// The answer of a page on which a scan found no rows. Such pieces are stored in eight bytes, because a batch of scans
+/// over emptied pages can have millions of them.
 #[derive(Drop)]
 pub struct Rowless {
     /// The scan's place in the batch, counted from 0.
     pub place: u32,
-    /// How many pieces stand before this one.
+    /// The number of pieces before this one.
     pub before: u32,
 }
 
-/// What one page answers to the commands that it has to work, which contracts see as the list of these pieces. The first one
-/// stands beside the list of the others, so that the answer of a page with a single command takes no list; and those of scans
-/// that found no rows stand in a list of their own.
+/// The answers of one page to its commands, which contracts see as one list of pieces. The first piece is stored
+/// outside the list, so that the answer to a single command allocates no list. Answers of scans that found no rows have
+/// a compact list of their own.
 #[derive(Drop)]
 pub struct Pieces<A: Allocator> {
     first: Option<Piece<A>>,
@@ -48,7 +48,7 @@ impl<A: Allocator> Model for Pieces<A> {
 }
 
 impl<A: Allocator + Copy> Pieces<A> {
-    /// No pieces. It takes no memory.
+    /// Returns an empty list of pieces. Does not allocate.
     pub fn empty(alloc: A) -> Self
         ensures { result ≡ [] }
     {
@@ -59,7 +59,8 @@ impl<A: Allocator + Copy> Pieces<A> {
         }
     }
 
-    /// No pieces yet, with room for this many but for scans that find no rows. Room for one takes no memory.
+    /// Returns an empty list with room for `count` pieces other than scans without rows. Room for one piece needs no
+    /// allocation.
     pub fn with_capacity(alloc: A, count: usize) -> Result<Self, AllocError>
         ensures { IfOk result (λ pieces. pieces ≡ []) }
     {
@@ -72,7 +73,7 @@ impl<A: Allocator + Copy> Pieces<A> {
         })
     }
 
-    /// Adds a piece at the end. It takes memory only where there is no room. After an `Err` the pieces are as they were.
+    /// Appends `piece`. Allocates only if no room is reserved. After an `Err` the list is unchanged.
     pub fn push(&mut self, piece: Piece<A>) -> Result<(), AllocError>
         ensures ok { OnOk result (self.new ≡ self.old ++ piece ∷ []) }
         ensures err { OnErr result (self.new ≡ self.old) }
@@ -90,7 +91,6 @@ impl<A: Allocator + Copy> Pieces<A> {
         self.push_whole(piece)
     }
 
-    // How many pieces there are, up to the greatest `usize`.
     fn count(&self) -> usize
         ensures { result ≡ min (length self.now) usize.MAX }
     {
@@ -98,7 +98,6 @@ impl<A: Allocator + Copy> Pieces<A> {
         count_of(&self.first).saturating_add(others)
     }
 
-    // Adds a piece at the end, whatever it answers.
     fn push_whole(&mut self, piece: Piece<A>) -> Result<(), AllocError>
         ensures ok { OnOk result (self.new ≡ self.old ++ piece ∷ []) }
         ensures err { OnErr result (self.new ≡ self.old) }
@@ -111,7 +110,7 @@ impl<A: Allocator + Copy> Pieces<A> {
         Ok(())
     }
 
-    /// The pieces, for good: none are left here. It takes no memory.
+    /// Takes all pieces and leaves an empty list. Does not allocate.
     pub fn take(&mut self) -> Self
         ensures taken { result ≡ self.old }
         ensures left { self.new ≡ [] }
@@ -120,7 +119,8 @@ impl<A: Allocator + Copy> Pieces<A> {
         mem::replace(self, Pieces::empty(alloc))
     }
 
-    /// The first piece but for scans that found no rows, if there is any; the list of the others; and those of such scans.
+    /// Splits into the first piece that is not a scan without rows (if there is one), the other such pieces, and the
+    /// scans without rows.
     pub fn into_parts(self) -> (Option<Piece<A>>, Vec<Piece<A>, A>, Vec<Rowless, A>)
         ensures { self ≡ woven (option_to_list result.0 ++ result.1.items) result.2.items }
     {
@@ -133,7 +133,6 @@ impl<A: Allocator + Copy> Pieces<A> {
     }
 }
 
-// One where there is a piece, and else none.
 fn count_of<A: Allocator>(first: &Option<Piece<A>>) -> usize
     ensures { result ≡ length (option_to_list first.now) }
 {
@@ -143,7 +142,6 @@ fn count_of<A: Allocator>(first: &Option<Piece<A>>) -> usize
     }
 }
 
-// Whether the answer is one of a scan that found no rows.
 fn is_without_rows<A: Allocator>(reply: &Reply<A>) -> bool
     ensures { result ≡ true → reply.now ≡ Rows [] }
 {

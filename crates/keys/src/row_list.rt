@@ -9,16 +9,16 @@ ghost use Rattle.keys.specs.RowBytes.{row_bytes, first_len, first_key, first_val
 use std::alloc::{AllocError, Allocator};
 use std::marker::Model;
 
-// Up to this many bytes a list takes no more memory than it needs; above, it grows as any list does, so that the rows of many
-// pages are copied only a few times.
+// A list of up to this many bytes is allocated to its exact size. A longer one grows geometrically, so that the rows of
+// many pages are copied only a few times.
 const SMALL: usize = 16_384;
 
-/// The rows of a scan: keys and their values, copied out of the pages, which contracts see as the list of these pairs. All
-/// of them stand in one piece of memory. Whoever makes them sees to it that the keys rise.
+/// The rows of a scan: keys and values, copied out of the pages into one buffer, which contracts see as a list of
+/// pairs. The caller must append the rows in rising order of keys.
 #[derive(Drop)]
 pub struct RowList<A: Allocator> {
     count: usize,
-    // The rows back to back: of each the lengths of its key and its value, then these.
+    // The encoded rows, one after the other: the length of the key, the length of the value, the key, the value.
     bytes: Vec<u8, A>,
 }
 
@@ -34,7 +34,7 @@ impl<A: Allocator> Model for RowList<A> {
 }
 
 impl<A: Allocator + Copy> RowList<A> {
-    /// No rows. It takes no memory.
+    /// Returns an empty list. Does not allocate.
     pub fn empty(alloc: A) -> Self
         ensures { result ≡ [] }
     {
@@ -44,7 +44,7 @@ impl<A: Allocator + Copy> RowList<A> {
         }
     }
 
-    /// Adds a row at the end: copies of this key and value. After an `Err` the rows are as they were.
+    /// Appends a row with copies of `key` and `value`. After an `Err` the list is unchanged.
     pub fn push(&mut self, key: &[u8], value: &[u8]) -> Result<(), AllocError>
         ensures ok { OnOk result (self.new ≡ self.old ++ (key.now, value.now) ∷ []) }
         ensures err { OnErr result (self.new ≡ self.old) }
@@ -58,8 +58,8 @@ impl<A: Allocator + Copy> RowList<A> {
         pushed
     }
 
-    /// Copies the other rows, in their order, to the end of these; where there are none, the others are moved, and keep no
-    /// more memory than they need. After an `Err` these rows are as they were.
+    /// Appends the rows of `other`. If this list is empty, `other` is moved instead of copied, and its unused memory is
+    /// freed. After an `Err` this list is unchanged.
     pub fn append(&mut self, other: RowList<A>) -> Result<(), AllocError>
         ensures ok { OnOk result (self.new ≡ self.old ++ other) }
         ensures err { OnErr result (self.new ≡ self.old) }
@@ -78,7 +78,7 @@ impl<A: Allocator + Copy> RowList<A> {
         Ok(())
     }
 
-    /// Drops the rows after the first `len`.
+    /// Keeps the first `len` rows, drops the others, and frees their memory.
     pub fn truncate(&mut self, len: usize)
         ensures { self.new ≡ take len self.old }
     {
@@ -92,7 +92,7 @@ impl<A: Allocator + Copy> RowList<A> {
 }
 
 impl<A: Allocator> RowList<A> {
-    /// How many rows there are.
+    /// Returns the number of rows.
     pub fn len(&self) -> usize
         ensures { result ≡ length self.now }
     {
@@ -117,19 +117,18 @@ impl<A: Allocator> Eq for RowList<A> {
         (on_equiv (λ p. p.1) (eq_by_cmp_equiv nat_list_cmp_total))) };
 }
 
-// Whether both are the same rows. Equal rows take equal bytes, since a row is kept in one way only.
+// Whether the encoded rows are equal. Each row has exactly one encoding, so equal rows have equal bytes.
 #[inline]
 fn same_rows(count: usize, bytes: &[u8], other_count: usize, other_bytes: &[u8]) -> bool
     requires rows { AreRows count bytes.now }
     requires others { AreRows other_count other_bytes.now }
     ensures { result ≡ same_pairs (rows_in count bytes.now) (rows_in other_count other_bytes.now) }
 {
-    // `==` borrows these two names, so that the proof can still read the parameters.
+    // `==` borrows these two names, so the proof can still refer to the parameters.
     let (one, other) = (bytes, other_bytes);
     count == other_count && one == other
 }
 
-// Makes room for this many bytes more.
 fn make_room<A: Allocator>(bytes: &mut Vec<u8, A>, more: usize) -> Result<(), AllocError>
     ensures { bytes.new.items ≡ bytes.old.items }
 {
@@ -139,7 +138,7 @@ fn make_room<A: Allocator>(bytes: &mut Vec<u8, A>, more: usize) -> Result<(), Al
     Ok(())
 }
 
-// Appends the bytes of a row. After an `Err` some of them may stand there.
+// Appends the encoding of a row. After an `Err` a part of the row may have been appended.
 fn push_row<A: Allocator>(
     bytes: &mut Vec<u8, A>,
     key: &[u8],
@@ -158,7 +157,6 @@ fn push_row<A: Allocator>(
     Ok(())
 }
 
-// What stands after the first `count` rows.
 fn after_rows(bytes: &[u8], count: usize) -> &[u8]
     requires { StartWithRows count bytes.now }
     ensures { result.now ≡ after_rows count bytes.now }
@@ -172,7 +170,7 @@ fn after_rows(bytes: &[u8], count: usize) -> &[u8]
     rest
 }
 
-// The first row, its key and its value, and what stands after it.
+// The first row's key, its value, and the bytes after that row.
 #[inline]
 fn first_row(bytes: &[u8]) -> (&[u8], &[u8], &[u8])
     requires { IsWhole bytes.now }
@@ -187,7 +185,7 @@ fn first_row(bytes: &[u8]) -> (&[u8], &[u8], &[u8])
     (key, value, bytes)
 }
 
-// The length that stands first, and what stands after it.
+// The length that `bytes` begin with, and the bytes after it.
 #[inline]
 fn first_len(bytes: &[u8]) -> (usize, &[u8])
     requires { 8 ≤ length bytes.now }
@@ -200,7 +198,7 @@ fn first_len(bytes: &[u8]) -> (usize, &[u8])
     }
 }
 
-/// The rows that are left of a list, in their order: of each the key and the value, lent.
+/// Iterates over the rows in their order, as borrowed keys and values.
 #[derive(Drop)]
 pub struct RowIter<'a> {
     left: usize,

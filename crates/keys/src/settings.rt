@@ -6,7 +6,7 @@ ghost use Rattle.keys.specs.LogSize.{room_of_pairs};
 use crate::fault::Fault;
 use std::fmt;
 
-/// A field of the settings. It prints as the field is spelled.
+/// A field of the settings. It prints as its name.
 #[derive(Clone, Copy, Debug, PartialEq, Eq)]
 pub enum Field {
     Fan,
@@ -38,17 +38,17 @@ impl fmt::Display for Field {
 /// The limits of a store, fixed when it is created.
 #[derive(Clone, Copy, Debug, PartialEq, Eq)]
 pub struct Settings {
-    /// Entries in a page before it is cut: 4 to 64.
+    /// The number of entries of a page above which it is split: 4 to 64.
     pub fan: u32,
-    /// Runs in front of a page's base before it is replaced: 1 to 16.
+    /// The number of runs in front of a page's base before they are merged into it: 1 to 16.
     pub chain: u32,
-    /// Bytes of a key: 1 to 255.
+    /// The greatest length of a key in bytes: 1 to 255.
     pub max_key: u32,
-    /// Bytes of a value: 0 to 1,024.
+    /// The greatest length of a value in bytes: 0 to 1,024.
     pub max_value: u32,
-    /// Bytes of a segment of the log: 256 to 1,048,576.
+    /// The size of a segment of the log in bytes: 256 to 1,048,576.
     pub seg_size: u32,
-    /// Segments of the log: 3 to 65,536.
+    /// The number of segments of the log: 3 to 65,536.
     pub segments: u32,
 }
 
@@ -64,7 +64,7 @@ impl Default for Settings {
       segments = 64;
     } };
 
-    /// The settings that the program has where none are given: a log of 4 MiB, in 64 segments.
+    /// Returns the program's default settings: a log of 4 MiB, in 64 segments.
     fn default() -> Settings {
         Settings {
             fan: 16,
@@ -78,9 +78,9 @@ impl Default for Settings {
 }
 
 impl Settings {
-    /// Looks at the fields in their order, and last at whether the longest frame that a page can need fits into
-    /// a segment. The first field that is out of range is `Fault::BadSettings`; a segment that is too short for
-    /// the longest frame names `seg_size`.
+    /// Checks the limits of the fields in their order, and then that the longest frame of a page fits into a segment.
+    /// Returns `Fault::BadSettings` with the first field that is out of range, or with `seg_size` if a segment is too
+    /// short for the longest frame.
     pub fn check(&self) -> Result<(), Fault>
         ensures { MatchOption (first_bad_field self.now) (result ≡ Ok tt)
             (λ field. result ≡ Err (Fault.BadSettings field)) }
@@ -96,21 +96,21 @@ impl Settings {
         within(Field::SegSize, longest, 0, self.seg_size)
     }
 
-    /// How many bytes the disk of a store with these settings has at least.
+    /// Returns the least size in bytes of a disk for a store with these settings.
     pub fn disk_size(&self) -> u64
         ensures { result ≡ 512 + self.now.segments * self.now.seg_size }
     {
         512 + u64::from(self.segments) * u64::from(self.seg_size)
     }
 
-    /// Settings for a store of this many pairs, with keys of at most `key` bytes and values of at most `value`: pages of 64 entries, at
-    /// most four runs in a leaf, and a log that has room for a base and four runs of each leaf, and for one more text. So a log that is
-    /// full has room again once its segments are cleaned, in whatever batches the pairs are put again. Of a store whose keys only move on,
-    /// as those of a queue, all pairs count that are ever put, unless `flush_cleaning`, `compact` or `tidy` takes the leaves that deletes
-    /// have emptied.
+    /// Returns settings for a store of `pairs` pairs, with keys of at most `key` bytes and values of at most `value`
+    /// bytes: pages of 64 entries, at most four runs in a leaf, and a log with room for a base and four runs of each
+    /// leaf and for one more commit. A log of this size that is full has room again after its segments are cleaned, in
+    /// whatever batches the pairs are put again. If the keys only move on, as in a queue, `pairs` must count all pairs
+    /// that are ever put, unless `flush_cleaning`, `compact` or `tidy` removes the leaves that deletes have emptied.
     ///
-    /// A key or a value out of range is `Fault::BadSettings`, and so are more pairs than 65,536 segments of 1 MiB have room for, which names
-    /// `segments`.
+    /// Returns `Fault::BadSettings` if `key` or `value` is out of range, or (naming `segments`) if the pairs do not fit
+    /// into 65,536 segments of 1 MiB.
     pub fn for_pairs(pairs: u32, key: u32, value: u32) -> Result<Settings, Fault>
         ensures good { IfOk result (λ settings. first_bad_field settings ≡ None) }
         ensures lengths { IfOk result
@@ -141,7 +141,6 @@ impl Settings {
     }
 }
 
-// The room that these pairs need in a log.
 fn room_of_pairs(pairs: u32, key: u32, value: u32) -> u64
     requires key { key ≤ 255 }
     requires value { value ≤ 1024 }
@@ -152,7 +151,7 @@ fn room_of_pairs(pairs: u32, key: u32, value: u32) -> u64
     7 * (pairs * (5 + key + value) + (pairs / 32 + 1) * (28 + 2 * key))
 }
 
-// Refuses the field where the number is not from `least` to `greatest`.
+// Returns `BadSettings` with `field` if `number` is not from `least` to `greatest`.
 fn within(field: Field, number: u32, least: u32, greatest: u32) -> Result<(), Fault>
     ensures { result
         ≡ (if is_in_limits least greatest number then Ok tt else Err (Fault.BadSettings field)) }

@@ -3,15 +3,15 @@ ghost use Rattle.std.specs.Prelude.{◌≡◌, ◌<◌, [], length, MatchOption}
 
 use std::marker::Model;
 
-// With the one that counts them, these take as much as a list that keeps its bytes elsewhere.
+// With the byte that counts them, 23 bytes take as much space as a list that stores its bytes elsewhere.
 const ROOM: usize = 23;
 
 /// Up to 23 bytes, kept in place. Contracts see them as their list.
 #[derive(Drop)]
 pub(crate) struct ShortBytes {
-    // No number, but the alignment of one, so that a key or a value is moved by words.
+    // An empty array, whose alignment lets a key or a value be moved by words.
     words: [u64; 0],
-    // How many of the places are in use, from the first on.
+    // How many of `places` are in use, from the first one on.
     len: u8,
     places: [u8; ROOM],
 }
@@ -28,7 +28,6 @@ impl Model for ShortBytes {
 }
 
 impl ShortBytes {
-    /// No bytes.
     #[inline]
     pub(crate) fn empty() -> Self
         ensures { result ≡ [] }
@@ -40,7 +39,7 @@ impl ShortBytes {
         }
     }
 
-    /// A copy of these bytes, or none where they are too many.
+    /// Copies `bytes`, or returns `None` if there are more than 23.
     #[inline]
     pub(crate) fn from_bytes(bytes: &[u8]) -> Option<Self>
         ensures { MatchOption result (23 < length bytes.now) (λ short. short ≡ bytes.now) }
@@ -58,7 +57,6 @@ impl ShortBytes {
         })
     }
 
-    /// The bytes.
     #[inline]
     pub(crate) fn as_bytes(&self) -> &[u8]
         ensures { result.now ≡ self.now }

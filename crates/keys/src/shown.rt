@@ -1,11 +1,11 @@
-//! How keys, values and rows print in messages: as `b"text"`, in which a byte that isn't a printable one of ASCII is escaped as in a literal.
+//! How keys, values and rows print in messages: as `b"text"`, with every byte escaped that is not printable ASCII.
 use crate::key::Key;
 use crate::row_list::RowList;
 use crate::value::Value;
 use std::alloc::Allocator;
 use std::fmt;
 
-// Bytes in quotes, after a b.
+// Writes `bytes` as a byte string literal.
 fn write_bytes<W: fmt::Write>(bytes: &[u8], f: &mut fmt::Formatter<W>) -> fmt::Result {
     f.write_str("b\"")?;
     for byte in bytes {
@@ -26,7 +26,7 @@ impl<A: Allocator> fmt::Debug for Value<A> {
     }
 }
 
-// A row, after a comma where it isn't the first one.
+// Writes a row, after a comma if it is not the first one.
 fn write_row<W: fmt::Write>(
     is_first: bool,
     key: &[u8],

@@ -10,7 +10,8 @@ use crate::order::compare;
 use std::alloc::{AllocError, Allocator};
 use std::marker::Model;
 
-/// A value: a byte string, which contracts see as the list of its bytes. Values of up to 23 bytes take no memory of their own.
+/// A value: a byte string, which contracts see as the list of its bytes. Values of up to 23 bytes are stored in place
+/// and need no allocation.
 #[derive(Drop)]
 pub struct Value<A: Allocator> {
     kept: KeptBytes<A>,
@@ -25,7 +26,7 @@ impl<A: Allocator> Model for Value<A> {
 }
 
 impl<A: Allocator + Copy> Value<A> {
-    /// The value of no bytes. It takes no memory.
+    /// Returns the empty value. Does not allocate.
     #[inline]
     pub fn empty(_alloc: A) -> Self
         ensures { result ≡ [] }
@@ -35,7 +36,7 @@ impl<A: Allocator + Copy> Value<A> {
         }
     }
 
-    /// The value of these bytes. Up to 23 of them take no memory.
+    /// Copies `bytes` into a value. Allocates only if there are more than 23; `Err` if that fails.
     pub fn from_bytes(alloc: A, bytes: &[u8]) -> Result<Self, AllocError>
         ensures { IfOk result (λ value. value ≡ bytes.now) }
     {
@@ -44,7 +45,7 @@ impl<A: Allocator + Copy> Value<A> {
         })
     }
 
-    /// An equal value, in memory of its own where it is longer than 23 bytes.
+    /// Returns an equal value. Allocates only if the value is longer than 23 bytes; `Err` if that fails.
     pub fn copy(&self, alloc: A) -> Result<Self, AllocError>
         ensures { IfOk result (λ value. value ≡ self.now) }
     {
@@ -53,7 +54,7 @@ impl<A: Allocator + Copy> Value<A> {
 }
 
 impl<A: Allocator> Value<A> {
-    /// The bytes of the value.
+    /// Returns the bytes of the value.
     #[inline]
     pub fn as_bytes(&self) -> &[u8]
         ensures { result.now ≡ self.now }
@@ -61,7 +62,7 @@ impl<A: Allocator> Value<A> {
         self.kept.as_bytes()
     }
 
-    /// How many bytes the value has.
+    /// Returns the number of bytes of the value.
     #[inline]
     pub fn len(&self) -> usize
         ensures { result ≡ length self.now }

@@ -25,7 +25,7 @@ is_equal n = sym (nat_cmp_is n n Equal refl)
 is_greater : (m n : ℕ) → n < m → nat_cmp m n ≡ Greater
 is_greater m n h = sym (nat_cmp_is m n Greater h)
 
--- ---- what is under a pid
+-- ---- the entry under a pid
 
 -- entries with what is under one pid between them
 abbrev pub around : {V : Type 0} → List (ℕ × V) → ℕ → Option V → List (ℕ × V) → List (ℕ × V)
@@ -79,7 +79,7 @@ module _ {V : Type 0} (k : ℕ) where
   pub remove-around : (es : List (ℕ × V)) (o : Option V) (fs : List (ℕ × V)) → IsAround es k fs → remove_entry (is_same_pid k) (around es k o fs) ≡ around es k None fs
   remove-around es o fs h = remove_past es (entry_if k o ++ fs) h.below ∙ ap (λ (x : List (ℕ × V)). es ++ x) (remove_here o fs h.above)
 
--- ---- what the log has, once one pid is outdated
+-- ---- the log states after one pid is outdated
 
 module _ (k : ℕ) where
   apart_by : (b : Bool) (n : ℕ) (l : Logged) → nat_eq n k ≡ b → n ≢ k → cond (b || false) (outdate l) l ≡ l

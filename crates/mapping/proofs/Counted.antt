@@ -1,4 +1,4 @@
--- How many places and pages there are at most.
+-- Upper bounds on the numbers of places and pages.
 use Rattle.std.specs.Prelude.{◌≤◌, ℕ, List, [], ◌∷◌, flat_map, length, Option, Some, None}
 use Rattle.std.proofs.Common.{arith, length-append}
 use Rattle.mapping.specs.Slots.{entry_if}

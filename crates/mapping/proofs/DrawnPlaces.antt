@@ -1,4 +1,4 @@
--- Pids that are drawn, and their places, and these freed again, for the proofs of this crate and of those above it.
+-- Allocated pids and their places, and freeing them again, for the proofs of this crate and of those above it.
 use Rattle.std.specs.Prelude.{◌≡◌, ℕ, zero, suc, ◌+◌, ◌<◌, Bool, true, false, cond, ◌||◌, nat_eq, nat_lt, List, [], ◌∷◌, ◌++◌, Option, Some, None, is_some}
 use Rattle.std.proofs.Common.{refl, sym, ap, ◌∙◌, arith, subst, ltb-true, ltb-false, Ordering, Less, Equal, Greater}
 use Rattle.std.specs.List.{AllByRecursion}
@@ -41,7 +41,7 @@ none_if : {X : Type 0} (o : Option X) → is_some o ≡ false → o ≡ None
 none_if None h = refl
 none_if (Some x) h = absurd (cc)
 
--- ---- an entry put in, and one taken away
+-- ---- an entry put in, and one removed
 
 module _ {V : Type 0} where
   keys_by : (o : Ordering) (c : Bool) (k : ℕ) (v : V) (e : ℕ × V) (es rest : List (ℕ × V)) → nat_cmp k e.0 ≡ o → nat_lt k e.0 ≡ c → nat_eq k e.0 ≡ false → keys_of rest ≡ with_number k (keys_of es)
@@ -96,12 +96,12 @@ module _ {V : Type 0} where
       ap (λ (o : Option V). cond (is_eq (nat_cmp q e.0)) (Some e.1) o) ih
       ∙ pass_by (is_eq (nat_cmp q e.0)) (is_eq (nat_cmp q k)) q k e (listed_at es q) refl refl h
 
-  -- what is listed once a pid's entry is taken away
+  -- the entries after a pid's entry was removed
   pub listed-remove_entry : (k q : ℕ) (es : List (ℕ × V)) → AreRisingPids (keys_of es) → listed_at (remove_entry (is_same_pid k) es) q ≡ cond (is_eq (nat_cmp q k)) None (listed_at es q)
   listed-remove_entry k q [] r = none_by (is_eq (nat_cmp q k))
   listed-remove_entry k q (e ∷ es) r = removed_by (is_eq (nat_cmp k e.0)) k q e es (remove_entry (is_same_pid k) es) refl r (listed-remove_entry k q es r.1)
 
--- ---- pids drawn
+-- ---- allocated pids
 
 -- the table after drawing n pids: these pids, their places, and all else as it was
 pub record AreAway {P : Type 0} (t u : Mapping P) (pids : List ℕ) (n : ℕ) : Type 0 where
@@ -234,7 +234,7 @@ module _ {P : Type 0} where
     old_by [] h = tt
     old_by (l ∷ ls) h = (λ e. h.0 (no_place l.0 e), old_by ls h.1)
 
-    -- to free what was drawn gives the table back
+    -- freeing the allocated pids restores the table
     pub freed-back : IsOldWithoutPlace t → freed_all u pids ≡ t
     freed-back h =
         let logged = logged_kept u pids (subst (λ (ls : List (ℕ × Logged)). AreOld pids ls) (sym a.logged) (old_by t.logged h)) ∙ a.logged in

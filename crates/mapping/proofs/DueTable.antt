@@ -40,7 +40,7 @@ module _ {V : Type 0} where
   lookup_removed k q [] d = refl
   lookup_removed k q (e ∷ es) d = removed_by (is_same_pid k e.0) k q e es (remove_entry (is_same_pid k) es) refl d (lookup_removed k q es d)
 
--- where a pid has an entry the test is of that pid, so another one isn't outdated
+-- if a pid has an entry the test is of that pid, so another one isn't outdated
 outdated_by : (b c : Bool) (k q : ℕ) (l : ℕ × Logged) (rest : Option Logged) → is_eq (nat_cmp q l.0) ≡ b → nat_eq l.0 k ≡ c → q ≢ k
     → cond b (Some (cond (c || false) (outdate l.1) l.1)) rest ≡ cond b (Some l.1) rest
 outdated_by true true k q l rest e f d = absurd (d (same_pid q l.0 (equal_by (nat_cmp q l.0) e) ∙ eqb-true l.0 k f))
@@ -53,7 +53,7 @@ lookup_outdated k q (l ∷ ls) d =
     outdated_by (is_eq (nat_cmp q l.0)) (nat_eq l.0 k) k q l (lookup (is_same_pid q) (outdate_all (k ∷ []) ls)) refl refl d
     ∙ ap (λ (o : Option Logged). cond (is_eq (nat_cmp q l.0)) (Some l.1) o) (lookup_outdated k q ls d)
 
--- what the log hasn't isn't outdated
+-- a log state `No` does not become outdated
 none_outdated_by : (b : Bool) (c : Bool) (l : Logged) (here rest : Option Logged) → or_no (cond b (Some l) here) ≡ No → (or_no here ≡ No → or_no rest ≡ No) → or_no (cond b (Some (cond c (outdate l) l)) rest) ≡ No
 none_outdated_by true true No here rest h ih = refl
 none_outdated_by true false No here rest h ih = refl
@@ -93,7 +93,7 @@ is_written-freed t k q d h =
 is_written-outdated : (t : Mapping PageOfKind) (k q : ℕ) → q ≢ k → IsWritten t q → IsWritten (log_outdated t k) q
 is_written-outdated t k q d h = ap or_no (lookup_outdated k q t.logged d) ∙ h
 
--- ---- what is noted
+-- ---- recorded pids
 
 or_kept : (a b c : Bool) → (b ≡ true → c ≡ true) → (a || b) ≡ true → (a || c) ≡ true
 or_kept true b c f h = refl
@@ -126,14 +126,14 @@ other_due : (e : DuePids) (k q : ℕ) → may_be_due e k ≡ true → may_be_due
 other_due e k q h f same = false≢true (sym f ∙ ap (may_be_due e) same ∙ h)
 
 module _ (t : Mapping PageOfKind) (d e : DuePids) (a : AreNoted t d) (w : IsWithin d e) (k : ℕ) where
-  -- a place changes, of a pid that is noted
+  -- a place of a recorded pid changes
   pub noted-with_place : (p : Option PageOfKind) → may_be_due e k ≡ true → AreNoted (with_place t k p) e
   noted-with_place p h q f = is_written-with_place t k q p (λ apart. a q (not_due d e q w f)) (λ same. absurd (other_due e k q h f same))
 
   pub noted-outdated : may_be_due e k ≡ true → AreNoted (log_outdated t k) e
   noted-outdated h q f = is_written-outdated t k q (other_due e k q h f) (a q (not_due d e q w f))
 
--- a page comes into a place from which one was away, of a pid that the log has something of: so that is noted already
+-- a page is put into its empty place, for a pid that the log has something of: such a pid is recorded already
 due_by : (b : Bool) (t : Mapping PageOfKind) (d : DuePids) (k : ℕ) → may_be_due d k ≡ b → AreNoted t d → place_of t k ≡ Some None → log_of t k ≢ No → may_be_due d k ≡ true
 due_by true t d k e a away h = e
 due_by false t d k e a away h = absurd (h (a k e ∙ ap log_then away))
@@ -149,11 +149,11 @@ no_state of_code_no e = refl
 no_state of_code_old e = absurd (cc)
 no_state (of_code_upto n) e = absurd (cc)
 
--- the same, where it is not noted then
+-- the same, if it was not recorded
 pub noted-put : (t : Mapping PageOfKind) (d : DuePids) (k : ℕ) (p : Option PageOfKind) (l : of_code.Logged) → AreNoted t d → place_of t k ≡ Some None → log_state l ≡ log_of t k → (l ≡ of_code_no → ⊥) → AreNoted (with_place t k p) d
 noted-put t d k p l a away e h = noted-put_back t d k p a away (λ none. h (no_state l (e ∙ none)))
 
--- the place of a page that is away goes
+-- an empty place is freed
 freed_by : (t : Mapping PageOfKind) (d : DuePids) (k q : ℕ) → (q ≡ k) ⊎ (q ≢ k) → AreRisingPids (pids_in_use t) → AreNoted t d → place_of t k ≡ Some None → may_be_due d q ≡ false → IsWritten (freed t k) q
 freed_by t d k q (inl same) r a away f =
     let none : log_of t q ≡ No = a q f ∙ ap log_then (ap (place_of t) same ∙ away) in
@@ -166,7 +166,7 @@ freed_by t d k q (inr apart) r a away f = is_written-freed t k q apart (a q f)
 pub noted-freed : (t : Mapping PageOfKind) (d : DuePids) (k : ℕ) → AreRisingPids (pids_in_use t) → AreNoted t d → place_of t k ≡ Some None → AreNoted (freed t k) d
 noted-freed t d k r a away q f = freed_by t d k q (split q k) r a away f
 
--- ---- places for pids that are drawn
+-- ---- places for allocated pids
 
 room_by_noted : (o : Option (Option PageOfKind)) (t : Mapping PageOfKind) (d : DuePids) (k : ℕ) → place_of t k ≡ o → AreNoted t d → AreNoted (room_by o t k) d
 room_by_noted None t d k none a q f =
@@ -178,7 +178,7 @@ noted-with_rooms t d [] a = a
 noted-with_rooms t d (k ∷ pids) a = noted-with_rooms (with_room t k) d pids (room_by_noted (place_of t k) t d k refl a)
 
 module _ {T E : Type 0} (t u : Mapping PageOfKind) (d e : DuePids) (pids : List ℕ) where
-  -- whatever the answer of what draws them
+  -- whatever the result of the allocation
   pub noted-drawn : (r : Result T E) → AreNoted t d → e ≡ d → OnOk r (u ≡ with_rooms t pids) → OnErr r (u ≡ t) → AreNoted u e
   noted-drawn (Ok x) a same ok err = rw (same, ok) (noted-with_rooms t d pids a)
   noted-drawn (Err x) a same ok err = rw (same, err) a

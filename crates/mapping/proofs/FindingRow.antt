@@ -143,7 +143,7 @@ one_child_each = refl
 no_child : finding S (three_levels []) ≡ found 8 3
 no_child = refl
 
--- ---- rule 9: the pid stands earlier in the walk: page 3 is its own one child
+-- ---- rule 9: the walk has visited the pid before: page 3 is its own only child
 
 own_child : finding S (tree (leaf 1 c [] ∷ index 3 [] (([], 3) ∷ []) ∷ index 4 c ((c, 6) ∷ []) ∷ index 5 [] (([], 3) ∷ (c, 4) ∷ []) ∷ index 6 c ((c, 1) ∷ []) ∷ []) 5 4) ≡ found 9 3
 own_child = refl

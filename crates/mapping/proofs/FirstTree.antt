@@ -1,4 +1,4 @@
--- The tree of a new store is proper, and what its log has is true.
+-- The tree of a new store is proper, and its log states are true.
 use Rattle.std.specs.Prelude.{ℕ, List, []}
 use Rattle.std.proofs.Common.{refl, arith}
 use Rattle.std.specs.List.Sorted.{IsStrictlySortedBy}

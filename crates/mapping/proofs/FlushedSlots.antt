@@ -1,4 +1,4 @@
--- What slots stand for, once the log has all pages that are at home.
+-- The table that slots represent after the log contains all pages of the table.
 use Rattle.std.specs.Prelude.{◌≡◌, ℕ, zero, suc, ◌+◌, ◌<◌, ◌≤◌, List, [], ◌∷◌, ◌++◌, map, take, drop, set, get_or, length, Option}
 use Rattle.std.proofs.Common.{refl, sym, ap, ◌∙◌, arith, subst}
 use Rattle.std.proofs.lemmas.List.{take_at}
@@ -44,7 +44,7 @@ module _ (ss ts : List (TableSlot PageOfKind)) (i : ℕ) (e : ts ≡ so_far ss i
   so_far-all : length ts ≤ i → ts ≡ map slot_then ss
   so_far-all h = e ∙ no_more ss i (subst (λ (x : List (TableSlot PageOfKind)). length x ≤ i) e h)
 
--- ---- what they stand for
+-- ---- the table that they represent
 
 pids-then : (ss : List (TableSlot PageOfKind)) → slot_pids (map slot_then ss) ≡ slot_pids ss
 pids-then [] = refl
@@ -68,14 +68,14 @@ logged-then (s ∷ ss) =
 pub table-then : (ss : List (TableSlot PageOfKind)) → table_of (map slot_then ss) ≡ marked_as_written (table_of ss)
 table-then ss = same_mapping _ _ _ _ (places-then ss) (logged-then ss)
 
--- the slots stand as before
+-- the slots keep their order and their places
 pub slots-then : (ss : List (TableSlot PageOfKind)) (n : ℕ) → AreSlots ss n → AreSlots (map slot_then ss) n
 slots-then ss n a = record {
   rising = subst (λ (ns : List ℕ). AreRisingPids ns) (sym (pids-then ss)) a.rising;
   in_use = subst (λ (t : Mapping PageOfKind). AreInUseBelow t n) (sym (table-then ss)) a.in_use;
 }
 
--- once the loop has ended, and the slots stand in their vector again
+-- after the loop has ended and the slots are back in their vector
 pub all-marked_as_written : (was ss ts : List (TableSlot PageOfKind)) (n i len : ℕ) → AreSlots was n → ss ≡ was → ts ≡ so_far ss i → length ts ≤ i → length ts ≡ len
     → AreSlots (take len (ts ++ drop (length ts) was)) n × (table_of (take len (ts ++ drop (length ts) was)) ≡ marked_as_written (table_of was))
 all-marked_as_written was ss ts n i len a e f l g =

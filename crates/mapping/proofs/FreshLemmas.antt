@@ -1,4 +1,4 @@
--- Drawing the least numbers that have no place, one after the other, and making a place for each.
+-- Allocating the least numbers without a place, one after the other, and making a place for each.
 use Rattle.std.specs.Prelude.{◌≡◌, ◌≢◌, ℕ, zero, suc, Bool, ◌+◌, ◌-◌, ◌<◌, ◌≤◌, ◌⊎◌, true, false, List, [], ◌∷◌, ◌++◌, length, get_or}
 use Rattle.std.proofs.Common.{refl, sym, ap, ◌∙◌, arith, subst, inl, inr}
 use Rattle.std.proofs.lemmas.Bool.{cases_lt}
@@ -16,7 +16,7 @@ use Rattle.mapping.proofs.Listing.{rising-listing}
 
 -- ---- numbers
 
--- m of the least free numbers are drawn, `count` at most, and no free number is left below this one
+-- m of the least free numbers are allocated, at most `count`, and no free number below this one remains
 pub record AreDrawn (used pids : List ℕ) (m count next : ℕ) : Type 0 where
   pub drawn : pids ≡ fresh_pids used m
   pub few : m ≤ count
@@ -126,7 +126,7 @@ module _ {P : Type 0} where
             subst (λ (k : ℕ). is_among k (pids_in_use new) ≡ true) (sym at.2) (drawn_in_use at.0 (omega arith))
         free_by (inr h) = let s : unused used n ≡ q = omega arith in subst (λ (k : ℕ). is_among k (pids_in_use new) ≡ true) s (drawn_in_use n (omega arith))
 
-    -- up to the last pid that is drawn, no number is free
+    -- up to the last allocated pid, no number is free
     pub fresh_in_use : (m : ℕ) → m ≤ unused used n + 1 → AreInUseBelow new m
     fresh_in_use m l q h = in_use_by (is_among q used) q refl (omega arith)
 
@@ -136,14 +136,14 @@ module _ {P : Type 0} (ss ts : List (TableSlot P)) (n count : ℕ) (pids : List 
   abbrev held : List ℕ
   held = pids_in_use (table_of ss)
 
-  -- what was in use stays so
+  -- pids in use stay in use
   pub slots_kept : AreSlots ts n
   slots_kept = record {
     rising = r;
     in_use = subst (λ (t : Mapping P). AreInUseBelow t n) (sym e) (λ q l. rooms_kept (table_of ss) pids q (a.in_use q l));
   }
 
-  -- up to the last pid that was drawn, each number is in use
+  -- up to the last allocated pid, each number is in use
   pub slots_filled : pids ≡ fresh_pids held count → 0 < count → (last next : ℕ) → last ≡ get_or pids (count - 1) last → next ≤ last + 1 → AreSlots ts next
   slots_filled f h last next at l =
       let is_last : last ≡ unused held (count - 1) =

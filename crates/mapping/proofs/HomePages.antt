@@ -21,12 +21,12 @@ module _ {P : Type 0} where
   home_by n m None es h e = absurd (cc)
   home_by n m (Some p) es h e = found_by (is_eq (nat_cmp n m)) p (lookup (is_same_pid n) es) (listed_at (home_pages es) n) e
 
-  -- where all pages are at home, the page at home under a pid is the one that is listed
+  -- if no page is checked out, the page in the table under a pid is the one that is listed
   pub page-home : (es : List (ℕ × Option P)) (n : ℕ) → AllByRecursion (λ e. IsSome e.1) es → at_home (lookup (is_same_pid n) es) ≡ listed_at (home_pages es) n
   page-home [] n a = refl
   page-home (e ∷ es) n a = home_by n e.0 e.1 es a.0 (page-home es n a.1)
 
--- the pids of the slots whose pages are at home are those of the pages
+-- the pids of the slots whose pages are in the table are those of the pages
 module _ {P : Type 0} where
   one-home : (pid : ℕ) (p : TablePlace P) (later : List ℕ) (es : List (ℕ × Option P)) → later ≡ keys_of (home_pages es)
       → cond (is_home_place p) (pid ∷ later) later ≡ keys_of (home_pages (entry_if pid (listed_place p) ++ es))

@@ -24,7 +24,7 @@ module _ {V : Type 0} (q k : ℕ) where
   insert_by Equal e es rest v h f = h
   insert_by Greater e es rest v h f = or_step (nat_eq q e.0) (is_among q (keys_of es)) (is_among q (keys_of rest)) h f
 
-  -- what was in use stays so
+  -- pids in use stay in use
   among-insert_entry : (es : List (ℕ × V)) (v : V) → is_among q (keys_of es) ≡ true → is_among q (keys_of (insert_entry nat_cmp es k v)) ≡ true
   among-insert_entry [] v h = absurd (cc)
   among-insert_entry (e ∷ es) v h = insert_by (nat_cmp k e.0) e es (insert_entry nat_cmp es k v) v h (among-insert_entry es v)
@@ -55,7 +55,7 @@ module _ {V : Type 0} (k : ℕ) where
   new_by Equal e es rest v s f = rw (eq-eqb k e.0 (same_pid k e.0 s)) refl
   new_by Greater e es rest v s f = later_among k e.0 (keys_of rest) f
 
-  -- what is put in is in use
+  -- a pid that is put in is in use
   pub among_new : (es : List (ℕ × V)) (v : V) → is_among k (keys_of (insert_entry nat_cmp es k v)) ≡ true
   among_new [] v = rw (eq-eqb k k refl) refl
   among_new (e ∷ es) v = new_by (nat_cmp k e.0) e es (insert_entry nat_cmp es k v) v refl (among_new es v)

@@ -1,4 +1,4 @@
--- The entries of pages that tile keys, joined, and the places of the children that they name.
+-- The concatenated entries of pages that tile keys, and the places of the children that they describe.
 use Rattle.std.specs.Prelude.{◌≡◌, ℕ, ◌≤◌, true, ⊤, List, [], ◌∷◌, ◌++◌, flat_map, length, Option, Some, None}
 use Rattle.std.proofs.Common.{refl, sym, ap, ◌∙◌, arith, subst}
 use Rattle.std.specs.List.{AllByRecursion}

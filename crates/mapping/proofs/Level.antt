@@ -1,4 +1,4 @@
--- Nothing is found on a level exactly where its pages are what the level above says, and are in order.
+-- There is no finding on a level if and only if its pages are as the level above says, and are in order.
 use Rattle.std.specs.Prelude.{◌≡◌, ◌≢◌, ℕ, Bool, true, false, ◌↔◌, List, [], ◌∷◌, ◌++◌, map, Option, Some, None}
 use Rattle.std.proofs.Common.{refl, sym, ap, ◌∙◌, subst}
 use Rattle.std.specs.List.{AllByRecursion}
@@ -34,14 +34,14 @@ no_rule (r ∷ rs) =
     let rest = no_rule rs in
     (λ h. let a = step.0 h in (a.0, rest.0 a.1), λ a. step.1 (a.0, rest.1 a.1))
 
--- a page is what its place says, and its pid hasn't been met
+-- the page is as its place says, and its pid hasn't been visited
 pub record IsAt {V : Type 0} (Good : Page V → Type 0) (met : List ℕ) (at : Place) (p : Page V) : Type 0 where
   pub low : p.low ≡ at.low
   pub keys : KeepsRange at.low at.end p
   pub good : Good p
   pub new : is_among at.pid met ≡ false
 
--- what is asked of a leaf, and of an index page, by itself
+-- the requirements on a leaf, and on an index page, by itself
 abbrev pub IsGoodLeaf : Settings → Page (List ℕ) → Type 0
 IsGoodLeaf s p = Fits s (IsShortValue s) p
 
@@ -76,7 +76,7 @@ index_rules s least met at p =
       λ k. let f = fits.1 k.good.0 in rules.1 (low.1 k.low, (keys.1 k.keys, (f.0, (f.1, (headed.1 k.good.1, (new.1 k.new, tt)))))),
     )
 
--- nothing is wrong at a place exactly if the table has a page of its kind there, which is what the place says
+-- a place has no finding if and only if the table has a page of its kind there, as the place says
 pub leaf_at_place : (s : Settings) (met : List ℕ) (at : Place) (o : Option PageOfKind)
     → (broken_leaf s met at o ≡ None) ↔ ((o ≡ Some (Leaf (as_leaf o))) × IsAt (IsGoodLeaf s) met at (as_leaf o))
 leaf_at_place s met at None = (λ h. absurd (cc), λ h. absurd (let z = h.0 in cc))
@@ -106,13 +106,13 @@ pub record IsLevel {V : Type 0} (Has : Placed V → Type 0) (Good : Page V → T
 abbrev pub placed : {V : Type 0} → (ℕ → Page V) → ℕ → Placed V
 placed look pid = record { pid = pid; page = look pid }
 
--- that a rule finds nothing at a place exactly if what is under its pid is there, and is what the place says
+-- a rule finds nothing at a place if and only if the page under its pid is there, and is as the place says
 abbrev pub IsTestOf : {V : Type 0} → (Placed V → Type 0) → (Page V → Type 0) → (ℕ → Page V) → (List ℕ → Place → Option ℕ) → Type 0
 IsTestOf Has Good look broken =
     (met : List ℕ) (at : Place) → (broken met at ≡ None) ↔ (Has (placed look at.pid) × IsAt Good met at (look at.pid))
 
 module _ {V : Type 0} (Has : Placed V → Type 0) (Good : Page V → Type 0) (look : ℕ → Page V) (broken : List ℕ → Place → Option ℕ) (each : IsTestOf Has Good look broken) where
-  -- where nothing is found on a level, its pages are those that the entries above name, and in order
+  -- if there is no finding on a level, its pages are those of the entries above, and in order
   pub level_of_none : (ns : Names) (end : Option (List ℕ)) (met : List ℕ) → AreSpaced ns end → Distinct met → on_level broken met (children ns end) ≡ None
       → (let here : List (Placed V) = map (placed look) (values_of ns) in (names here ≡ ns) × IsLevel Has Good end met here)
   level_of_none [] end met r d h = (refl, record { has = tt; tiled = tt; good = tt; distinct = d })
@@ -138,7 +138,7 @@ module _ {V : Type 0} (Has : Placed V → Type 0) (Good : Page V → Type 0) (lo
         },
       )
 
-  -- where the pages are those that the entries above name, and in order, nothing is found
+  -- if the pages are those of the entries above, and in order, there is no finding
   pub none_of_level : (ns : Names) (end : Option (List ℕ)) (met : List ℕ)
       → (let here : List (Placed V) = map (placed look) (values_of ns) in names here ≡ ns → IsLevel Has Good end met here → on_level broken met (children ns end) ≡ None)
   none_of_level [] end met n l = refl

@@ -1,4 +1,4 @@
--- What slots by rising pid list: at the place of a slot, and where one would go.
+-- The lists that slots by rising pid represent: at the index of a slot, and at an index where one would be inserted.
 use Rattle.std.specs.Prelude.{◌≡◌, ℕ, suc, ◌<◌, List, [], ◌∷◌, ◌++◌, map, take, drop, flat_map, length, get_or, set, Option, Some, None}
 use Rattle.std.proofs.Common.{sym, ap, ◌∙◌, arith, subst}
 use Rattle.std.specs.List.{AllByRecursion, insert}
@@ -191,7 +191,7 @@ module _ {S V : Type 0} (pid : S → ℕ) (say : S → Option V) where
         ∙ ap (λ (o : Option V). around (listing (take i ss)) (pid t) o (listing (drop i ss))) f
         ∙ sym (listing-gap ss i k)
 
--- ---- what the log has
+-- ---- log states
 
 module _ {S : Type 0} (pid : S → ℕ) (say : S → Option Logged) where
   pub outdate-slot : (ss : List S) (i k : ℕ) (s : S) → AreRisingPids (map pid ss) → IsSlot pid ss i k s → (t : S) → pid t ≡ k → say t ≡ option_map outdate (say s)

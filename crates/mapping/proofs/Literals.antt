@@ -1,4 +1,4 @@
--- What the examples of findings and the worked rows are written in: pages, trees.
+-- Notation for the examples of findings and the worked rows: pages, trees.
 use Rattle.std.specs.Prelude.{ℕ, List, [], ◌∷◌, map, Option, Some, None}
 use Rattle.keys.proofs.Literals.{c}
 use Rattle.index_page.specs.Page.{PageOfKind}
@@ -38,7 +38,7 @@ index pid low base = index_under pid low [] base
 
 -- ---- trees
 
--- pages, root and height, where the log has nothing
+-- pages, root and height, if the log has nothing
 abbrev pub tree : List (ℕ × PageOfKind) → ℕ → ℕ → Tree
 tree pages root height = record { pages = pages; root = root; height = height; logged = [] }
 

@@ -1,4 +1,4 @@
--- Pids that have been met, and pids that stand once each.
+-- Visited pids, and lists of distinct pids.
 use Rattle.std.specs.Prelude.{◌≡◌, ◌≢◌, ℕ, Bool, true, false, ◌||◌, nat_eq, ◌↔◌, List, [], ◌∷◌, ◌++◌}
 use Rattle.std.proofs.Common.{refl, sym, eqb-true}
 use Rattle.std.proofs.lemmas.Bool.{eqb-false, or_parts}
@@ -29,7 +29,7 @@ module _ (P : ℕ → Type 0) where
       let rest = all_ahead xs n ys in
       (λ a. let r = rest.0 a.1 in (r.0, (a.0, r.1)), λ a. ((a.1).0, rest.1 (a.0, (a.1).1)))
 
--- whether numbers stand once each stays the same when one of them is put in front
+-- moving one of the numbers to the front does not change whether they are distinct
 pub distinct_ahead : (xs : List ℕ) (n : ℕ) (ys : List ℕ) → Distinct (xs ++ n ∷ ys) ↔ Distinct (n ∷ (xs ++ ys))
 distinct_ahead [] n ys = (λ d. d, λ d. d)
 distinct_ahead (x ∷ xs) n ys =

@@ -1,4 +1,4 @@
--- A proper tree, level by level: what holds of each level under those above it.
+-- A proper tree, level by level: properties of each level under those above it.
 use Rattle.std.specs.Prelude.{◌≡◌, ℕ, ◌≤◌, true, ◌↔◌, ⊤, List, [], ◌∷◌, flat_map, length, Some, None}
 use Rattle.std.proofs.Common.{sym, ap, ◌∙◌, arith}
 use Rattle.std.specs.List.{AllByRecursion}
@@ -29,7 +29,7 @@ abbrev pub least_under : List (List (Placed ℕ)) → ℕ
 least_under [] = 2
 least_under (up ∷ ups) = 1
 
--- what is known of a level under those above it
+-- facts about a level under those above it
 pub record IsLevelUnder {V : Type 0} (Has : Placed V → Type 0) (Good : Page V → Type 0) (here : List (Placed V)) (above : List (List (Placed ℕ))) : Type 0 where
   pub named : AreNamed (names here) above
   pub first : next_low here None ≡ Some []
@@ -45,12 +45,12 @@ HasIndex ps p = page_at ps p.pid ≡ Some (Index p.page)
 abbrev pub AreLeaves : Settings → List (ℕ × PageOfKind) → List (Placed (List ℕ)) → List (List (Placed ℕ)) → Type 0
 AreLeaves s ps here above = IsLevelUnder (HasLeaf ps) (IsGoodLeaf s) here above
 
--- what is known of each level of index pages
+-- facts about each level of index pages
 abbrev pub AreAbove : Settings → List (ℕ × PageOfKind) → List (List (Placed ℕ)) → Type 0
 AreAbove s ps [] = ⊤
 AreAbove s ps (up ∷ ups) = IsLevelUnder (HasIndex ps) (IsGoodIndex s (least_under ups)) up ups × AreAbove s ps ups
 
--- what is known of all levels
+-- facts about all levels
 pub record AreParts (s : Settings) (ps : List (ℕ × PageOfKind)) (l : Levels) : Type 0 where
   pub leaves : AreLeaves s ps l.level l.above
   pub above : AreAbove s ps l.above

@@ -215,7 +215,7 @@ drawn_by false u us n m e r l ih =
     ∙ placed_by (nat_lt n u) n u us m refl above
     ∙ unused-counted (u ∷ us) n m l
 
--- once a number is in use, those after it are one place nearer
+-- after a number is taken into use, those after it are one place nearer
 pub unused-drawn : (used : List ℕ) (n m : ℕ) → AreRisingPids used → n ≤ m → unused (with_number (unused used n) used) m ≡ unused used (suc m)
 unused-drawn [] n m r l = unused-counted [] n m l
 unused-drawn (u ∷ us) n m r l = drawn_by (nat_le u n) u us n m refl r l (λ k h. unused-drawn us k (suc m) r.1 h)

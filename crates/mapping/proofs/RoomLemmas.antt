@@ -1,4 +1,4 @@
--- What slots stand for, once a pid has a place.
+-- The table that slots represent after a pid gets a place.
 use Rattle.std.specs.Prelude.{◌≡◌, ℕ, true, List, set, get_or, Option, Some, None, is_some, Result, Ok, Err, OnOk, OnErr}
 use Rattle.std.proofs.Common.{refl, sym, ap, ◌∙◌, arith, subst}
 use Rattle.std.specs.List.{insert}

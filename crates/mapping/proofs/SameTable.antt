@@ -1,4 +1,4 @@
--- Two lists by rising pid that say the same of each pid are one list, for the proofs of this crate and of those above it.
+-- Two lists by rising pid with the same entry under each pid are equal, for the proofs of this crate and of those above it.
 use Rattle.std.specs.Prelude.{◌≡◌, ◌≢◌, ℕ, ◌<◌, Bool, true, false, cond, List, [], ◌∷◌, Option, Some, None}
 use Rattle.std.proofs.Common.{refl, sym, ap, ◌∙◌, arith, Ordering, Less, Equal, Greater}
 use Rattle.std.specs.Ordering.{nat_cmp, is_eq}
@@ -17,7 +17,7 @@ module _ {V : Type 0} where
   first_listed : (e : ℕ × V) (es : List (ℕ × V)) → listed_at (e ∷ es) e.0 ≡ Some e.1
   first_listed e es = rw (tied_itself total e.0) refl
 
-  -- nothing, where it is below all pids that are listed
+  -- nothing, if it is below all pids that are listed
   none_below : (n : ℕ) (es : List (ℕ × V)) → AllByRecursion (λ m. n < m) (keys_of es) → listed_at es n ≡ None
   none_below n [] a = refl
   none_below n (e ∷ es) a =
@@ -64,7 +64,7 @@ module _ {V : Type 0} where
   same_table (d ∷ ds) [] r s h = let f : Some d.1 ≡ None = sym (first_listed d ds) ∙ h d.0 in absurd (cc)
   same_table (d ∷ ds) (e ∷ es) r s h = same_by (nat_cmp d.0 e.0) d e ds es refl r s h (λ rest. same_table ds es r.1 s.1 rest)
 
--- ---- what the log has of each pid
+-- ---- the log state of each pid
 
 found_true : (b : Bool) (page : Option PageOfKind) (what : Logged) (later : Option Logged) → IsTrueOf page what → later ≢ Some No → cond b (Some what) later ≢ Some No
 found_true true page No later t h e = t

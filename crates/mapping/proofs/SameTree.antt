@@ -31,7 +31,7 @@ or_false : (b : Bool) → (b || false) ≡ true → b ≡ true
 or_false true h = refl
 or_false false h = absurd (cc)
 
--- a number that stands in two lists doesn't stand once in both together
+-- if a number is in two lists, their concatenation is not distinct
 twice : (n : ℕ) (xs ys : List ℕ) → Distinct (xs ++ ys) → is_among n xs ≡ true → is_among n ys ≡ true → ⊥
 twice n [] ys d h g = absurd (cc)
 twice n (x ∷ xs) ys d h g =

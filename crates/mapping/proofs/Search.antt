@@ -1,4 +1,4 @@
--- What a search by halves finds among slots by rising pid, and that a pid's slot stands at its own number at the latest.
+-- The result of a binary search among slots by rising pid, and the fact that a slot's index is at most its pid.
 use Rattle.std.specs.Prelude.{◌≡◌, ◌≢◌, ℕ, zero, suc, ◌+◌, ◌<◌, ◌≤◌, List, [], ◌∷◌, ◌++◌, map, take, drop, length, get_or, slice_get, Some, Result, Ok, Err, MatchResult}
 use Rattle.std.proofs.Common.{sym, ap, ◌∙◌, arith, subst}
 use Rattle.std.specs.List.{AllByRecursion}
@@ -12,7 +12,7 @@ use Rattle.mapping.specs.Proper.{AreRisingPids}
 use Rattle.mapping.specs.Slots.{StandsAt, GoesTo}
 use Rattle.mapping.proofs.PidLemmas.{below_later}
 
--- ---- by halves
+-- ---- binary search
 
 module _ {S : Type 0} (pid : S → ℕ) where
   all_places : (P : S → Type 0) (ss : List S) → ((j : ℕ) (d : S) → j < length ss → P (get_or ss j d)) → AllByRecursion P ss
@@ -56,7 +56,7 @@ module _ {S : Type 0} (pid : S → ℕ) where
   stands_at (s ∷ ss) k zero h l = ap (λ (n : ℕ). Some n) (h s)
   stands_at (s ∷ ss) k (suc i) h l = stands_at ss k i h (omega arith)
 
-  -- a search by halves ends at the pid's slot, or where it would go
+  -- a binary search ends at the pid's slot, or where it would be inserted
   pub searched : (ss : List S) (k : ℕ) (r : Result ℕ ℕ) → AreRisingPids (map pid ss) → IsSearchInRange r (length ss) → IsBinarySearchResult (λ s. nat_cmp (pid s) k) ss r → MatchResult r (StandsAt (map pid ss) k) (GoesTo (map pid ss) k)
   searched ss k (Ok at) r within equal = stands_at ss k at (λ d. ranked (pid (get_or ss at d)) k _ (sym (equal d))) within
   searched ss k (Err at) r within parted =
@@ -97,7 +97,7 @@ above_next : (m n : ℕ) (ns : List ℕ) → m ≤ n → AllByRecursion (λ i. n
 above_next m n [] h a = tt
 above_next m n (k ∷ ns) h a = (let x = a.0 in omega arith, above_next m n ns h a.1)
 
--- no pid stands after its own number
+-- no pid has an index greater than itself
 following : (n m k : ℕ) (ns : List ℕ) → k ≤ m + n → AreRisingPids ns → AllByRecursion (λ i. m ≤ i) ns → AllByRecursion (λ i. k ≤ i) (drop n ns)
 following zero m k ns h r a = at_least k m ns (omega arith) a
 following (suc n) m k [] h r a = tt
@@ -110,7 +110,7 @@ all_from_zero (n ∷ ns) = (omega arith, all_from_zero ns)
 all_above : (k n : ℕ) (ns : List ℕ) → AreRisingPids (n ∷ ns) → k ≤ n → n ≢ k → AllByRecursion (λ i. k < i) (n ∷ ns)
 all_above k n ns r h d = let l : k < n = omega arith in (l, below_later k n ns l r.0)
 
--- where a pid doesn't stand at its own number, all from there on are above it
+-- if a pid is not at the index equal to it, all pids from that index on are greater
 above_from : (k : ℕ) (ns : List ℕ) → AreRisingPids ns → k < length ns → get_or ns k 0 ≢ k → AllByRecursion (λ i. k < i) (drop k ns)
 above_from k ns r l d =
     let e : drop k ns ≡ get_or ns k 0 ∷ drop (k + 1) ns = drop_more ns k 0 l in
@@ -143,7 +143,7 @@ near_by ns k (Err at) rising l d goes =
           (all-append (λ n. k < n) (drop at (take k ns)) (drop k ns) goes.above (above_from k ns rising l d));
     }
 
--- a pid that doesn't stand at its own number stands before it, or would go there
+-- a pid that is not at the index equal to it is before that index, or would be inserted before it
 pub near_searched : {S : Type 0} (pid : S → ℕ) (ss : List S) (k : ℕ) (d : S) (r : Result ℕ ℕ) → AreRisingPids (map pid ss) → k < length ss → pid (get_or ss k d) ≢ k
     → MatchResult r (StandsAt (map pid (take k ss)) k) (GoesTo (map pid (take k ss)) k) → MatchResult r (StandsAt (map pid ss) k) (GoesTo (map pid ss) k)
 near_searched pid ss k d r rising within apart found =

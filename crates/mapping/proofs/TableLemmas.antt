@@ -59,7 +59,7 @@ module _ {V : Type 0} where
       ap (λ (x : Option V). cond (is_eq (nat_cmp q e.0)) (Some e.1) x) ih
       ∙ apart_by (is_eq (nat_cmp q k)) (is_eq (nat_cmp q e.0)) v e.1 (listed_at es q) (λ a b. not_both q k e.0 h a b)
 
-  -- what is listed once something is put under a pid
+  -- the entries after something is put under a pid
   pub listed-insert_entry : (es : List (ℕ × V)) (k : ℕ) (v : V) (q : ℕ) → listed_at (insert_entry nat_cmp es k v) q ≡ cond (is_eq (nat_cmp q k)) (Some v) (listed_at es q)
   listed-insert_entry [] k v q = refl
   listed-insert_entry (e ∷ es) k v q = insert_by (nat_cmp k e.0) e es (insert_entry nat_cmp es k v) k v q refl (listed-insert_entry es k v q)

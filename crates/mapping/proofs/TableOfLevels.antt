@@ -1,4 +1,4 @@
--- A table of rising pids that has just the pages of some levels is the table that is made of them.
+-- A table of rising pids that has exactly the pages of some levels is the table that is made of them.
 use Rattle.std.specs.Prelude.{◌≡◌, ℕ, ◌<◌, ◌≤◌, ◌⊎◌, Bool, true, false, nat_eq, List, [], ◌∷◌, flat_map, Option, Some, None}
 use Rattle.std.proofs.Common.{refl, sym, ap, ◌∙◌, subst, arith, inl, inr}
 use Rattle.std.specs.Ordering.{nat_cmp, is_eq}

@@ -1,4 +1,4 @@
--- What the calls make of a small table: pages 10 and 15 at home under the pids 0 and 5, that of pid 2 away, pid 3 freed.
+-- The effect of the calls on a small table: pages 10 and 15 are in it under the pids 0 and 5, that of pid 2 is checked out, pid 3 is freed.
 use Rattle.std.specs.Prelude.{◌≡◌, ℕ, [], ◌∷◌, Some, None}
 use Rattle.std.proofs.Common.{refl}
 use Rattle.mapping.specs.Tree.Logged.{No, Old, Upto}

@@ -1,4 +1,4 @@
--- A change of one slot, as a change of the table that the slots stand for.
+-- A change of one slot as a change of the table that the slots represent.
 use Rattle.std.specs.Prelude.{◌≡◌, ℕ, ◌<◌, ◌≤◌, true, List, length, set, get_or, Option, Some, None, IsSome, is_some}
 use Rattle.std.proofs.Common.{refl, sym, ap, ◌∙◌, subst, arith}
 use Rattle.std.proofs.lemmas.List.{length-map}
@@ -36,7 +36,7 @@ listed_state-outdate No = refl
 listed_state-outdate Old = refl
 listed_state-outdate (Upto k) = refl
 
--- a place that is away is one
+-- an empty place is a place
 pub away_is_some : {X : Type 0} (o : Option (Option X)) → o ≡ Some None → IsSome o
 away_is_some None e = absurd (cc)
 away_is_some (Some x) e = refl
@@ -66,7 +66,7 @@ module _ {P : Type 0} where
   pub slot_here : (ss : List (TableSlot P)) (i k : ℕ) (s : TableSlot P) → StandsAt (slot_pids ss) k i → s ≡ get_or ss i s → IsSlot pid_of ss i k s
   slot_here ss i k s e r = slot_read pid_of ss i k s e (found_within pid_of ss i k e) r
 
-  -- a pid that stands in a slot stands within the slots
+  -- the index of a slot's pid is below the number of slots
   pub stands_within : (ss : List (TableSlot P)) (i k : ℕ) → StandsAt (slot_pids ss) k i → i < length ss
   stands_within ss i k e = found_within pid_of ss i k e
 
@@ -117,7 +117,7 @@ module _ {P : Type 0} where
       rising-set : AreRisingPids (slot_pids (set ss i t))
       rising-set = subst (λ (ns : List ℕ). AreRisingPids ns) (sym (pids-set pid_of ss i k s t h e)) r
 
-      -- the slots stand as before, with this table
+      -- after the change the slots are still ordered, and represent this table
       slots-set : (u : Mapping P) → table_of (set ss i t) ≡ u → AreInUseBelow u n → AreSlots (set ss i t) n
       slots-set u f b = record { rising = rising-set; in_use = subst (λ (u : Mapping P). AreInUseBelow u n) (sym f) b }
 
@@ -159,7 +159,7 @@ module _ {P : Type 0} (ss : List (TableSlot P)) (n : ℕ) (a : AreSlots ss n) (i
       let eq = freed-slot ss i k s a.rising here t pid_is f g in
       (slots-set ss i k s a.rising here m t pid_is (freed (table_of ss) k) eq (in_use-freed (table_of ss) k n m a.in_use x y), eq)
 
-  -- what the log has is outdated
+  -- the log state becomes outdated
   pub slot_outdated : (t : TableSlot P) → t.pid ≡ s.pid → t.page ≡ s.page → log_state t.logged ≡ outdate (log_state s.logged)
       → AreSlots (set ss i t) n × (table_of (set ss i t) ≡ log_outdated (table_of ss) k)
   slot_outdated t e f g =

@@ -1,4 +1,4 @@
--- Lemmas on pages whose ranges follow one another, for the proofs of this crate and of those above it.
+-- Lemmas on pages with contiguous ranges, for the proofs of this crate and of those above it.
 use Rattle.std.specs.Prelude.{◌≡◌, ℕ, ◌<◌, Bool, true, false, not, ◌&&◌, List, [], ◌∷◌, ◌++◌, length, count_by, Option, Some, None}
 use Rattle.std.proofs.Common.{refl, sym, ap, ◌∙◌, subst, arith, append-nil}
 use Rattle.std.specs.List.{AllByRecursion}
@@ -135,7 +135,7 @@ module _ {V : Type 0} where
   some_page [] low e = absurd (cc)
   some_page (p ∷ ps) low e = omega arith
 
-  -- where parents' entries name pages, the pages begin where the parents do
+  -- if parents' entries describe pages, the pages begin where the parents do
   pub next_low-parents : (ups : List (Placed ℕ)) (ps : List (Placed V)) → joined ups ≡ names ps → AllByRecursion (λ u. IsHeaded 1 u.page) ups → next_low ps None ≡ next_low ups None
   next_low-parents [] [] e h = refl
   next_low-parents [] (p ∷ ps) e h = absurd (cc)
@@ -182,7 +182,7 @@ module _ {V : Type 0} where
       ∙ children-append (names xs) (names (p ∷ ys)) end
       ∙ ap (λ (x : List Place). children (names xs) (Some p.page.low) ++ x) (children-cons (name p) (names ys) end ∙ ap (λ (x : Option (List ℕ)). place_of (name p) x ∷ children (names ys) end) (next_names ys end))
 
-  -- a key from the first low key on, and before the end, is within the range of just one page
+  -- a key from the first low key on, and before the end, is within the range of exactly one page
   pub one_page : (ps : List (Placed V)) (end : Option (List ℕ)) (low k : List ℕ) → Tiled ps end → next_low ps end ≡ Some low → is_within low end k ≡ true → count_by (is_place_for k) (children (names ps) end) ≡ 1
   one_page [] end low k t e h = absurd (not_both (is_below k low) (rw e at h))
   one_page (p ∷ ps) end low k t e h =
@@ -196,7 +196,7 @@ module _ {V : Type 0} where
       let same : low ≡ p.page.low = cc in
       no_child (names (p ∷ ps)) end k (rising-names (p ∷ ps) end t) (before-names (p ∷ ps) end t) (subst (λ (l : List ℕ). is_within l end k ≡ false) same h)
 
-  -- so there is such a page, and it stands between two parts of the level
+  -- so there is such a page, between two parts of the level
   abbrev pub HasPageFor : List (Placed V) → Option (List ℕ) → List ℕ → Type 0
   HasPageFor ps end k = (xs : List (Placed V)) × (p : Placed V) × (ys : List (Placed V)) × (ps ≡ xs ++ p ∷ ys) × (is_within p.page.low (next_low ys end) k ≡ true)
 

@@ -1,5 +1,5 @@
 -- The walk that looks for findings and the walk that gathers the levels go over the same pages, so that nothing is
--- found exactly where each level is in order.
+-- found if and only if each level is in order.
 use Rattle.std.specs.Prelude.{◌≡◌, ℕ, zero, suc, pred, true, cond, Bool, false, ◌↔◌, List, [], ◌∷◌, ◌++◌, map, flat_map, length, Option, Some, None}
 use Rattle.std.proofs.Common.{refl, sym, ap, ◌∙◌, arith, subst}
 use Rattle.std.specs.List.{AllByRecursion}
@@ -28,7 +28,7 @@ unmet_by : (b : Bool) (f : Finding) (later : Option Finding) → (cond b later (
 unmet_by true f later = (λ h. (refl, h), λ h. h.1)
 unmet_by false f later = (λ h. absurd (cc), λ h. absurd (let z = h.0 in cc))
 
--- no page is unmet exactly if each has been met
+-- no page is unvisited if and only if each has been visited
 unmet_none : (met : List ℕ) (ps : List (ℕ × PageOfKind)) → (unmet met ps ≡ None) ↔ AllByRecursion (λ pid. is_among pid met ≡ true) (keys_of ps)
 unmet_none met [] = (λ h. tt, λ a. refl)
 unmet_none met (p ∷ ps) =
@@ -41,7 +41,7 @@ module _ {V : Type 0} (look : ℕ → Page V) where
   pids_at [] = refl
   pids_at (n ∷ ns) = ap (λ (x : List ℕ). n ∷ x) (pids_at ns)
 
-  -- after a level, its pages' pids have been met, and those before
+  -- after a level, its pages' pids have been visited, and those visited before
   met_after : (ns : Names) (met : List ℕ) → all_met met (children ns None) ≡ pids (map (placed look) (values_of ns)) ++ met
   met_after ns met = ap (λ (x : List ℕ). x ++ met) (pids-children ns None ∙ sym (pids_at (values_of ns)))
 
@@ -54,13 +54,13 @@ module _ {V : Type 0} (look : ℕ → Page V) where
       ap (λ (k : List ℕ). pair k ∷ []) low
   one_name (e ∷ d ∷ ns) l f g = absurd (omega arith)
 
-  -- a level's pages have the names that the level above says, by what is known of the level
+  -- a level's pages have the entries of the level above, by the facts about the level
   same_names : (ns : Names) (above : List (List (Placed ℕ))) → AreNamed ns above → next_key ns None ≡ Some []
       → (let here : List (Placed V) = map (placed look) (values_of ns) in AreNamed (names here) above → next_low here None ≡ Some [] → names here ≡ ns)
   same_names ns [] m f n g = one_name ns m f g
   same_names ns (up ∷ ups) m f n g = sym n ∙ m
 
--- where a level's pages are named by entries that begin at the empty key, so do they
+-- if a level's pages are named by entries that begin at the empty key, so do they
 first_of_named : {V : Type 0} → (here : List (Placed V)) (ns : Names) → names here ≡ ns → next_key ns None ≡ Some [] → next_low here None ≡ Some []
 first_of_named here ns e f = sym (next_names here None) ∙ ap (λ (x : Names). next_key x None) e ∙ f
 
@@ -106,7 +106,7 @@ module _ (s : Settings) (ps : List (ℕ × PageOfKind)) where
 
   -- ---- down the levels
 
-  -- where nothing is found, each level is in order
+  -- if there is no finding, each level is in order
   parts_of_none : (n : ℕ) (ns : Names) (above : List (List (Placed ℕ))) → AreNamed ns above → next_key ns None ≡ Some [] → AreSpaced ns None → Distinct (flat_map pids above)
       → AreAbove s ps above → finding_below s ps n (least_under above) (flat_map pids above) (children ns None) ≡ None → AreParts s ps (levels_below ps n (values_of ns) above)
   parts_of_none zero ns above m f r d a h =
@@ -147,7 +147,7 @@ module _ (s : Settings) (ps : List (ℕ × PageOfKind)) where
       let here : List (Placed ℕ) = map (index_at ps) level in
       (above_here n (values_of (joined here)) (here ∷ above) a).1
 
-  -- where each level is in order, nothing is found
+  -- if each level is in order, there is no finding
   none_of_parts : (n : ℕ) (ns : Names) (above : List (List (Placed ℕ))) → AreNamed ns above → next_key ns None ≡ Some [] → AreParts s ps (levels_below ps n (values_of ns) above)
       → finding_below s ps n (least_under above) (flat_map pids above) (children ns None) ≡ None
   none_of_parts zero ns above m f a =

@@ -1,4 +1,4 @@
--- What the log has once all pages are written.
+-- What the log contains after all pages are written.
 use Rattle.std.specs.Prelude.{ℕ, ◌-◌, ◌^◌, min, List, map, Option, if◌then◌else◌}
 use Rattle.delta_chain.specs.Layers.{depth_of}
 use Rattle.index_page.specs.Page.{PageOfKind}
@@ -19,28 +19,28 @@ abbrev pub page_depth : PageOfKind → ℕ
 page_depth (Leaf p) = depth_of p.layers
 page_depth (Index p) = depth_of p.layers
 
--- that number as the code counts it: up to the greatest `u64`
+-- that number as the code counts it: capped at the greatest `u64`
 abbrev pub depth_counted : PageOfKind → ℕ
 depth_counted p = min (page_depth p) (2 ^ 64 - 1)
 
--- each page at home, with all its runs
+-- each page in the table, with all its runs
 abbrev pub logged_home_pages : List (ℕ × Option PageOfKind) → List (ℕ × tree.Logged)
 logged_home_pages es = map (λ e. (e.0, upto (depth_counted e.1))) (home_pages es)
 
--- the table once the log has each page at home as it is, and nothing of any other pid
+-- the table after the log contains each of its pages with all its runs, and nothing of any other pid
 abbrev pub marked_as_written : Mapping PageOfKind → Mapping PageOfKind
 marked_as_written t = record { places = t.places; logged = logged_home_pages t.places }
 
--- the code's log state of what stands in a slot then
+-- the code's log state of a slot's place after a flush
 abbrev pub logged_then : TablePlace PageOfKind → Logged
 logged_then Vacant = No
 logged_then Away = No
 logged_then (Home p) = Upto (depth_counted p)
 
--- a slot then
+-- the slot after a flush
 abbrev pub slot_then : TableSlot PageOfKind → TableSlot PageOfKind
 slot_then s = record { pid = s.pid; page = s.page; logged = logged_then s.page }
 
--- the slots, once those of these pids are so
+-- the slots after those of these pids are updated
 abbrev pub marked : List (TableSlot PageOfKind) → List ℕ → List (TableSlot PageOfKind)
 marked ss pids = map (λ s. if is_among s.pid pids then slot_then s else s) ss

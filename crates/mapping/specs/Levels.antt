@@ -14,14 +14,14 @@ pub record Placed (V : Type 0) : Type 0 where
   pub pid : ℕ
   pub page : Page V
 
--- the present pairs of a page, and of the pages of a level, in order
+-- the pairs that are present in a page, and in the pages of a level, in order
 abbrev pub entries : {V : Type 0} → Placed V → Pairs V
 entries p = page.entries p.page
 
 abbrev pub joined : {V : Type 0} → List (Placed V) → Pairs V
 joined ps = flat_map entries ps
 
--- what a parent's entry holds of a page: its low key and its pid
+-- a page's entry in its parent: its low key and its pid
 abbrev pub name : {V : Type 0} → Placed V → Bytes × ℕ
 name p = (p.page.low, p.pid)
 
@@ -31,7 +31,7 @@ names ps = map name ps
 abbrev pub pids : {V : Type 0} → List (Placed V) → List ℕ
 pids ps = map (λ p. p.pid) ps
 
--- a level of pages, and the levels above it, the nearest first: the last is the root's
+-- a level of pages, and the levels above it, nearest first: the last one is the root's
 pub record Tower (V : Type 0) : Type 0 where
   pub level : List (Placed V)
   pub above : List (List (Placed ℕ))
@@ -40,7 +40,7 @@ pub record Tower (V : Type 0) : Type 0 where
 abbrev pub Levels : Type 0
 Levels = Tower Bytes
 
--- the leaf, or the index page, under a pid, and an empty one where there is none of that kind
+-- the leaf, or the index page, under a pid; an empty one if there is none of that kind
 abbrev pub as_leaf : Option PageOfKind → Page Bytes
 as_leaf (Some (Leaf p)) = p
 as_leaf _ = bare [] []
@@ -55,18 +55,18 @@ leaf_at ps pid = record { pid = pid; page = as_leaf (page_at ps pid) }
 abbrev pub index_at : List (ℕ × PageOfKind) → ℕ → Placed ℕ
 index_at ps pid = record { pid = pid; page = as_index (page_at ps pid) }
 
--- the levels from these pids down to the leaves, where n levels of index pages are still to come, below those given
+-- the levels from these pids down to the leaves, with n levels of index pages below the given ones
 abbrev pub levels_below : List (ℕ × PageOfKind) → ℕ → List ℕ → List (List (Placed ℕ)) → Levels
 levels_below ps zero level above = record { level = map (leaf_at ps) level; above = above }
 levels_below ps (suc n) level above =
     let here : List (Placed ℕ) = map (index_at ps) level in
     levels_below ps n (values_of (joined here)) (here ∷ above)
 
--- the levels below the root, with its own
+-- the levels of the tree, from its root down
 abbrev pub levels_of : Tree → Levels
 levels_of t = levels_below t.pages (pred t.height) (t.root ∷ []) []
 
--- all present pairs of the leaves below the root, in order
+-- the pairs that are present in the leaves, in order
 abbrev pub contents : Tree → Pairs Bytes
 contents t = joined (levels_of t).level
 
@@ -74,7 +74,7 @@ contents t = joined (levels_of t).level
 abbrev pub all_pids : {V : Type 0} → List (Placed V) → List (List (Placed ℕ)) → List ℕ
 all_pids level above = pids level ++ flat_map pids above
 
--- the pages of the levels, as a table keeps them
+-- the pages of the levels, as a table stores them
 abbrev pub listed_leaves : List (Placed Bytes) → List (ℕ × PageOfKind)
 listed_leaves ps = map (λ p. (p.pid, Leaf p.page)) ps
 
@@ -89,7 +89,7 @@ abbrev pub by_pid : List (ℕ × PageOfKind) → List (ℕ × PageOfKind)
 by_pid [] = []
 by_pid (p ∷ ps) = insert_entry nat_cmp (by_pid ps) p.0 p.1
 
--- the pid of the first page, 0 where there is none
+-- the pid of the first page, or 0 if there is none
 abbrev pub first_pid : {V : Type 0} → List (Placed V) → ℕ
 first_pid [] = 0
 first_pid (p ∷ ps) = p.pid

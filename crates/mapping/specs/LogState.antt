@@ -4,7 +4,7 @@ use Rattle.mapping.specs.Tree.Logged.{No as nothing, Old as old, Upto as upto}
 use Rattle.mapping.specs.declared.logged.Logged.{Logged}
 use Rattle.mapping.specs.declared.logged.Logged.TheVariants.{No, Old, Upto}
 
--- the log state that the code's stands for
+-- the definitions' log state for the code's
 abbrev pub log_state : Logged → tree.Logged
 log_state No = nothing
 log_state Old = old

@@ -15,12 +15,12 @@ use Rattle.mapping.specs.FreshPids.{is_among}
 
 -- ---- ranges
 
--- the low key of the first of the pages, else the end
+-- the low key of the first of the pages, or the end if there is no page
 abbrev pub next_low : {V : Type 0} → List (Placed V) → Option Bytes → Option Bytes
 next_low [] end = end
 next_low (p ∷ ps) end = Some p.page.low
 
--- each page's keys lie from its low key on, and before the next page's, which is greater
+-- each page's keys are at or above its low key, and below the next page's low key, which is greater
 pub record IsTile {V : Type 0} (end : Option Bytes) (p : Placed V) : Type 0 where
   pub keys : KeepsRange p.page.low end p.page
   pub low : IsBefore end p.page.low
@@ -31,30 +31,30 @@ Tiled (p ∷ ps) end = IsTile (next_low ps end) p × Tiled ps end
 
 -- ---- levels
 
--- a level of parents: their entries, joined, are the low keys and pids of the pages below; each has a child, the first
--- at its own low key
+-- a level of parents: their concatenated entries are the low keys and pids of the pages below; each parent has a child, and its first child is at its
+-- own low key
 pub record IsParentOf {V : Type 0} (level : List (Placed V)) (up : List (Placed ℕ)) : Type 0 where
   pub linked : joined up ≡ names level
   pub headed : AllByRecursion (λ p. IsHeaded 1 p.page) up
   pub tiled : Tiled up None
 
--- each level is the parents of the one below it, and the last is one page
+-- each level consists of the parents of the one below it, and the last level is one page
 abbrev pub Stacked : {V : Type 0} → List (Placed V) → List (List (Placed ℕ)) → Type 0
 Stacked level [] = length level ≡ 1
 Stacked level (up ∷ ups) = IsParentOf level up × Stacked up ups
 
--- the pages of the highest level have two children at least
+-- the pages of the highest level have at least two children
 abbrev pub IsBranchedTop : List (List (Placed ℕ)) → Type 0
 IsBranchedTop [] = ⊤
 IsBranchedTop (up ∷ []) = AllByRecursion (λ p. IsHeaded 2 p.page) up
 IsBranchedTop (up ∷ next ∷ ups) = IsBranchedTop (next ∷ ups)
 
--- each number stands once
+-- no number occurs twice
 abbrev pub Distinct : List ℕ → Type 0
 Distinct [] = ⊤
 Distinct (n ∷ ns) = AllByRecursion (λ m. m ≢ n) ns × Distinct ns
 
--- the leaves tile all keys, the levels above name those below, under one root with two children or more; each pid once
+-- the leaves tile all keys, the levels above describe those below, under one root with two children or more; no pid occurs twice
 pub record AreLevels (l : Levels) : Type 0 where
   pub first : next_low l.level None ≡ Some []
   pub tiled : Tiled l.level None
@@ -91,32 +91,31 @@ pub record HoldsLevels (ps : List (ℕ × PageOfKind)) (l : Levels) : Type 0 whe
 abbrev pub HoldsItsLevels : Tree → Type 0
 HoldsItsLevels t = HoldsLevels t.pages (levels_of t)
 
--- what is true of the numbers of any store: the table's pids rise, and there is a level
+-- what holds for any store: the table's pids rise, and there is a level
 pub record IsTree (t : Tree) : Type 0 where
   pub rising : AreRisingPids (keys_of t.pages)
   pub some : 0 < t.height
 
--- ---- what the log has
+-- ---- log states
 
--- the page has k runs, or more
+-- the page has at least k runs
 abbrev pub HasRuns : ℕ → PageOfKind → Type 0
 HasRuns k (Leaf p) = k ≤ length p.layers.runs
 HasRuns k (Index p) = k ≤ length p.layers.runs
 
--- what is listed of a pid that has this page is true of it: `No` is said by listing nothing, and `Upto k` only where there
--- is a page with k runs, or more
+-- what is listed of a pid with this page is true: `No` is never listed, and `Upto k` only if there is a page with at least k runs
 abbrev pub IsTrueOf : Option PageOfKind → Logged → Type 0
 IsTrueOf p No = ⊥
 IsTrueOf p Old = ⊤
 IsTrueOf None (Upto k) = ⊥
 IsTrueOf (Some p) (Upto k) = HasRuns k p
 
--- what the log has of each pid is listed once, by rising pid, and it is true of the page
+-- each log state is listed once, by rising pid, and is true of the page
 pub record AreLogsTrue (t : Tree) : Type 0 where
   pub rising : AreRisingPids (keys_of t.logged)
   pub each : AllByRecursion (λ l. IsTrueOf (page_at t.pages l.0) l.1) t.logged
 
--- ---- all of it
+-- ---- everything together
 
 -- a proper tree
 pub record IsProper (s : Settings) (t : Tree) : Type 0 where

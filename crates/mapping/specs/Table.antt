@@ -1,4 +1,4 @@
--- A table: the pages in their places, and what the log has of each pid.
+-- A table: the pages in their places, and the log state of each pid.
 use Rattle.std.specs.Prelude.{◌≡◌, ℕ, Bool, true, false, if◌then◌else◌, List, [], ◌∷◌, map, Option, Some, None}
 use Rattle.std.specs.List.{AllByRecursion, filter, range_with_len}
 use Rattle.std.specs.Ordering.{nat_cmp, is_eq}
@@ -9,7 +9,7 @@ use Rattle.mapping.specs.Tree.Logged.{No, Old, Upto}
 use Rattle.mapping.specs.FreshPids.{is_among, unused, with_number}
 use Rattle.mapping.specs.Outdate.{outdate_all}
 
--- by rising pid the pages, `None` for one that is away; by rising pid what the log has, where that isn't `No`
+-- by rising pid the places, each with its page, or with `None` while it is empty; and by rising pid the log states other than `No`
 pub record Mapping (P : Type 0) : Type 0 where
   pub places : List (ℕ × Option P)
   pub logged : List (ℕ × Logged)
@@ -18,7 +18,7 @@ pub record Mapping (P : Type 0) : Type 0 where
 abbrev pub is_same_pid : ℕ → ℕ → Bool
 is_same_pid pid n = is_eq (nat_cmp pid n)
 
--- no places, and nothing of any page in the log
+-- no places, and only `No` log states
 abbrev pub no_places : {P : Type 0} → Mapping P
 no_places = record { places = []; logged = [] }
 
@@ -30,32 +30,32 @@ pids_in_use t = keys_of t.places
 abbrev pub place_of : {P : Type 0} → Mapping P → ℕ → Option (Option P)
 place_of t pid = lookup (is_same_pid pid) t.places
 
--- the page in a place, if there is one at home
+-- the page in a place, unless the place is empty
 abbrev pub at_home : {P : Type 0} → Option (Option P) → Option P
 at_home None = None
 at_home (Some p) = p
 
--- the page at home under the pid
+-- the page of the pid, unless its place is empty
 abbrev pub page_of : {P : Type 0} → Mapping P → ℕ → Option P
 page_of t pid = at_home (place_of t pid)
 
--- what the log has of the pid
+-- the log state of the pid
 abbrev pub log_of : {P : Type 0} → Mapping P → ℕ → Logged
 log_of t pid = or_no (lookup (is_same_pid pid) t.logged)
 
--- the table with this in the pid's place: a page, or none while it is away
+-- the table with the pid's place set: to a page, or empty
 abbrev pub with_place : {P : Type 0} → Mapping P → ℕ → Option P → Mapping P
 with_place t pid p = record { places = insert_entry nat_cmp t.places pid p; logged = t.logged }
 
--- the table once what the log has of the pid is outdated
+-- the table after the pid's page was replaced
 abbrev pub log_outdated : {P : Type 0} → Mapping P → ℕ → Mapping P
 log_outdated t pid = record { places = t.places; logged = outdate_all (pid ∷ []) t.logged }
 
--- the table without the pid's place: what the log has of it is outdated
+-- the table without the pid's place; its log state becomes that of a replaced page
 abbrev pub freed : {P : Type 0} → Mapping P → ℕ → Mapping P
 freed t pid = record { places = remove_entry (is_same_pid pid) t.places; logged = outdate_all (pid ∷ []) t.logged }
 
--- the table with a place for the pid: one that is away, where it had none
+-- the table with a place for the pid: an empty one if it had none
 abbrev pub room_by : {P : Type 0} → Option (Option P) → Mapping P → ℕ → Mapping P
 room_by None t pid = with_place t pid None
 room_by (Some p) t pid = t
@@ -63,41 +63,41 @@ room_by (Some p) t pid = t
 abbrev pub with_room : {P : Type 0} → Mapping P → ℕ → Mapping P
 with_room t pid = room_by (place_of t pid) t pid
 
--- the n least numbers that are not among these rising ones
+-- the n least numbers that are not among these, which rise
 abbrev pub fresh_pids : List ℕ → ℕ → List ℕ
 fresh_pids used n = map (unused used) (range_with_len 0 n)
 
--- the table with a place for each of these
+-- the table with a place for each of these pids
 abbrev pub with_rooms : {P : Type 0} → Mapping P → List ℕ → Mapping P
 with_rooms t [] = t
 with_rooms t (pid ∷ pids) = with_rooms (with_room t pid) pids
 
--- the table without the places of these: what the log has of them is outdated
+-- the table without the places of these pids; their log states become those of replaced pages
 abbrev pub freed_all : {P : Type 0} → Mapping P → List ℕ → Mapping P
 freed_all t [] = t
 freed_all t (pid ∷ pids) = freed_all (freed t pid) pids
 
--- what is listed of a pid without a place is `Old`
+-- the log state that is listed for a pid without a place is `Old`
 abbrev pub IsOldWithoutPlace : {P : Type 0} → Mapping P → Type 0
 IsOldWithoutPlace t = AllByRecursion (λ l. place_of t l.0 ≡ None → l.1 ≡ Old) t.logged
 
--- ---- all pids that a table knows
+-- ---- all pids in a table
 
--- the log has a page that isn't the present one's base
+-- the log contains a page with another base than the present one
 abbrev pub is_old : Logged → Bool
 is_old No = false
 is_old Old = true
 is_old (Upto k) = false
 
--- the pids where that is so
+-- the pids with that log state
 abbrev pub old_pids : {P : Type 0} → Mapping P → List ℕ
 old_pids t = keys_of (filter (λ l. is_old l.1) t.logged)
 
--- rising numbers with these among them, each once
+-- rising numbers with these inserted, each once
 abbrev pub with_numbers : List ℕ → List ℕ → List ℕ
 with_numbers [] ns = ns
 with_numbers (m ∷ ms) ns = if is_among m (with_numbers ms ns) then with_numbers ms ns else with_number m (with_numbers ms ns)
 
--- by rising number the pids that are in use, or `Old` in the log
+-- the pids that are in use or `Old` in the log, in rising order
 abbrev pub pids_in_use_or_old : {P : Type 0} → Mapping P → List ℕ
 pids_in_use_or_old t = with_numbers (old_pids t) (pids_in_use t)

@@ -1,4 +1,4 @@
--- A store: its pages under their pids, its root and height, and what its log has of each page.
+-- A store: its pages by pid, its root and height, and its log states.
 use Rattle.std.specs.Prelude.{ℕ, List, [], ◌∷◌, Option, Some, None}
 use Rattle.std.specs.Ordering.{nat_cmp, is_eq}
 use Rattle.std.specs.Map.{lookup}
@@ -6,20 +6,20 @@ use Rattle.keys.specs.declared.version.Version.{Version}
 use Rattle.index_page.specs.Page.{PageOfKind, bare}
 use Rattle.index_page.specs.Page.PageOfKind.{Leaf}
 
--- what the log has of a pid: no page; a page that isn't the present one's base; the present base and its oldest k runs
+-- the log state of a pid: the log contains no page; a page with another base than the present one; or the present base and its oldest k runs
 pub data Logged : Type 0 where
   No : Logged
   Old : Logged
   Upto : ℕ → Logged
 
--- pages by rising pid; the root's pid; the number of levels; by rising pid what the log has, where that isn't `No`
+-- pages by rising pid; the root's pid; the number of levels; by rising pid the log states other than `No`
 pub record Tree : Type 0 where
   pub pages : List (ℕ × PageOfKind)
   pub root : ℕ
   pub height : ℕ
   pub logged : List (ℕ × Logged)
 
--- how many levels a tree may have at most
+-- the greatest number of levels of a tree
 abbrev pub most_levels : ℕ
 most_levels = 64
 
@@ -32,15 +32,15 @@ pub record Store : Type 0 where
   pub sequence : ℕ
   pub version : Version
 
--- the store with another tree: a batch doesn't touch the log
+-- the store with another tree; a batch does not change the log
 abbrev pub with_tree : Store → Tree → Store
 with_tree st tree = record { tree = tree; head = st.head; tail = st.tail; sequence = st.sequence; version = st.version }
 
--- the tree of a new store: one empty leaf, which the log has
+-- the tree of a new store: one empty leaf, which the log contains
 abbrev pub first_tree : Tree
 first_tree = record { pages = (0, Leaf (bare [] [])) ∷ []; root = 0; height = 1; logged = (0, Upto 0) ∷ [] }
 
--- what is listed under the pid
+-- the entry under the pid
 abbrev pub listed_at : {V : Type 0} → List (ℕ × V) → ℕ → Option V
 listed_at es pid = lookup (λ n. is_eq (nat_cmp pid n)) es
 
@@ -48,11 +48,11 @@ listed_at es pid = lookup (λ n. is_eq (nat_cmp pid n)) es
 abbrev pub page_at : List (ℕ × PageOfKind) → ℕ → Option PageOfKind
 page_at ps pid = listed_at ps pid
 
--- what is listed of a pid, else `No`
+-- the listed log state, else `No`
 abbrev pub or_no : Option Logged → Logged
 or_no None = No
 or_no (Some l) = l
 
--- what the log has of the pid
+-- the log state of the pid
 abbrev pub logged_of : Tree → ℕ → Logged
 logged_of t pid = or_no (listed_at t.logged pid)

@@ -1,4 +1,4 @@
-//! The pids that a flush may have to write, as they are noted.
+//! The pids that a flush may have to write.
 ghost use Rattle.std.specs.Prelude.{◌≡◌, ℕ, true, false, [], IfSome};
 ghost use Rattle.mapping.specs.Due.{may_be_due};
 ghost use Rattle.mapping.specs.FreshPids.{is_among};
@@ -6,8 +6,8 @@ ghost use Rattle.mapping.specs.FreshPids.{is_among};
 use std::alloc::{AllocError, Allocator};
 use std::marker::Model;
 
-/// The pids that a flush may have to write, in the order in which they were noted, some more than once. Where there
-/// was no room to note one it may be any pid: then a flush looks at all.
+/// The pids that a flush may have to write, in the order in which they were recorded; a pid may occur more than once.
+/// If there was no room to record a pid, `are_all` is set, and a flush examines all pids.
 #[derive(Drop)]
 pub(crate) struct Due<A: Allocator> {
     pids: Vec<u64, A>,
@@ -23,7 +23,7 @@ impl<A: Allocator> Model for Due<A> {
 }
 
 impl<A: Allocator + Copy> Due<A> {
-    /// All pids. This takes no memory.
+    /// Marks all pids as due. Does not allocate.
     pub(crate) fn all(alloc: A) -> Self
         ensures { result ≡ record { pids = []; are_all = true } }
     {
@@ -33,7 +33,7 @@ impl<A: Allocator + Copy> Due<A> {
         }
     }
 
-    /// The pids that were noted, or nothing where it may be any.
+    /// The recorded pids, or `None` if any pid may be due.
     pub(crate) fn listed(&self) -> Option<&[u64]>
         ensures { IfSome result (λ pids. (q : ℕ) → may_be_due self.now q ≡ is_among q pids.now) }
     {
@@ -43,7 +43,7 @@ impl<A: Allocator + Copy> Due<A> {
         Some(&self.pids)
     }
 
-    /// Notes the pid. This takes no memory.
+    /// Records `pid`, or marks all pids as due if there is no room. Does not allocate.
     pub(crate) fn note(&mut self, pid: u64)
         ensures noted { may_be_due self.new pid ≡ true }
         ensures kept { (q : ℕ) → may_be_due self.old q ≡ true → may_be_due self.new q ≡ true }
@@ -55,14 +55,14 @@ impl<A: Allocator + Copy> Due<A> {
         }
     }
 
-    /// Makes room for `count` pids in all. Where memory is refused, nothing has changed.
+    /// Makes room for `count` pids in total. If allocation fails, nothing changes.
     pub(crate) fn reserve(&mut self, count: usize) -> Result<(), AllocError>
         ensures { self.new ≡ self.old }
     {
         self.pids.reserve(count.saturating_sub(self.pids.len()))
     }
 
-    /// Nothing is due. The room stays.
+    /// Removes all pids and keeps the room.
     pub(crate) fn clear(&mut self)
         ensures { self.new ≡ record { pids = []; are_all = false } }
     {

@@ -1,4 +1,4 @@
-//! What the log has of a page once it is written.
+//! What the log contains of a page after a flush.
 ghost use Rattle.std.specs.Prelude.{◌≡◌, [], ◌∷◌};
 ghost use Rattle.mapping.specs.Flushed.{depth_counted, logged_then, marked};
 ghost use Rattle.mapping.specs.Proper.{AreRisingPids};
@@ -9,7 +9,7 @@ use crate::slots::{TablePlace, TableSlot, slot_of};
 use index_page::Page;
 use std::alloc::Allocator;
 
-/// How many runs the page has, up to the greatest `u64`.
+/// Returns the number of runs of the page, or the greatest `u64` if there are more.
 pub fn depth<A: Allocator + Copy>(page: &Page<A>) -> u64
     ensures { result ≡ depth_counted page.now }
 {
@@ -22,7 +22,7 @@ pub fn depth<A: Allocator + Copy>(page: &Page<A>) -> u64
     }
 }
 
-// What the log has of the slot's pid, once it has all pages that are at home.
+// What the log contains of the slot's pid after all pages in the table are written.
 pub(crate) fn logged_then<A: Allocator + Copy>(place: &TablePlace<Page<A>>) -> Logged
     ensures { result ≡ logged_then place.now }
 {
@@ -32,7 +32,8 @@ pub(crate) fn logged_then<A: Allocator + Copy>(place: &TablePlace<Page<A>>) -> L
     }
 }
 
-// Notes that the log has the pages of these pids as they are, and nothing of those that have none.
+// Records that the log contains the pages of these pids with all their runs, and nothing of those pids that have no
+// page.
 pub(crate) fn mark_all<A: Allocator + Copy>(slots: &mut Vec<TableSlot<Page<A>>, A>, pids: &[u64])
     requires { AreRisingPids (slot_pids slots.old.items) }
     ensures { slots.new.items ≡ marked slots.old.items pids.now }
@@ -42,7 +43,7 @@ pub(crate) fn mark_all<A: Allocator + Copy>(slots: &mut Vec<TableSlot<Page<A>>, 
     }
 }
 
-// The same of one pid.
+// `mark_all` of one pid.
 fn mark<A: Allocator + Copy>(slots: &mut Vec<TableSlot<Page<A>>, A>, pid: u64)
     requires { AreRisingPids (slot_pids slots.old.items) }
     ensures { slots.new.items ≡ marked slots.old.items (pid ∷ []) }

@@ -1,4 +1,4 @@
-//! What the definitions of `specs/` mean. Each law is the contract of a function with an empty body.
+//! Laws about the definitions of `specs/`. Each law is the contract of a function with an empty body.
 ghost use Rattle.std.specs.Prelude.{◌≡◌, ◌↔◌, ◌<◌, ◌≤◌, ◌+◌, ℕ, suc, false, List, [], None, length, Bool, true, ◌||◌, nat_eq, ◌∷◌, ◌++◌, Option, Some, is_some, count_by};
 ghost use Rattle.std.specs.Map.{keys_of};
 ghost use Rattle.keys.specs.Bytes.{Bytes};
@@ -15,25 +15,25 @@ ghost use Rattle.keys.specs.OrderedMap.{value_at};
 ghost use Rattle.index_page.specs.Children.{children, is_place_for};
 ghost use Rattle.index_page.specs.Range.{is_within};
 
-/// The walk from the root finds nothing exactly where the tree is proper.
+/// The walk from the root finds no violation if and only if the tree is proper.
 pub fn nothing_is_found_exactly_in_a_proper_tree()
     ensures { (s : Settings) (t : Tree) → IsTree t → ((finding s t ≡ None) ↔ IsProper s t) }
 {}
 
-/// What a proper tree holds is an ordered map.
+/// The contents of a proper tree are an ordered map.
 pub fn the_contents_of_a_proper_tree_rise()
     ensures { (s : Settings) (t : Tree) → IsProper s t → IsRising (contents t) }
 {}
 
-/// The tree of a new store is proper under any settings, what its log has is true, and it holds nothing.
+/// The tree of a new store is proper under any settings, its log states are true, and it is empty.
 pub fn the_first_tree_is_proper_and_empty()
     ensures proper { (s : Settings) → IsProper s first_tree }
     ensures logs { AreLogsTrue first_tree }
     ensures empty { contents first_tree ≡ [] }
 {}
 
-/// A table that is made of levels with distinct pids has their pages and no other, and its pids rise: it is the only such
-/// table. A walk from the root over a table that has levels finds these levels.
+/// A table made of levels with distinct pids contains their pages and no others, and its pids rise; no other table
+/// does. A walk from the root of a table made of levels finds these levels.
 pub fn levels_are_found_in_their_table()
     ensures holds { (l : Levels) → Distinct (all_pids l.level l.above) →
         HoldsLevels (by_pid (all_pages l)) l }
@@ -44,14 +44,15 @@ pub fn levels_are_found_in_their_table()
         t.root ≡ top_pid l.level l.above → t.height ≡ suc (length l.above) → levels_of t ≡ l }
 {}
 
-/// A proper tree is determined by its pages: there is one root, and one height, with which they are a proper tree.
+/// A proper tree is determined by its pages: they allow only one root and one height.
 pub fn a_proper_tree_is_determined_by_its_pages()
     ensures { (s : Settings) (t u : Tree) → IsProper s t → IsProper s u → t.pages ≡ u.pages →
         (t.root ≡ u.root) × (t.height ≡ u.height) }
 {}
 
-/// The numbers that are given to new pages are not in use, rise from place to place, and leave out none that is free. Once one
-/// is in use, those after it are one place nearer: so it is the same to draw pids at once or one after the other.
+/// The pids for new pages are unused, rise from place to place, and skip no unused number. After one of them is taken
+/// into use, the following ones move one place forward, so allocating several pids at once equals allocating them one
+/// by one.
 pub fn fresh_pids_are_the_least_unused_numbers()
     ensures free { (used : List ℕ) (n : ℕ) → AreRisingPids used →
         is_among (unused used n) used ≡ false }
@@ -62,7 +63,7 @@ pub fn fresh_pids_are_the_least_unused_numbers()
         unused (with_number (unused used n) used) m ≡ unused used (suc m) }
 {}
 
-/// A number that isn't in use, taken into use: the numbers still rise, and that one is in use besides those that were.
+/// Taking an unused number into use keeps the numbers rising and adds only that number.
 pub fn a_number_taken_into_use_is_one_more()
     ensures rising { (used : List ℕ) (n : ℕ) → AreRisingPids used → is_among n used ≡ false →
         AreRisingPids (with_number n used) }
@@ -70,8 +71,8 @@ pub fn a_number_taken_into_use_is_one_more()
         is_among m (with_number n used) ≡ (nat_eq m n || is_among m used) }
 {}
 
-/// Two lists by rising pid that have the same under each pid are one list; and so are the lists of what the logs of two
-/// trees have, where they are true and the logs have the same of each pid.
+/// Two lists by rising pid with the same entry under each pid are equal. So are the log states of two trees that are
+/// true and equal for each pid.
 pub fn a_table_is_what_it_has<V>()
     ensures listed { (ps qs : List (ℕ × V)) → AreRisingPids (keys_of ps) →
         AreRisingPids (keys_of qs) → ((pid : ℕ) → listed_at ps pid ≡ listed_at qs pid) → ps ≡ qs }
@@ -79,9 +80,9 @@ pub fn a_table_is_what_it_has<V>()
         ((pid : ℕ) → logged_of t pid ≡ logged_of u pid) → t.logged ≡ u.logged }
 {}
 
-/// Of a level whose pages' ranges follow one another: the places that its names name have the pages' ranges; each key
-/// from the first low key on and before the end is within the range of just one page, and any other key within that of
-/// none; and what the page has at such a key is what all pages of the level, joined, have there.
+/// In a level whose pages' ranges are contiguous, the parents' entries give the pages' ranges; each key from the first
+/// low key up to the end lies in the range of exactly one page, and any other key in none; and that page has at the key
+/// what all pages of the level together have there.
 pub fn each_key_of_a_level_is_in_one_page<V>()
     ensures range { (xs ys : List (Placed V)) (p : Placed V) (end : Option Bytes) →
         children (names (xs ++ p ∷ ys)) end
@@ -103,7 +104,8 @@ pub fn each_key_of_a_level_is_in_one_page<V>()
         value_at k (entries p) ≡ value_at k (joined (xs ++ p ∷ ys)) }
 {}
 
-/// The pids that a table gives one by one rise, and a pid is among them exactly if it has a place, or the log has `Old` of it.
+/// The pids that a table iterates over rise. A pid is among them if and only if it has a place or its log state is
+/// `Old`.
 pub fn a_table_knows_the_pids_in_use_and_the_old_ones<P>()
     ensures rising { (t : Mapping P) → AreRisingPids (pids_in_use t) →
         AreRisingPids (pids_in_use_or_old t) }
@@ -111,8 +113,8 @@ pub fn a_table_knows_the_pids_in_use_and_the_old_ones<P>()
         is_among pid (pids_in_use_or_old t) ≡ (is_some (place_of t pid) || is_old (log_of t pid)) }
 {}
 
-/// Pids that are drawn get places whose pages are away; other places stay, and so does what the log has. The next that are
-/// drawn are those that would have followed these, and to free what was drawn gives the table back.
+/// Allocated pids get empty places; other places and all log states stay. The next allocated pids are those
+/// that would have followed, and freeing the allocated pids restores the table.
 pub fn drawn_pids_get_places_that_are_away<P>()
     ensures away { (t : Mapping P) (n pid : ℕ) → AreRisingPids (pids_in_use t) →
         is_among pid (fresh_pids (pids_in_use t) n) ≡ true →

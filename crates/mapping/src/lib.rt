@@ -1,9 +1,8 @@
-//! The mapping table: a map from pids to pages, with the places of pages that are away, the numbers that have no place,
-//! and what the log has of each page.
+//! The mapping table: a map from page ids (pids) to pages. It knows which pages are checked out, which pids are free,
+//! and what the log contains of each page.
 //!
-//! Besides, what a store is, how its pages are levels, when it is proper, and which pids are given to new pages, as
-//! definitions (`specs/`), and the laws of these.
-//! Other crates name items by this root, and laws by the public module `laws`.
+//! `specs/` defines stores, the levels of a tree, proper trees, and the choice of pids for new pages; `laws` has the
+//! laws about them. Other crates name items by this root, and laws by the public module `laws`.
 #![tactic(auto)]
 
 mod due;

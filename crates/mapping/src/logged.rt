@@ -1,21 +1,21 @@
-//! What the log has of a pid.
+//! The log state of a pid: what the log contains of its page.
 ghost use Rattle.std.specs.Prelude.{◌≡◌};
 ghost use Rattle.mapping.specs.Outdate.{outdate};
 ghost use Rattle.mapping.specs.LogState.{log_state};
 
-/// What the log has of a pid. Contracts compare it with the definitions by `log_state`.
+/// The log state of a pid. Contracts compare it with the definitions by `log_state`.
 #[derive(Clone, Copy, PartialEq, Eq, Debug, Drop)]
 pub enum Logged {
-    /// No page.
+    /// The log contains no page.
     No,
-    /// A page that isn't the present one's base.
+    /// The log contains a page with another base than the present one.
     Old,
-    /// The base of the present page, and this many of its oldest runs.
+    /// The log contains the base of the present page, and this many of its oldest runs.
     Upto(u64),
 }
 
 impl Logged {
-    /// The same once the page isn't the one that the log knows.
+    /// Returns the log state after the page has been replaced.
     pub fn outdated(self) -> Logged
         ensures { log_state result ≡ outdate (log_state self) }
     {

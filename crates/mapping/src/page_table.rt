@@ -1,4 +1,4 @@
-//! A table of pages that notes which of them a flush may have to write.
+//! A table of pages that records which of them a flush may have to write.
 ghost use Rattle.std.specs.Prelude.{◌≡◌, Some, None, IsSome, IfSome, IfOk, OnOk, OnErr};
 ghost use Rattle.mapping.specs.Due.{AreDue};
 ghost use Rattle.mapping.specs.Flushed.{marked_as_written};
@@ -12,8 +12,8 @@ use index_page::Page;
 use std::alloc::{AllocError, Allocator};
 use std::marker::Model;
 
-/// A table of pages that notes which pids a flush may have to write: of any other the log has what it would have
-/// once all is written. Contracts see it as the table.
+/// A table of pages that records which pids a flush may have to write. For every other pid, the log already contains
+/// what it would contain after a flush. Contracts see it as the table.
 #[derive(Drop)]
 pub(crate) struct PageTable<A: Allocator> {
     table: Table<Page<A>, A>,
@@ -33,7 +33,7 @@ impl<A: Allocator> Model for PageTable<A> {
 }
 
 impl<A: Allocator + Copy> PageTable<A> {
-    /// Any pid of this table may have something to be written.
+    /// Wraps `table`; every pid may be due.
     pub(crate) fn new(table: Table<Page<A>, A>) -> Self
         ensures { result ≡ table }
     {
@@ -41,28 +41,28 @@ impl<A: Allocator + Copy> PageTable<A> {
         PageTable { table, due }
     }
 
-    /// The table.
     pub(crate) fn as_table(&self) -> &Table<Page<A>, A>
         ensures { result.now ≡ self.now }
     {
         &self.table
     }
 
-    /// The pids that were noted, or nothing where it may be any.
+    /// The recorded pids, or `None` if any pid may be due.
     pub(crate) fn due_pids(&self) -> Option<&[u64]>
         ensures { IfSome result (λ pids. AreDue self.now pids.now) }
     {
         self.due.listed()
     }
 
-    /// Makes room to note as many pids as have places.
+    /// Makes room to record as many pids as have places.
     pub(crate) fn reserve(&mut self) -> Result<(), AllocError>
         ensures { self.new ≡ self.old }
     {
         self.due.reserve(self.table.most_places())
     }
 
-    /// As a table does it, and so do those that follow. It takes no memory to note a pid.
+    /// This and the next functions do what those of `Table` do, and record the pid if it may become due. Recording does
+    /// not allocate.
     pub(crate) fn take(&mut self, pid: u64) -> Page<A>
         requires { IsSome (page_of self.old pid) }
         ensures page { page_of self.old pid ≡ Some result }
@@ -76,7 +76,7 @@ impl<A: Allocator + Copy> PageTable<A> {
         requires { place_of self.old pid ≡ Some None }
         ensures { self.new ≡ with_place self.old pid (Some page) }
     {
-        // Of any other pid it was noted that its page was taken.
+        // For any other log state, the pid was recorded when its page was taken.
         if let Logged::No = self.table.logged(pid) {
             self.due.note(pid);
         }
@@ -87,7 +87,7 @@ impl<A: Allocator + Copy> PageTable<A> {
         requires { place_of self.old pid ≡ Some None }
         ensures { self.new ≡ freed self.old pid }
     {
-        // Only for the proof: it says that the pids rise.
+        // Only for the proof: the pids rise.
         let _rising = self.table.pids();
         self.table.free(pid);
     }
@@ -106,18 +106,18 @@ impl<A: Allocator + Copy> PageTable<A> {
         ensures err { OnErr result (self.new ≡ self.old) }
         ensures rising { AreRisingPids (pids_in_use self.old) }
     {
-        // Only for the proof: it says that the pids rise.
+        // Only for the proof: the pids rise.
         let _rising = self.table.pids();
         self.due
             .reserve(self.table.most_places().saturating_add(count))?;
         self.table.fresh(count)
     }
 
-    /// Looks at the noted pids alone, where it isn't any.
+    /// Examines only the recorded pids, unless any pid may be due.
     pub(crate) fn flushed(&mut self)
         ensures { self.new ≡ marked_as_written self.old }
     {
-        // Only for the proof: it says that the pids rise.
+        // Only for the proof: the pids rise.
         let _rising = self.table.pids();
         match self.due.listed() {
             Some(pids) => self.table.flushed_at(pids),

@@ -1,4 +1,4 @@
-//! Iterates over the pids of a table: those in use, and those of the pages at home.
+//! Iterators over the pids of a table: those in use, and those of the pages in the table.
 ghost use Rattle.std.specs.Prelude.{◌≡◌};
 ghost use Rattle.std.specs.Iterator.{YieldsFirst, item_count};
 ghost use Rattle.mapping.specs.Slots.{is_known, is_home};
@@ -7,8 +7,8 @@ use crate::logged::Logged;
 use crate::slots::{TablePlace, TableSlot};
 use std::marker::Model;
 
-/// The pids that are in use, and those that are `Old` in the log, by rising number. It takes no memory. Contracts see it
-/// as the list of those that are left.
+/// An iterator over the pids that are in use or whose log state is `Old`, in rising order. Does not allocate. Contracts
+/// see it as the list of the remaining pids.
 #[derive(Drop)]
 pub struct Pids<'a, P> {
     pub(crate) slots: &'a [TableSlot<P>],
@@ -43,8 +43,8 @@ impl<'a, P> Iterator for Pids<'a, P> {
     }
 }
 
-/// The pids of the pages that are at home, by rising number. It takes no memory. Contracts see it as the list of those
-/// that are left.
+/// An iterator over the pids of the pages that are not checked out, in rising order. Does not allocate. Contracts see
+/// it as the list of the remaining pids.
 #[derive(Drop)]
 pub struct HomePids<'a, P> {
     pub(crate) slots: &'a [TableSlot<P>],
@@ -79,14 +79,13 @@ impl<'a, P> Iterator for HomePids<'a, P> {
     }
 }
 
-// Whether the slot's page is at home.
 fn is_home<P>(slot: &TableSlot<P>) -> bool
     ensures { result ≡ is_home slot.now }
 {
     matches!(&slot.page, TablePlace::Home(_))
 }
 
-// Whether the slot's pid has a place, or the log has `Old` of it.
+// Whether the slot's pid has a place, or its log state is `Old`.
 fn is_known<P>(slot: &TableSlot<P>) -> bool
     ensures { result ≡ is_known slot.now }
 {

@@ -1,4 +1,4 @@
-//! Gives pids their places in a table, and finds numbers that have none.
+//! Gives pids their places in a table, and finds unused numbers.
 ghost use Rattle.std.specs.Prelude.{◌≡◌, ◌+◌, ◌<◌, ◌≤◌, IfOk, OnOk, OnErr, IsOk, vec_len, vec_capacity};
 ghost use Rattle.mapping.specs.Proper.{AreRisingPids};
 ghost use Rattle.mapping.specs.Table.{with_room, with_rooms, pids_in_use, fresh_pids};
@@ -8,7 +8,7 @@ use crate::logged::Logged;
 use crate::slots::{TablePlace, TableSlot, is_used, slot_of};
 use std::alloc::{AllocError, Allocator};
 
-// Makes a place for the pid, whose page is away, where it has none. It is refused only where the slots fill their room.
+// Makes an empty place for `pid` if it has no place. Fails only if the slots fill their room.
 pub(crate) fn occupy<P: Drop, A: Allocator + Copy>(
     slots: &mut Vec<TableSlot<P>, A>,
     pid: u64,
@@ -40,7 +40,7 @@ pub(crate) fn occupy<P: Drop, A: Allocator + Copy>(
     Ok(())
 }
 
-// Makes a place for each of the pids, as `occupy` does. Where memory is refused, nothing has changed.
+// Makes a place for each of the pids, as `occupy` does. If allocation fails, nothing changes.
 pub(crate) fn occupy_all<P: Drop, A: Allocator + Copy>(
     slots: &mut Vec<TableSlot<P>, A>,
     pids: &[u64],
@@ -58,7 +58,7 @@ pub(crate) fn occupy_all<P: Drop, A: Allocator + Copy>(
     Ok(())
 }
 
-// The least `count` numbers that have no place, where each below `from` has a place. There may be too few.
+// The least `count` numbers without a place, given that all numbers below `from` have one. There may be fewer.
 pub(crate) fn least_free<P, A: Allocator + Copy>(
     alloc: A,
     slots: &[TableSlot<P>],

@@ -1,4 +1,4 @@
-//! The slots of a table, by rising pid, and the search for one.
+//! The slots of a table in order of their pids, and the search for a slot.
 ghost use Rattle.std.specs.Prelude.{◌≡◌, ◌↔◌, IsTrue, MatchResult, IsSome, is_some};
 ghost use Rattle.std.specs.List.{AllByRecursion};
 ghost use Rattle.mapping.specs.Proper.{AreRisingPids};
@@ -7,7 +7,7 @@ ghost use Rattle.mapping.specs.Slots.{slot_pids, table_of, StandsAt, GoesTo};
 
 use crate::logged::Logged;
 
-// What stands in a slot for its pid: no place, a place whose page is away, or the page.
+// The state of a slot's pid: no place, an empty place, or a place with its page.
 #[derive(Drop)]
 pub(crate) enum TablePlace<P> {
     Vacant,
@@ -15,7 +15,7 @@ pub(crate) enum TablePlace<P> {
     Home(P),
 }
 
-// A pid with its place, if it has one, and what the log has of it.
+// A pid with its place, if it has one, and its log state.
 #[derive(Drop)]
 pub(crate) struct TableSlot<P> {
     pub(crate) pid: u64,
@@ -23,8 +23,8 @@ pub(crate) struct TableSlot<P> {
     pub(crate) logged: Logged,
 }
 
-// `Ok` is where the pid's slot is, `Err` where it would go. A slot stands at its pid's own number at the latest, and
-// mostly there: so that is looked at first, and what is after it never.
+// `Ok` with the index of the pid's slot, or `Err` with the index where it would be inserted. The pids are distinct and
+// rising, so a slot's index is at most its pid, and usually equals it: that index is tried first, and later ones never.
 pub(crate) fn slot_of<P>(slots: &[TableSlot<P>], pid: u64) -> Result<usize, usize>
     requires { AreRisingPids (slot_pids slots.now) }
     ensures { MatchResult result (StandsAt (slot_pids slots.now) pid)
@@ -40,7 +40,7 @@ pub(crate) fn slot_of<P>(slots: &[TableSlot<P>], pid: u64) -> Result<usize, usiz
     search(&slots[..near], pid)
 }
 
-// The same by halves.
+// `slot_of` by binary search.
 fn search<P>(slots: &[TableSlot<P>], pid: u64) -> Result<usize, usize>
     requires { AreRisingPids (slot_pids slots.now) }
     ensures { MatchResult result (StandsAt (slot_pids slots.now) pid)
@@ -49,7 +49,6 @@ fn search<P>(slots: &[TableSlot<P>], pid: u64) -> Result<usize, usize>
     slots.binary_search_by_key(&pid, |slot| slot.pid)
 }
 
-// Whether the pid has a place.
 pub(crate) fn is_used<P>(slots: &[TableSlot<P>], pid: u64) -> bool
     requires { AreRisingPids (slot_pids slots.now) }
     ensures { result ≡ is_some (place_of (table_of slots.now) pid) }
@@ -60,7 +59,7 @@ pub(crate) fn is_used<P>(slots: &[TableSlot<P>], pid: u64) -> bool
     }
 }
 
-// Whether no page is away.
+// Whether no place is empty.
 pub(crate) fn are_all_home<P>(slots: &[TableSlot<P>]) -> bool
     ensures { IsTrue result ↔ AllByRecursion (λ e. IsSome e.1) (table_of slots.now).places }
 {
@@ -72,7 +71,7 @@ pub(crate) fn are_all_home<P>(slots: &[TableSlot<P>]) -> bool
     true
 }
 
-// Where the slot of a pid is that has a place.
+// The index of the slot of a pid that has a place.
 pub(crate) fn slot_in_use<P>(slots: &[TableSlot<P>], pid: u64) -> usize
     requires rising { AreRisingPids (slot_pids slots.now) }
     requires in_use { IsSome (place_of (table_of slots.now) pid) }

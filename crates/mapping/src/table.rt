@@ -1,4 +1,4 @@
-//! The mapping table: pages by pid, and what the log has of each.
+//! The mapping table: pages by pid, and the log state of each.
 ghost use Rattle.std.specs.Prelude.{◌≡◌, ◌↔◌, ◌≤◌, length, Some, None, IsTrue, IsSome, is_some, IfOk, OnOk, OnErr};
 ghost use Rattle.std.specs.Option.{option_copied};
 ghost use Rattle.std.specs.List.{AllByRecursion};
@@ -20,12 +20,12 @@ use std::alloc::{AllocError, Allocator};
 use std::marker::Model;
 use std::mem;
 
-/// A map from pids to places for pages, with what the log has of each pid. Contracts see it as two lists by rising pid
-/// (`Mapping`): of the places, each with its page or with none while that is away, and of what the log has, where it
-/// has something.
+/// A map from pids to places for pages, with the log state of each pid. A place is empty while its page is checked out,
+/// and before its first page is put. Contracts see the table as two lists by rising pid (`Mapping`): the places, each
+/// with its page or with none; and the log states other than `No`.
 #[derive(Drop)]
 pub struct Table<P, A: Allocator> {
-    // By rising pid. A slot stays when its place goes, so that most slots stand at their pids' own numbers.
+    // In order of the pids. A slot stays when its place is freed, so that most slots have their pids as indices.
     slots: Vec<TableSlot<P>, A>,
     // Each number below this one has a place.
     filled: u64,
@@ -44,7 +44,7 @@ impl<P, A: Allocator> Model for Table<P, A> {
 }
 
 impl<P: Drop, A: Allocator + Copy> Table<P, A> {
-    /// A table without places. This takes no memory.
+    /// Returns a table without places. Does not allocate.
     pub fn new(alloc: A) -> Self
         ensures { result ≡ no_places }
     {
@@ -54,19 +54,18 @@ impl<P: Drop, A: Allocator + Copy> Table<P, A> {
         }
     }
 
-    /// What the table allocates with.
     pub(crate) fn allocator(&self) -> A {
         *self.slots.allocator()
     }
 
-    /// Whether the pid has a place.
+    /// Returns whether `pid` has a place.
     pub fn is_used(&self, pid: u64) -> bool
         ensures { result ≡ is_some (place_of self.now pid) }
     {
         is_used(&self.slots, pid)
     }
 
-    /// Whether the pid has a place whose page is away, so that one may be put there.
+    /// Returns whether `pid` has an empty place, which `put` requires.
     pub fn is_away(&self, pid: u64) -> bool
         ensures { IsTrue result ↔ (place_of self.now pid ≡ Some None) }
     {
@@ -76,7 +75,7 @@ impl<P: Drop, A: Allocator + Copy> Table<P, A> {
         }
     }
 
-    /// The page at home under the pid, if there is one.
+    /// Returns the page of `pid`, or `None` if it has no place or an empty one.
     pub fn get(&self, pid: u64) -> Option<&P>
         ensures { option_copied result ≡ page_of self.now pid }
     {
@@ -89,14 +88,14 @@ impl<P: Drop, A: Allocator + Copy> Table<P, A> {
         }
     }
 
-    /// Whether no page is away.
+    /// Returns whether no place is empty, so that no page is checked out.
     pub fn are_all_home(&self) -> bool
         ensures { IsTrue result ↔ AllByRecursion (λ e. IsSome e.1) self.now.places }
     {
         are_all_home(&self.slots)
     }
 
-    /// What the log has of the pid.
+    /// Returns the log state of `pid`.
     pub fn logged(&self, pid: u64) -> Logged
         ensures { log_state result ≡ log_of self.now pid }
     {
@@ -106,7 +105,7 @@ impl<P: Drop, A: Allocator + Copy> Table<P, A> {
         }
     }
 
-    /// The pids that are in use, and those that are `Old` in the log, by rising number. It takes no memory.
+    /// Returns the pids that are in use or whose log state is `Old`, in rising order. Does not allocate.
     pub fn pids(&self) -> Pids<'_, P>
         ensures pids { result ≡ pids_in_use_or_old self.now }
         ensures rising { AreRisingPids (pids_in_use self.now) }
@@ -115,21 +114,21 @@ impl<P: Drop, A: Allocator + Copy> Table<P, A> {
         Pids { slots: &self.slots }
     }
 
-    /// The pids of the pages that are at home, by rising number. It takes no memory.
+    /// Returns the pids of the pages that are not checked out, in rising order. Does not allocate.
     pub fn home_pids(&self) -> HomePids<'_, P>
         ensures { result ≡ keys_of (home_pages self.now.places) }
     {
         HomePids { slots: &self.slots }
     }
 
-    /// A number that the number of places doesn't pass. Only the number of the slots is looked at.
+    /// Returns an upper bound on the number of places. Reads only the number of slots.
     pub fn most_places(&self) -> usize
         ensures { length self.now.places ≤ result }
     {
         self.slots.len()
     }
 
-    /// Takes the page out of its place, which is away afterwards. This takes no memory, as `put` and `free` do not.
+    /// Checks out the page of `pid`: removes it and leaves its place empty. Like `put` and `free`, does not allocate.
     pub fn take(&mut self, pid: u64) -> P
         requires { IsSome (page_of self.old pid) }
         ensures page { page_of self.old pid ≡ Some result }
@@ -142,7 +141,7 @@ impl<P: Drop, A: Allocator + Copy> Table<P, A> {
         }
     }
 
-    /// Puts a page into its place, from which it was away.
+    /// Puts a page into the empty place of `pid`.
     pub fn put(&mut self, pid: u64, page: P)
         requires { place_of self.old pid ≡ Some None }
         ensures { self.new ≡ with_place self.old pid (Some page) }
@@ -151,7 +150,7 @@ impl<P: Drop, A: Allocator + Copy> Table<P, A> {
         self.slots[at].page = TablePlace::Home(page);
     }
 
-    /// Gives up the place of a page that is away. What the log has of the pid is of no present page then.
+    /// Frees the empty place of `pid`. The log state of the pid becomes that of a replaced page.
     pub fn free(&mut self, pid: u64)
         requires { place_of self.old pid ≡ Some None }
         ensures { self.new ≡ freed self.old pid }
@@ -163,7 +162,7 @@ impl<P: Drop, A: Allocator + Copy> Table<P, A> {
         self.filled = self.filled.min(pid);
     }
 
-    /// Notes that the pid's page isn't the one that the log knows.
+    /// Records that the page of `pid` has been replaced since the log was written.
     pub fn outdate(&mut self, pid: u64)
         ensures { self.new ≡ log_outdated self.old pid }
     {
@@ -173,8 +172,7 @@ impl<P: Drop, A: Allocator + Copy> Table<P, A> {
         }
     }
 
-    /// Makes a place for the pid, whose page is away, where it has none. Where memory is refused for that, nothing
-    /// has changed.
+    /// Makes an empty place for `pid` if it has no place. If allocation fails, nothing changes.
     pub fn room(&mut self, pid: u64) -> Result<(), AllocError>
         ensures ok { OnOk result (self.new ≡ with_room self.old pid) }
         ensures err { OnErr result (self.new ≡ self.old) }
@@ -182,9 +180,8 @@ impl<P: Drop, A: Allocator + Copy> Table<P, A> {
         occupy(&mut self.slots, pid)
     }
 
-    /// Draws `count` new pids, the least numbers that have no place, in rising order, and makes a place for each, whose
-    /// page is away. What the log has of them stays. Where memory is refused, or fewer numbers below `u64::MAX`
-    /// are left, nothing has changed.
+    /// Allocates `count` new pids: the least numbers without a place, in rising order. Each gets an empty place
+    /// and keeps its log state. If allocation fails, or too few numbers below `u64::MAX` are unused, nothing changes.
     pub fn fresh(&mut self, count: usize) -> Result<Vec<u64, A>, AllocError>
         ensures pids { IfOk result (λ pids. pids.items ≡ fresh_pids (pids_in_use self.old) count) }
         ensures ok { OnOk result
@@ -203,8 +200,8 @@ impl<P: Drop, A: Allocator + Copy> Table<P, A> {
 }
 
 impl<A: Allocator + Copy> Table<Page<A>, A> {
-    /// Notes that the log has each page at home as it is, with all its runs, and nothing of any other pid. The places
-    /// stay, and it takes no memory.
+    /// Records that the log contains each page of the table with all its runs, and nothing of any other pid. The places
+    /// stay. Does not allocate.
     pub fn flushed(&mut self)
         ensures { self.new ≡ marked_as_written self.old }
     {
@@ -213,7 +210,7 @@ impl<A: Allocator + Copy> Table<Page<A>, A> {
         }
     }
 
-    /// The same, where the log has of every pid but these what it has then. It looks at no other slot.
+    /// `flushed`, given that the log states of all pids except `pids` are final. Visits no other slots.
     pub(crate) fn flushed_at(&mut self, pids: &[u64])
         requires { AreDue self.old pids.now }
         ensures { self.new ≡ marked_as_written self.old }

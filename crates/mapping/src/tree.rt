@@ -22,8 +22,8 @@ use keys::{Key, Pid};
 use std::alloc::{AllocError, Allocator};
 use std::marker::Model;
 
-/// The pages of a tree in their table, with the root's page id and the number of levels. Contracts see it as a
-/// `TreeInMemory`; where no page is away, that stands for a tree of the definitions (`tree_of`).
+/// A tree in memory: the table of its pages, its root's page id, and the number of levels. Contracts see it as a
+/// `TreeInMemory`. If no place is empty, this represents a tree of the definitions (`tree_of`).
 #[derive(Drop)]
 pub struct Tree<A: Allocator> {
     table: PageTable<A>,
@@ -40,7 +40,7 @@ impl<A: Allocator> Model for Tree<A> {
 }
 
 impl<A: Allocator + Copy> Tree<A> {
-    /// The tree of the pages in this table, with this root and this number of levels.
+    /// Makes a tree of the pages in `table`, with this root and this number of levels.
     pub fn new(table: Table<Page<A>, A>, root: Pid, height: u32) -> Self
         ensures { result ≡ record { table = table; root = root; height = height } }
     {
@@ -51,21 +51,21 @@ impl<A: Allocator + Copy> Tree<A> {
         }
     }
 
-    /// The root's page id.
+    /// Returns the root's page id.
     pub fn root(&self) -> Pid
         ensures { result ≡ self.now.root }
     {
         self.root
     }
 
-    /// The number of levels.
+    /// Returns the number of levels.
     pub fn height(&self) -> u32
         ensures { result ≡ self.now.height }
     {
         self.height
     }
 
-    /// The page at home under the page id, if there is one: where no page is away, the tree's page under it.
+    /// Returns the page of `pid`, or `None` if it has no place or an empty one.
     pub fn page(&self, pid: Pid) -> Option<&Page<A>>
         ensures home { option_copied result ≡ page_of self.now.table pid }
         ensures listed { AreAllHome self.now →
@@ -74,59 +74,59 @@ impl<A: Allocator + Copy> Tree<A> {
         self.table.as_table().get(pid.0)
     }
 
-    /// A number that the number of pages doesn't pass. No page is looked at.
+    /// Returns an upper bound on the number of pages. Reads no page.
     pub fn most_pages(&self) -> usize
         ensures { length (tree_of self.now).pages ≤ result }
     {
         self.table.as_table().most_places()
     }
 
-    /// Whether no page is away.
+    /// Returns whether no place is empty, so that no page is checked out.
     pub fn are_all_home(&self) -> bool
         ensures { IsTrue result ↔ AreAllHome self.now }
     {
         self.table.as_table().are_all_home()
     }
 
-    /// What the log has of the page id.
+    /// Returns the log state of `pid`.
     pub fn logged(&self, pid: Pid) -> Logged
         ensures { log_state result ≡ log_of self.now.table pid }
     {
         self.table.as_table().logged(pid.0)
     }
 
-    /// The page ids of the pages that are at home, by rising number. It takes no memory.
+    /// Returns the ids of the pages that are not checked out, in rising order. Does not allocate.
     pub fn pids(&self) -> HomePids<'_, Page<A>>
         ensures { result ≡ keys_of (tree_of self.now).pages }
     {
         self.table.as_table().home_pids()
     }
 
-    /// The page ids that are in use, and those that are `Old` in the log, by rising number: those that a flush may have to write. It
-    /// takes no memory.
+    /// Returns the page ids that a flush may have to write, in rising order: those in use, and those whose log state is
+    /// `Old`. Does not allocate.
     pub fn known_pids(&self) -> Pids<'_, Page<A>>
         ensures { result ≡ pids_in_use_or_old self.now.table }
     {
         self.table.as_table().pids()
     }
 
-    /// The page ids that a flush may have to write, in any order, some more than once: of all others the log has what
-    /// it would have once all is written. Nothing where it may be any page id.
+    /// Returns the page ids that a flush may have to write, in any order, possibly more than once; for all others, the
+    /// log already contains what it would contain after the flush. Returns `None` if any page may be due.
     pub fn due_pids(&self) -> Option<&[u64]>
         ensures { IfSome result (λ pids. AreDue self.now.table pids.now) }
     {
         self.table.due_pids()
     }
 
-    /// Makes room to note each page id that is in use as one that is due. Without room a flush looks at all page ids: so this is for
-    /// speed alone. Where memory is refused, nothing has changed.
+    /// Makes room to record each page id in use as due. This affects only speed: without room, a flush examines all
+    /// page ids. If allocation fails, nothing changes.
     pub fn reserve(&mut self) -> Result<(), AllocError>
         ensures { self.new ≡ self.old }
     {
         self.table.reserve()
     }
 
-    /// Takes the page out of its place, which is away afterwards. This takes no memory, as `put` and `free` do not.
+    /// Checks out the page of `pid`: removes it and leaves its place empty. Like `put` and `free`, does not allocate.
     pub fn take(&mut self, pid: Pid) -> Page<A>
         requires { IsSome (page_of self.old.table pid) }
         ensures page { page_of self.old.table pid ≡ Some result }
@@ -135,7 +135,7 @@ impl<A: Allocator + Copy> Tree<A> {
         self.table.take(pid.0)
     }
 
-    /// Puts a page into its place, from which it was away.
+    /// Puts a page into the empty place of `pid`.
     pub fn put(&mut self, pid: Pid, page: Page<A>)
         requires { place_of self.old.table pid ≡ Some None }
         ensures { self.new ≡ record self.old { table = with_place self.old.table pid (Some page) } }
@@ -143,7 +143,7 @@ impl<A: Allocator + Copy> Tree<A> {
         self.table.put(pid.0, page);
     }
 
-    /// Gives up the place of a page that is away. What the log has of the page id is of no present page then.
+    /// Frees the empty place of `pid`. The log state of the page id becomes that of a replaced page.
     pub fn free(&mut self, pid: Pid)
         requires { place_of self.old.table pid ≡ Some None }
         ensures { self.new ≡ record self.old { table = freed self.old.table pid } }
@@ -151,15 +151,15 @@ impl<A: Allocator + Copy> Tree<A> {
         self.table.free(pid.0);
     }
 
-    /// Notes that the page isn't the one that the log knows.
+    /// Records that the page has been replaced since the log was written.
     pub fn outdate(&mut self, pid: Pid)
         ensures { self.new ≡ record self.old { table = log_outdated self.old.table pid } }
     {
         self.table.outdate(pid.0);
     }
 
-    /// Draws `count` new page ids, the least that have no place, in rising order, and makes a place for each, whose page is
-    /// away. Where memory is refused, or fewer are left, nothing has changed.
+    /// Allocates `count` new page ids: the least ones without a place, in rising order. Each gets a place without a
+    /// page. If allocation fails, or too few numbers are unused, nothing changes.
     pub fn fresh(&mut self, count: usize) -> Result<Vec<u64, A>, AllocError>
         ensures pids { IfOk result
             (λ pids. pids.items ≡ fresh_pids (pids_in_use self.old.table) count) }
@@ -172,7 +172,7 @@ impl<A: Allocator + Copy> Tree<A> {
         self.table.fresh(count)
     }
 
-    /// Makes this page the root, of a tree with `height` levels.
+    /// Makes this page the root of a tree with `height` levels.
     pub fn set_root(&mut self, root: Pid, height: u32)
         ensures { self.new ≡ record self.old { root = root; height = height } }
     {
@@ -180,7 +180,8 @@ impl<A: Allocator + Copy> Tree<A> {
         self.height = height;
     }
 
-    /// Notes that the log has each page at home as it is, with all its runs, and nothing of any other page id. It takes no memory.
+    /// Records that the log contains each page of the table with all its runs, and nothing of any other page id. Does
+    /// not allocate.
     pub fn flushed(&mut self)
         ensures { self.new ≡ record self.old { table = marked_as_written self.old.table } }
     {
@@ -188,7 +189,7 @@ impl<A: Allocator + Copy> Tree<A> {
     }
 }
 
-/// The tree of a new store: one empty leaf, which the log has.
+/// Returns the tree of a new store: one empty leaf, which the log contains. `Err` means that allocation failed.
 pub fn new_tree<A: Allocator + Copy>(alloc: A) -> Result<Tree<A>, AllocError>
     ensures { IfOk result (λ tree. tree ≡ new_in_memory) }
 {
@@ -199,7 +200,7 @@ pub fn new_tree<A: Allocator + Copy>(alloc: A) -> Result<Tree<A>, AllocError>
     Ok(Tree::new(table, Pid(0), 1))
 }
 
-/// A leaf that holds nothing. It takes no memory.
+/// Returns a leaf without entries. Does not allocate.
 pub fn empty_leaf<A: Allocator + Copy>(alloc: A) -> Page<A>
     ensures { result ≡ Leaf (bare [] []) }
 {

@@ -26,7 +26,7 @@ module _ {V : Type 0} where
   in_order-after_run s p [] a r = a
   in_order-after_run s p (c ∷ cs) a r = order_by (must_replace s p (c ∷ cs)) p (c ∷ cs) a r
 
-  -- a run that doesn't have the page replaced stands in front
+  -- a run that does not cause the page to be replaced is prepended
   pub stands_in_front : (s : Settings) (p : Layers V) (run : List (List ℕ × Option V)) → 0 < length run → must_replace s p run ≡ false → after_run s p run ≡ in_front p run
   stands_in_front s p [] l e = absurd (omega arith)
   stands_in_front s p (c ∷ cs) l e = rw e refl

@@ -1,4 +1,4 @@
--- Lemmas on commands that are taken by themselves, for the proofs of this crate and of those above it.
+-- Lemmas on executing only some of the commands, for the proofs of this crate and of those above it.
 use Rattle.std.specs.Prelude.{◌≡◌, ℕ, Bool, true, false, not, cond, ◌&&◌, ◌||◌, is_some, List, [], ◌∷◌, Option, Some, None}
 use Rattle.std.proofs.Common.{refl, sym, ap, ◌∙◌}
 use Rattle.std.specs.List.{filter}
@@ -92,7 +92,7 @@ module _ {A : Type 0} where
   value_at-elsewhere : (m : Pairs) (c : Command A) (q : List ℕ) → IsRising m → is_on_key c q ≡ false → value_at q (map_after m c) ≡ value_at q m
   value_at-elsewhere m c q r h = untouched_once m c q r (touches_none_else m c q h)
 
-  -- where two maps have the same at a key, they have the same there after the command, and it touches the key in both or
+  -- if two maps have the same at a key, they have the same there after the command, and it touches the key in both or
   -- in none
   after_on : (m x : Pairs) (c : Command A) (q : List ℕ) → is_on_key c q ≡ true → IsRising m → IsRising x → value_at q m ≡ value_at q x → value_at q (map_after m c) ≡ value_at q (map_after x c)
   after_on m x (Get k) q h r s e = e
@@ -127,7 +127,7 @@ module _ {A : Type 0} where
   touches_by true m x c q h e = touches_on m x c q h e
   touches_by false m x c q h e = touches_none_else m c q h ∙ sym (touches_none_else x c q h)
 
-  -- where they have the same at its one key, it answers the same
+  -- if they have the same at its one key, it answers the same
   reply_same : (is_own : List ℕ → Bool) (m x : Pairs) (c : Command A) → AgreeOn is_own m x → is_on_one is_own c ≡ true → reply_to m c ≡ reply_to x c
   reply_same is_own m x (Get k) a h = let e : value_at k m ≡ value_at k x = a k h in rw e refl
   reply_same is_own m x (Put k v) a h = let e : value_at k m ≡ value_at k x = a k h in rw e refl
@@ -165,7 +165,7 @@ module _ {A : Type 0} where
   own_by true passes x c cs h ih = rw h (ap (λ (rs : List (Reply A)). reply_to x c ∷ rs) (ih (map_after x c)))
   own_by false passes x c cs h ih = ih x
 
-  -- where those that pass are taken, there are no other replies
+  -- if exactly those that pass are executed, there are no other replies
   pub replies_to-own : (passes : Command A → Bool) (x : Pairs) (cs : List (Command A)) → replies_where passes (filter passes cs) (replies_to x (filter passes cs)) ≡ replies_to x (filter passes cs)
   replies_to-own passes x [] = refl
   replies_to-own passes x (c ∷ cs) = own_by (passes c) passes x c (filter passes cs) refl (λ y. replies_to-own passes y cs)
@@ -237,7 +237,7 @@ module _ {A : Type 0} where
     untouched_others x [] q t h = refl
     untouched_others x (c ∷ cs) q t h = untouched_by (is_taken c) x c cs q t refl h (λ y. untouched_others y cs q t h)
 
-    -- and where no command on another key is taken, it says nothing of any other key
+    -- and if no command on another key is executed, the net run has no other key
     pub net_run-no_other : (x : Pairs) (cs : List (Command A)) (q : List ℕ) → TakesNoOther is_own is_taken → is_own q ≡ false → value_at q (net_run x (filter is_taken cs)) ≡ None
     net_run-no_other x cs q t h =
         value_at-touched (map_after_all x (filter is_taken cs)) x (filter is_taken cs) q
@@ -255,7 +255,7 @@ module _ {A : Type 0} where
     untouched_there x [] q t h r n = refl
     untouched_there x (c ∷ cs) q t h r n = absent_by_test (is_taken c) x c cs q t refl h r n (λ y s o. untouched_there y cs q t h s o)
 
-    -- where the map has no other key, and no command that gives one a value is taken, it says nothing of any other key
+    -- if the map has no other key, and no executed command sets another key, the net run has no other key
     pub net_run-no_other_there : (x : Pairs) (cs : List (Command A)) (q : List ℕ) → GivesNoOther is_own is_taken → HasNoOther is_own x → IsRising x → is_own q ≡ false → value_at q (net_run x (filter is_taken cs)) ≡ None
     net_run-no_other_there x cs q t n r h =
         value_at-touched (map_after_all x (filter is_taken cs)) x (filter is_taken cs) q

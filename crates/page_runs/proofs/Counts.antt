@@ -35,7 +35,7 @@ module _ {V : Type 0} where
   one_more [] k v a = omega arith
   one_more (e ∷ es) k v a = added_by (order k e.0) k v e es (with_pair es k v) (value_at k es) a (one_more es k v)
 
-  -- a key that is absent takes none away
+  -- an absent key deletes no entry
   kept_by : (b : Bool) (e : List ℕ × V) (es rest : List (List ℕ × V)) (held : Option V) → is_some (cond b (Some e.1) held) ≡ false
       → (is_some held ≡ false → length es ≤ length rest) → suc (length es) ≤ length (cond b es (e ∷ rest))
   kept_by true e es rest held a h = absurd (cc)
@@ -122,7 +122,7 @@ module _ (A : Type 0) where
   most_del true n l left h a s = let less = s refl in omega (arith, less)
   most_del false n l left h a s = omega arith
 
--- where at least n were there before a command, at least as many as its reply shows are there after it
+-- if at least n were there before a command, at least as many as its reply shows are there after it
 pub fewest_after : {A : Type 0} → (n : ℕ) (m : List (List ℕ × List ℕ)) (c : Command A) → n ≤ length m → entries_after n (reply_to m c) ≤ length (map_after m c)
 fewest_after {A} n m (Get k) h = after_get A n (length m) (value_at k m) h
 fewest_after {A} n m (Put k v) h = after_put A (is_some (value_at k m)) n (length m) (length (with_pair m k v)) h (most_with_pair m k v) (one_more m k v)
@@ -131,7 +131,7 @@ fewest_after {A} n m (Del k) h = after_del A (is_some (value_at k m)) n (length 
 fewest_after n m (Scan lo hi limit) h = h
 fewest_after n m (Wipe lo hi) h = let parts = both_parts m lo hi in omega (arith, h, parts)
 
--- where there were no more before a command, there are no more after it than its reply shows
+-- if there were no more before a command, there are no more after it than its reply shows
 most_counted : {A : Type 0} → (n : ℕ) (m : List (List ℕ × List ℕ)) (c : Command A) → IsRising m → length m ≤ n → length (map_after m c) ≤ entries_after n (reply_to m c)
 most_counted {A} n m (Get k) r h = most_get A n (length m) (value_at k m) h
 most_counted {A} n m (Put k v) r h = most_put A (is_some (value_at k m)) n (length m) (length (with_pair m k v)) h (one_more_at_most m k v) (no_more m k v r)

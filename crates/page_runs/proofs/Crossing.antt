@@ -1,4 +1,4 @@
--- What was made of a leaf may cross threads: it owns what it holds.
+-- The output for a leaf may cross threads: it owns its contents.
 use denote.RattleType.{RattleType}
 use denote.Struct.Declared.{shape}
 use denote.Enum.Declared as variants

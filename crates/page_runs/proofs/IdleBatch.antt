@@ -128,7 +128,7 @@ module _ (low : List ℕ) (end : Option (List ℕ)) where
     taken_by true m c cs p r e g t ih = stays_all (map_after m c) (take p cs) (rising-map_after m c r) (none_first (gives_within low end) p cs g) (taken m c r e)
     taken_by false m c cs p r e g t ih = ih t
 
-    -- after a command that takes all of it, the page is empty, where none gives a value there
+    -- after a command that deletes all of it, the page is empty, if no command sets a value there
     pub empty_after : (m : Pairs) (cs : List (Command A)) (p : ℕ) → IsRising m → list_any (gives_within low end) cs ≡ false → list_any (takes_page low end) (take p cs) ≡ true → in_range low end (map_after_all m (take p cs)) ≡ []
     empty_after m cs zero r g t = absurd (by cs t)
       where
@@ -146,19 +146,19 @@ module _ (low : List ℕ) (end : Option (List ℕ)) where
 abbrev pub IsBlank : {A : Type 0} → Reply A → Type 0
 IsBlank r = (r ≡ Rows []) ⊎ (r ≡ Wiped 0)
 
--- these are the second list's answers, but for blank ones to commands on ranges
+-- these answers differ from those of the second list only by blank answers to commands on ranges
 pub data AreButBlank {A : Type 0} (cs : List (Command A)) : List (Piece A) → List (Piece A) → Type 0 where
   none : AreButBlank cs [] []
   next : {qs ps : List (Piece A)} → (p : Piece A) → AreButBlank cs qs ps → AreButBlank cs (p ∷ qs) (p ∷ ps)
   left_out : {qs ps : List (Piece A)} → (p : Piece A) → is_ranged_at cs p.place ≡ true → IsBlank p.reply → AreButBlank cs qs ps → AreButBlank cs qs (p ∷ ps)
 
 module _ {A : Type 0} (cs : List (Command A)) (keeps : ℕ → Bool) where
-  -- where a place is left out nothing is there, and its command is on a range
+  -- if a place is left out nothing is there, and its command is on a range
   abbrev pub AreQuiet : Pairs → List ℕ → Type 0
   AreQuiet x [] = ⊤
   AreQuiet x (p ∷ ps) = (c : Command A) × (slice_get cs p ≡ Some c) × (keeps p ≡ false → (x ≡ []) × (is_ranged c ≡ true)) × AreQuiet (map_after x c) ps
 
-  -- such a command changes nothing, notes nothing, and is answered with nothing
+  -- such a command changes nothing, records nothing, and gets an empty answer
   still_empty : (x : Pairs) (c : Command A) → x ≡ [] → is_ranged c ≡ true → map_after x c ≡ x
   still_empty x (Get k) e r = refl
   still_empty x (Put k v) e r = absurd (cc)
@@ -234,7 +234,7 @@ module _ {A : Type 0} (cs : List (Command A)) (keeps : ℕ → Bool) where
       let same = subst (λ (y : Pairs). AreButBlank cs (answered (filter keeps ps) y (kept ps)) (answered ps (map_after x c) (commands_at cs ps))) (still_empty x c q.0 q.1) ih in
       subst (λ (ds : List (Command A)). AreButBlank cs (answered (filter keeps ps) x (kept ps)) (answered (p ∷ ps) x ds)) (sym (first_there p ps c e)) (AreButBlank.left_out here ranged (answers_nothing x c q.0 q.1) same)
 
-  -- and answer the same, but for blanks
+  -- and answer the same, except for blank answers
   pub pieces-kept : (ps : List ℕ) (x : Pairs) → AreQuiet x ps → AreButBlank cs (answered (filter keeps ps) x (kept ps)) (answered ps x (commands_at cs ps))
   pieces-kept [] x q = AreButBlank.none
   pieces-kept (p ∷ ps) x q = pieces_by (keeps p) p ps q.0 x q.1 q.2 (pieces-kept ps (map_after x q.0) q.3)
@@ -250,7 +250,7 @@ module _ {A : Type 0} (cs : List (Command A)) (low : List ℕ) (end : Option (Li
   rising_all x [] r = r
   rising_all x (d ∷ ds) r = rising_all (map_after x d) ds (rising-map_after x d r)
 
-  -- what is left out finds nothing
+  -- the commands that are left out find nothing
   finds_nothing : (done : List (Command A)) (c : Command A) (rest : List (Command A)) → done ++ c ∷ rest ≡ cs → is_idle cs low end (length done) ≡ true → (in_range low end (map_after_all m done) ≡ []) × (is_ranged c ≡ true)
   finds_nothing done c rest e h =
       let there : slice_get cs (length done) ≡ Some c = ap (λ (ds : List (Command A)). slice_get ds (length done)) (sym e) ∙ stands_there done c rest in
@@ -286,7 +286,7 @@ module _ {A : Type 0} (cs : List (Command A)) (low : List ℕ) (end : Option (Li
   pub page_quiet : AreQuiet cs keeps (in_range low end m) (places_within low end cs)
   page_quiet = quiet_from [] cs 0 refl refl
 
--- ---- whether the others only look
+-- ---- whether the other commands only read
 
 -- a list without some, which is all of it, or lacks one
 kept_or_not : (keeps : ℕ → Bool) (ps : List ℕ) → (filter keeps ps ≡ ps) ⊎ ((p : ℕ) × (is_among p ps ≡ true) × (keeps p ≡ false))
@@ -303,7 +303,7 @@ module _ {A : Type 0} (cs : List (Command A)) where
   and_false true = refl
   and_false false = refl
 
-  -- commands don't all look where one among them doesn't
+  -- if one of the commands doesn't only read, they don't all only read
   not_all_look : (w : ℕ) (d : Command A) → slice_get cs w ≡ Some d → is_look d ≡ false → (ps : List ℕ) → is_among w ps ≡ true → list_all is_look (commands_at cs ps) ≡ false
   not_all_look w d e l [] h = absurd (cc)
   not_all_look w d e l (p ∷ ps) h = by (nat_eq w p) refl h (not_all_look w d e l ps)
@@ -317,7 +317,7 @@ module _ {A : Type 0} (cs : List (Command A)) where
           list_all-append is_look (option_to_list (slice_get cs p)) (commands_at cs ps) ∙ ap (λ (b : Bool). list_all is_look (option_to_list (slice_get cs p)) && b) (g h) ∙ and_false (list_all is_look (option_to_list (slice_get cs p)))
 
 module _ {A : Type 0} (low : List ℕ) (end : Option (List ℕ)) where
-  -- what takes all of a page doesn't only look
+  -- a command that deletes all of a page doesn't only read
   taking : (c : Command A) → takes_page low end c ≡ true → is_look c ≡ false
   taking (Get k) h = absurd (cc)
   taking (Put k v) h = absurd (cc)
@@ -359,6 +359,6 @@ module _ {A : Type 0} (low : List ℕ) (end : Option (List ℕ)) where
         let own = taking_by (first_end (drop w ends)) (slice_get cs w) first.item (sym (get-with_ends cs ends w) ∙ first.there) first.passes in
         not_all_look cs w own.0 own.1 own.2 (filter keeps ps) stays ∙ sym (not_all_look cs w own.0 own.1 own.2 ps there)
 
-    -- a page's commands without those that are idle all look if all do
+    -- a page's commands without the idle ones all only read if all commands do
     pub looks-kept : list_all is_look (commands_at cs (filter keeps (places_within low end ended))) ≡ list_all is_look (commands_at cs (places_within low end ended))
     looks-kept = looks_by (places_within low end ended) refl (kept_or_not keeps (places_within low end ended))

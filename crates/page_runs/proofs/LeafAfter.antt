@@ -27,7 +27,7 @@ module _ {V : Type 0} where
   pub class_replaced : (s : Settings) (c now : Late V) (run : Changes V) → now ≡ With c run → 0 < length run → true ≡ must_replace s (seen c) run → class_of_size s (length (entries_of now.chain)) ≡ class_after s (seen c) run
   class_replaced s c now run n l e = rw n (ap (λ (m : Pairs V). class_of_size s (length (with_run m run))) (sym (entries-seen c)) ∙ class_of_replaced s (seen c) run l e)
 
-  -- a run that stands in front of the leaf in memory stands in front of the leaf
+  -- a run that is prepended to the leaf in memory is prepended to the leaf that it represents
   pub page_in_front : (s : Settings) (c now : Late V) (run : Changes V) → now ≡ With c run → c.settled ≤ length c.chain.runs → 0 < length run → false ≡ must_replace s (seen c) run → seen now ≡ after_run s (seen c) run
   page_in_front s c now run n w l e = rw n (seen-in_front c run w ∙ sym (stands_in_front s (seen c) run l (sym e)))
 

@@ -1,4 +1,4 @@
--- What is made of a leaf that lies in memory: its run and its replies are those of its entries.
+-- The output for a leaf in memory: its run and its replies are those of its entries.
 use Rattle.std.specs.Prelude.{◌≡◌, ℕ, Bool, List}
 use Rattle.std.proofs.Common.{sym, ap, ◌∙◌}
 use Rattle.std.specs.declared.alloc.Global.{Global}
@@ -25,7 +25,7 @@ use Rattle.page_runs.specs.Replies.{commands_at, pieces_of}
 use Rattle.page_runs.specs.declared.class.Class.{Class}
 use Rattle.page_runs.specs.declared.leaf_after.LeafWayBack.{LeafWayBack}
 
--- what is made of a leaf, from the page and what is known of it
+-- the output for a leaf, from the page and the facts about it
 abbrev Made : Route → Bytes → Layers Bytes → Class → Bool → List (Piece Global) → LeafMade
 Made route low layers class replaced pieces = record {
   worked = record { placed = record { pid = route.pid; page = record { low = low; layers = layers } }; class = class; replaced = replaced };
@@ -62,7 +62,7 @@ module _ (s : Settings) (batch : List (Command Global)) (route : Route) (low : B
       (said ∙ ap (λ (ps : List ℕ). pieces_of ps (replies_to (entries_of whole) (commands_at batch ps))) at ∙ ap (λ (es : Pairs Bytes). pieces_of route.places (replies_to es (commands_at batch route.places))) same)
       ∙ sym (ap (λ (p : PageOfKind). leaf_made s batch (record { page = p; route = route })) is)
 
--- what is known of a leaf that was worked holds of what became of the job
+-- properties of a leaf's output hold for the output of the job
 pub done_made : {J : Type 0} (turn : Turn J LeafWorked) (leaf : LeafWorked) (made : LeafMade) → IfDone turn (λ done. done ≡ leaf) → leaf.made ≡ made → IfDone turn (λ done. done.made ≡ made)
 done_made (Done d) leaf made h e = ap (λ (w : LeafWorked). w.made) h ∙ e
 done_made (Back j) leaf made h e = tt

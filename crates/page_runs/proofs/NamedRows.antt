@@ -1,4 +1,4 @@
--- The rows that the keys of a page and its changes give: for the proofs of this crate.
+-- The rows from the keys of a page and its changes: for the proofs of this crate.
 use Rattle.std.specs.Prelude.{◌≡◌, ℕ, zero, suc, ◌+◌, ◌-◌, ◌<◌, ◌≤◌, Bool, true, false, not, cond, ◌&&◌, List, [], ◌∷◌, ◌++◌, length, take, is_some, Option, Some, None, flat_map}
 use Rattle.std.proofs.Common.{refl, sym, ap, ◌∙◌, arith, append_assoc, append-nil, length-append, Less, Equal, Greater, Ordering}
 use Rattle.std.specs.Borrow.{Bor}
@@ -43,7 +43,7 @@ not_before (Some end) k j l h = by (order j end) refl
     by Greater e = refl
 
 module _ {V : Type 0} where
-  -- ---- look-ups
+  -- ---- lookups
 
   -- what is kept of a map has what the map has, at a key that is kept
   pub value_at-kept : (keeps : List ℕ → Bool) (es : List (List ℕ × V)) (k : List ℕ) → value_at k (filter (λ e. keeps e.0) es) ≡ cond (keeps k) (value_at k es) None

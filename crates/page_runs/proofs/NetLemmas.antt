@@ -40,7 +40,7 @@ turned true true c = refl
 turned true false c = refl
 turned false b c = refl
 
--- ---- a key noted in a run
+-- ---- a key added to a run
 
 -- what a run of the keys that pass a test says of a key: its value in this map
 abbrev pub said_if : Bool → List ℕ → Pairs → Option (Option (List ℕ))
@@ -63,7 +63,7 @@ noted_unless : (b : Bool) (after : Pairs) (run : Changes) (k q : List ℕ) → v
 noted_unless true after run k q = refl
 noted_unless false after run k q = value_at-noted after run k q
 
--- ---- keys noted in a run
+-- ---- keys added to a run
 
 has_key : List ℕ → List (List ℕ) → Bool
 has_key q [] = false
@@ -152,7 +152,7 @@ deleted_by true m k q r n h = value_at-without m k q r ∙ ap (λ (t : Bool). co
 deleted_by false m k q r n h = value_at-without m k q r ∙ absent_by (is_eq (order k q)) m k q refl n
 
 module _ {A : Type 0} where
-  -- ---- what a net run says of a key
+  -- ---- the net run at a key
 
   value_at-noted_by : (after before : Pairs) (c : Command A) (run : Changes) (q : List ℕ) → value_at q (noted_by after before c run) ≡ cond (touches q before c) (Some (value_at q after)) (value_at q run)
   value_at-noted_by after before (Get k) run q = refl
@@ -220,7 +220,7 @@ module _ {A : Type 0} where
       ap (λ (t : Bool). touches q m d || t) (is_touched-push (map_after m d) ds c q)
       ∙ turned (touches q m d) (touches q (map_after_all (map_after m d) ds) c) (is_touched q (map_after m d) ds)
 
-  -- the net run of one more command: its key noted, where the command touches it
+  -- the net run of one more command: its key is added, if the command changes it
   pub net_run-push : (m : Pairs) (cs : List (Command A)) (c : Command A) → IsRising m → net_run m (cs ++ c ∷ []) ≡ noted_by (map_after (map_after_all m cs) c) (map_after_all m cs) c (net_run m cs)
   net_run-push m cs c r =
       let before : Pairs = map_after_all m cs in

@@ -1,4 +1,4 @@
--- Changes that lie over a page: what a key has under them, and what one more command does to them.
+-- Changes over a page: the value of a key after them, and the effect of one more command on them.
 use Rattle.std.specs.Prelude.{◌≡◌, ◌<◌, ℕ, Bool, true, false, List, [], ◌∷◌, Option, Some, None, if◌then◌else◌, length, Result, Ok, Err, OnOk}
 use Rattle.std.proofs.Common.{refl, sym, ap, ◌∙◌, arith, cond}
 use Rattle.std.specs.List.{AllByRecursion}
@@ -16,20 +16,20 @@ use Rattle.page_runs.specs.NetRun.{noted, noted_all}
 use Rattle.page_runs.specs.Replay.{with_absent}
 
 module _ {V : Type 0} where
-  -- a key that the changes name has what they say
+  -- a key in the changes has their value
   pub named_now : (p : Layers V) (run : List (List ℕ × Option V)) (k : List ℕ) (o : Option V) → IsInOrder p → IsRising run → Some o ≡ value_at k run → o ≡ value_at k (with_run (entries_of p) run)
   named_now p run k o a r h =
       let said = value_at-with_run (entries_of p) run k (rising-entries_of p a) r in
       rw said (ap (λ (t : Option (Option V)). change_or t (value_at k (entries_of p))) h)
 
-  -- a key that they don't name has what the page holds
+  -- a key that is not in the changes has the page's value
   pub unnamed_now : (p : Layers V) (run : List (List ℕ × Option V)) (k : List ℕ) → IsInOrder p → IsRising run → None ≡ value_at k run → holds p k ≡ value_at k (with_run (entries_of p) run)
   unnamed_now p run k a r h =
       let said = value_at-with_run (entries_of p) run k (rising-entries_of p a) r in
       let held = value_at-entries_of p k a in
       rw (said, ← held) (ap (λ (t : Option (Option V)). change_or t (value_at k (entries_of p))) h)
 
-  -- what is noted of a key that was put, added or deleted, unless memory was refused
+  -- the recorded change of a key that was put, added or deleted, if no allocation failed
   noted_put : (m : List (List ℕ × V)) (run : List (List ℕ × Option V)) (k : List ℕ) (v : V) → with_pair run k (Some v) ≡ noted (with_pair m k v) run k
   noted_put m run k v = rw (value_at-with_pair_here m k v) refl
 
@@ -41,7 +41,7 @@ module _ {V : Type 0} where
   noted_del true m run k r = rw (value_at-without_here m k r) refl
   noted_del false m run k r = refl
 
-  -- keys that a map lacks are noted as absent
+  -- keys that a map lacks are recorded as deleted
   noted_absent : (after : List (List ℕ × V)) (run : List (List ℕ × Option V)) (ks : List (List ℕ)) → AllByRecursion (λ k. value_at k after ≡ None) ks → with_absent run ks ≡ noted_all after run ks
   noted_absent after run [] a = refl
   noted_absent after run (k ∷ ks) a =
@@ -52,7 +52,7 @@ module _ {V : Type 0} where
   lacking_by true e lo hi m es h a = (wiped_within m lo hi e.0 h, a)
   lacking_by false e lo hi m es h a = a
 
-  -- the keys in a range are lacking once they are wiped
+  -- the keys in a range are lacking after they are wiped
   all_lacking : (lo : List ℕ) (hi : Option (List ℕ)) (m es : List (List ℕ × V)) → AllByRecursion (λ k. value_at k (out_of_range lo hi m) ≡ None) (keys_of (in_range lo hi es))
   all_lacking lo hi m [] = tt
   all_lacking lo hi m (e ∷ es) = lacking_by (is_within lo hi e.0) e lo hi m (in_range lo hi es) refl (all_lacking lo hi m es)

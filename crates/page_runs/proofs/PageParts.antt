@@ -55,7 +55,7 @@ turned true false = refl
 turned false true = refl
 turned false false = refl
 
--- what a wipe leaves in a page's range is what it leaves of the pairs there, where it goes to the page
+-- a wipe that goes to the page leaves the same in the page's range as it leaves of the pairs there
 wiped_part_by : (b : Bool) (low : List ℕ) (end : Option (List ℕ)) (lo : List ℕ) (hi : Option (List ℕ)) (m : Pairs) → (is_within low end lo || is_between lo hi low) ≡ b
     → in_range low end (out_of_range lo hi m) ≡ cond b (out_of_range lo hi (in_range low end m)) (in_range low end m)
 wiped_part_by true low end lo hi m h =
@@ -127,7 +127,7 @@ module _ (low : List ℕ) (end : Option (List ℕ)) (m : Pairs) (r : IsRising m)
   added_by false k v h = added_outside (is_some (value_at k m)) k v h
 
   module _ {A : Type 0} where
-    -- what a command leaves within a range is what it leaves of the pairs there, where it goes to that range
+    -- a command that goes to a range leaves the same in it as it leaves of the pairs there
     pub map_after-part : (c : Command A) → in_range low end (map_after m c) ≡ (if goes_to low end c then map_after (in_range low end m) c else in_range low end m)
     map_after-part (Get k) = either_part (goes_to {A = A} low end (Get k)) (in_range low end m)
     map_after-part (Put k v) = changed_by (is_within low end k) k (Some v) refl
@@ -160,7 +160,7 @@ from_mid low mid k l h = not_below_lower low k (low_through_mid low mid k l h)
     low_through_mid low mid k l h = less_through low k mid (less_is_below low mid l) h
 
 module _ {V : Type 0} where
-  -- what stands above a key that isn't below mid isn't below mid either
+  -- the keys above a key that isn't below mid aren't below mid either
   none_before : (low mid k : List ℕ) (m : List (List ℕ × V)) → is_below k mid ≡ false → AllByRecursion (λ j. order k j ≡ Less) (keys_of m) → in_range low (Some mid) m ≡ []
   none_before low mid k [] h a = refl
   none_before low mid k (e ∷ m) h a =

@@ -1,4 +1,4 @@
--- A page and the changes to it, gone through together in key order: for the proofs of this crate.
+-- One pass in key order over a page and the changes to it: for the proofs of this crate.
 use Rattle.std.specs.Prelude.{◌≡◌, ℕ, Bool, false, not, cond, ◌&&◌, List, [], ◌∷◌, Option, Some, None, MatchOption}
 use Rattle.std.proofs.Common.{refl, sym, ap, ◌∙◌, Ordering, Less, Equal, Greater}
 use Rattle.std.specs.List.{filter}

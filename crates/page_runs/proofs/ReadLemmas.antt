@@ -1,4 +1,4 @@
--- Commands that only look: how they are told apart, and that they come to no run.
+-- Commands that only read: how they are recognised, and that their net run is empty.
 use Rattle.std.specs.Prelude.{◌≡◌, ℕ, ◌+◌, Bool, true, false, ◌&&◌, List, [], ◌∷◌, drop, slice_get}
 use Rattle.std.proofs.Common.{refl, sym, ap, ◌∙◌}
 use Rattle.std.specs.Prelude.{Option, Some}
@@ -34,11 +34,11 @@ module _ {A : Type 0} where
   touched-looks after before (Scan lo hi limit ∷ cs) h = touched-looks after before cs h
   touched-looks after before (Wipe lo hi ∷ cs) h = absurd (cc)
 
-  -- commands that only look come to no run, whatever the map
+  -- the net run of commands that only read is empty, whatever the map
   pub net_run-looks : (m : Pairs) (cs : List (Command A)) → list_all is_look cs ≡ true → net_run m cs ≡ []
   net_run-looks m cs h = touched-looks (map_after_all m cs) m cs h
 
-  -- what the next place says of all that are left
+  -- the next place, for all remaining ones
   pub looks_from : (batch : List (Command A)) (places : List ℕ) (i place : ℕ) → drop i places ≡ place ∷ drop (i + 1) places
       → list_all is_look (commands_at batch (drop i places)) ≡ (list_all is_look (option_to_list (slice_get batch place)) && list_all is_look (commands_at batch (drop (i + 1) places)))
   looks_from batch places i place e =
@@ -46,15 +46,15 @@ module _ {A : Type 0} where
 
   module _ (batch : List (Command A)) (places : List ℕ) (i place : ℕ) (next : drop i places ≡ place ∷ drop (i + 1) places) (said : Bool)
       (here : said ≡ list_all is_look (option_to_list (slice_get batch place))) (so_far : list_all is_look (commands_at batch (drop i places)) ≡ list_all is_look (commands_at batch places)) where
-    -- where the next one changes something not all look
+    -- if the next command changes something, not all only read
     pub one_changes : said ≡ false → false ≡ list_all is_look (commands_at batch places)
     one_changes h = sym (ap (λ (b : Bool). b && list_all is_look (commands_at batch (drop (i + 1) places))) (sym here ∙ h)) ∙ sym (looks_from batch places i place next) ∙ so_far
 
-    -- where it looks it depends on the later ones
+    -- if it only reads, the later ones decide
     pub one_looks : said ≡ true → list_all is_look (commands_at batch (drop (i + 1) places)) ≡ list_all is_look (commands_at batch places)
     one_looks h = sym (ap (λ (b : Bool). b && list_all is_look (commands_at batch (drop (i + 1) places))) (sym here ∙ h)) ∙ sym (looks_from batch places i place next) ∙ so_far
 
--- what is replayed on the chain in memory of a leaf at home is what the route's page answers
+-- the replies of commands on the chain in memory of a leaf in the table are the answers of the route's page
 pub late_answers : (t : TreeInMemory) (batch : List (Command Global)) (r : Route) (pid : ℕ) (page : PageOfKind) (low : Bytes) (leaf : Late Bytes) (chain : Layers Bytes) (places : List ℕ) (pieces : List (Piece Global))
     → pid ≡ r.pid → page_of t.table pid ≡ Some page → page ≡ Leaf (record { low = low; layers = seen leaf }) → chain ≡ leaf.chain → places ≡ r.places
     → pieces ≡ pieces_of places (replies_to (entries_of chain) (commands_at batch places)) → pieces ≡ route_answers t batch r

@@ -1,4 +1,4 @@
--- One more command replayed: the changes are the net run of one more, and the pieces those of one more place.
+-- Executing one more command: the changes are the net run of one more command, and the pieces those of one more place.
 use Rattle.std.specs.Prelude.{◌≡◌, ◌<◌, ℕ, zero, suc, List, [], ◌∷◌, ◌++◌, Some, option_to_list, length, take, drop, slice_get}
 use Rattle.std.proofs.Common.{refl, sym, ap, ◌∙◌, append_assoc, get_or}
 use Rattle.std.proofs.lemmas.Option.{slice_get-get_or}

@@ -1,5 +1,5 @@
--- The worked rows that speak of one page, computed by the checker: fan 4, chain 2. A letter is the key of one byte
--- that stands for it, and a digit the value of one byte. docs/EXAMPLES.md numbers the rows.
+-- The worked rows about one page, evaluated by the checker: fan 4, chain 2. A letter denotes the key of that one byte, and a digit the value of that
+-- one byte. docs/EXAMPLES.md numbers the rows.
 use Rattle.std.specs.Prelude.{◌≡◌, ℕ, List, [], ◌∷◌, Option, None, Some}
 use Rattle.std.proofs.Common.{refl}
 use Rattle.keys.specs.Step.{replies_to}
@@ -72,7 +72,7 @@ row_3_page = refl
 row_3_class : class_then with_a (Add a (50 ∷ []) ∷ []) ≡ Same
 row_3_class = refl
 
--- row 6: a run of four entries, as many as fan, stands in front
+-- row 6: a run of four entries, as many as fan, is prepended
 abbrev row_6 : Commands
 row_6 = Put a (49 ∷ []) ∷ Put b (50 ∷ []) ∷ Put c (51 ∷ []) ∷ Put d (52 ∷ []) ∷ []
 
@@ -111,7 +111,7 @@ five_puts_page = refl
 five_puts_class : class_then empty five_puts ≡ Fat
 five_puts_class = refl
 
--- the third batch takes the last key away: no entry is left, and the page is thin
+-- the third batch deletes the last key: no entry remains, and the page is thin
 row_7_gone : page_after second (Del a ∷ []) ≡ empty
 row_7_gone = refl
 

@@ -1,4 +1,4 @@
--- Which keys a command touches, as the proofs say it.
+-- Which keys a command changes, in the form that the proofs use.
 use Rattle.std.specs.Prelude.{ℕ, Bool, false, not, ◌&&◌, ◌||◌, is_some, List, [], ◌∷◌}
 use Rattle.std.specs.Ordering.{is_eq}
 use Rattle.keys.specs.Order.{order}

@@ -1,4 +1,4 @@
--- What a page is after a run, and its class.
+-- A page after a run, and its class.
 use Rattle.std.specs.Prelude.{ℕ, ◌+◌, ◌/◌, Bool, false, ◌||◌, nat_lt, if◌then◌else◌, [], ◌∷◌, length}
 use Rattle.keys.specs.Bytes.{Changes}
 use Rattle.keys.specs.declared.settings.Settings.{Settings}
@@ -6,24 +6,24 @@ use Rattle.delta_chain.specs.Layers.{Layers, with_run, entries_of, depth_of}
 use Rattle.page_runs.specs.declared.class.Class.{Class}
 use Rattle.page_runs.specs.declared.class.Class.TheVariants.{Same, Changed, Thin, Fat}
 
--- whether the page has to be replaced: the run has more than fan entries, or the depth would pass chain
+-- whether the page must be replaced: the run has more than `fan` entries, or the page would have more than `chain` runs
 abbrev pub must_replace : {V : Type 0} → Settings → Layers V → Changes V → Bool
 must_replace s p run = nat_lt s.fan (length run) || nat_lt s.chain (depth_of p + 1)
 
--- the page replaced: a base of its entries with the run applied, and no runs
+-- the replaced page: a base of its entries with the run applied, and no runs
 abbrev pub replaced : {V : Type 0} → Layers V → Changes V → Layers V
 replaced p run = record { runs = []; base = with_run (entries_of p) run }
 
--- the run put in front
+-- the page with the run prepended
 abbrev pub in_front : {V : Type 0} → Layers V → Changes V → Layers V
 in_front p run = record { runs = run ∷ p.runs; base = p.base }
 
--- the page after a run; an empty run leaves it
+-- the page after a run; an empty run does not change it
 abbrev pub after_run : {V : Type 0} → Settings → Layers V → Changes V → Layers V
 after_run s p [] = p
 after_run s p (c ∷ cs) = if must_replace s p (c ∷ cs) then replaced p (c ∷ cs) else in_front p (c ∷ cs)
 
--- whether a run has the page replaced
+-- whether a run causes the page to be replaced
 abbrev pub is_replaced : {V : Type 0} → Settings → Layers V → Changes V → Bool
 is_replaced s p [] = false
 is_replaced s p (c ∷ cs) = must_replace s p (c ∷ cs)

@@ -1,4 +1,4 @@
--- What the commands of a leaf have changed so far, in either of the ways in which it is kept.
+-- The changes that the commands of a leaf have made so far, in either of the two representations.
 use Rattle.page_runs.specs.declared.changes.KeptChanges.{KeptChanges}
 use Rattle.page_runs.specs.declared.changes.KeptChanges.TheVariants.{Few, Many}
 use Rattle.keys.specs.Bytes.{Bytes, Changes}

@@ -1,4 +1,4 @@
--- What a leaf's job holds, and what is made of it.
+-- The input and the output of the work on a leaf.
 use Rattle.std.specs.Prelude.{List, []}
 use Rattle.std.specs.declared.alloc.Global.{Global}
 use Rattle.keys.specs.Bytes.{Bytes}
@@ -30,7 +30,7 @@ pub record LeafMade : Type 0 where
   pub worked : Worked Bytes
   pub pieces : List (Piece Global)
 
--- what may be worked: the page is a leaf, and its commands' places are places of the batch
+-- a valid input: the page is a leaf, and its commands' places are places of the batch
 pub record IsLeafHeld (batch : List (Command Global)) (h : LeafHeld) : Type 0 where
   pub leaf : IsLeaf h.page
   pub places : ArePlacesOf batch h.route.places
@@ -39,11 +39,11 @@ pub record IsLeafHeld (batch : List (Command Global)) (h : LeafHeld) : Type 0 wh
 abbrev pub placed_leaf : LeafHeld → Placed Bytes
 placed_leaf h = record { pid = h.route.pid; page = leaf_of h.page }
 
--- its replies to its commands, each with its place
+-- the leaf's replies to its commands, each with its place
 abbrev pub leaf_answers : List (Command Global) → LeafHeld → List (Piece Global)
 leaf_answers batch h = pieces_of h.route.places (replies_to (entries (leaf_of h.page)) (commands_at batch h.route.places))
 
--- what is made of a leaf: what the net run of its commands on its own entries makes of it, and the replies to them
+-- the output: the leaf after the net run of its commands on its own entries, and the replies to them
 abbrev pub leaf_made : Settings → List (Command Global) → LeafHeld → LeafMade
 leaf_made s batch h =
     record {
@@ -51,21 +51,21 @@ leaf_made s batch h =
       pieces = leaf_answers batch h;
     }
 
--- what a job holds
+-- the input in a job
 abbrev pub leaf_held_of : LeafJob → LeafHeld
 leaf_held_of j = record { page = j.page; route = j.page_run }
 
--- a leaf that was worked: what its job held, and what was made of it
+-- the work on a leaf: its input and its output
 pub record LeafWorked : Type 0 where
   pub held : LeafHeld
   pub made : LeafMade
 
--- the values of a leaf as they lie in memory; an index page counts as one that holds nothing
+-- the values of a leaf in memory; an index page counts as an empty leaf
 abbrev pub late_of : InMemory → Late Bytes
 late_of (LeafInMemory low c) = c
 late_of (IndexInMemory low p) = record { chain = record { runs = []; base = [] }; settled = 0 }
 
--- a page that was worked, from the page now and its way back
+-- the work on a leaf, from the leaf now and what undoes the run
 abbrev pub leaf_worked : InMemory → LeafWayBack → Route → List (Piece Global) → LeafWorked
 leaf_worked page way_back route pieces =
     let now = leaf_of (page_shown page) in
@@ -77,7 +77,7 @@ leaf_worked page way_back route pieces =
       };
     }
 
--- the page is a leaf, and the way back is one from it
+-- the page is a leaf, and the run on it can be undone
 abbrev pub IsWorkedLeaf : InMemory → LeafWayBack → Type 0
 IsWorkedLeaf (LeafInMemory low c) way_back = CanUndoLeaf c way_back
 IsWorkedLeaf (IndexInMemory low p) way_back = ⊥

@@ -1,4 +1,4 @@
--- The net run of a list of commands: what they come to, key by key.
+-- The net run of a list of commands: their combined effect, key by key.
 use Rattle.std.specs.Prelude.{List, [], ◌∷◌, is_some, if◌then◌else◌}
 use Rattle.keys.specs.Bytes.{Bytes, Pairs, Changes}
 use Rattle.std.specs.Map.{keys_of}
@@ -8,17 +8,17 @@ use Rattle.keys.specs.Step.{map_after, map_after_all}
 use Rattle.keys.specs.declared.command.Command.{Command}
 use Rattle.keys.specs.declared.command.Command.TheVariants.{Get, Put, Add, Del, Scan, Wipe}
 
--- a run with the key in it, at its value in this map, or absent
+-- a run with the key added, with its value in this map, or as deleted
 abbrev pub noted : {V : Type 0} → Pairs V → Changes V → Bytes → Changes V
 noted after run k = with_pair run k (value_at k after)
 
--- a run with each of these keys noted
+-- a run with each of these keys added
 abbrev pub noted_all : {V : Type 0} → Pairs V → Changes V → List Bytes → Changes V
 noted_all after run [] = run
 noted_all after run (k ∷ ks) = noted_all after (noted after run k) ks
 
--- a run with the command's keys noted, where the command touches them: a Put its key always, an Add where the map before it
--- lacks the key, a Del where the map before it has the key, a Wipe each key of its range that the map before it has
+-- a run with those keys of the command added that it changes: for a Put always its key, for an Add its key if the map before it lacks the key, for a
+-- Del its key if the map before it has the key, for a Wipe each key of its range that the map before it has
 abbrev pub noted_by : {A : Type 0} → Pairs Bytes → Pairs Bytes → Command A → Changes Bytes → Changes Bytes
 noted_by after before (Get k) run = run
 noted_by after before (Put k v) run = noted after run k
@@ -27,11 +27,11 @@ noted_by after before (Del k) run = if is_some (value_at k before) then noted af
 noted_by after before (Scan lo hi limit) run = run
 noted_by after before (Wipe lo hi) run = noted_all after run (keys_of (in_range lo hi before))
 
--- the touched keys, each with its value or absence in the map after all the commands
+-- the changed keys, each with its value or absence in the map after all the commands
 abbrev pub touched : {A : Type 0} → Pairs Bytes → Pairs Bytes → List (Command A) → Changes Bytes
 touched after before [] = []
 touched after before (c ∷ cs) = noted_by after before c (touched after (map_after before c) cs)
 
--- the net run on a map: its touched keys in rising order, each with its value or absence after all the commands
+-- the net run on a map: the changed keys in rising order, each with its value or absence after all the commands
 abbrev pub net_run : {A : Type 0} → Pairs Bytes → List (Command A) → Changes Bytes
 net_run m cs = touched (map_after_all m cs) m cs

@@ -1,4 +1,4 @@
--- Commands that only look, and what a leaf answers to them.
+-- Commands that only read, and a leaf's answers to them.
 use Rattle.std.specs.Prelude.{Bool, ⊤, List, [], Option, Some, None}
 use Rattle.std.specs.List.{list_all}
 use Rattle.std.specs.declared.alloc.Global.{Global}
@@ -13,35 +13,35 @@ use Rattle.routing.specs.Routes.{Route}
 use Rattle.page_runs.specs.LeafWork.{leaf_answers}
 use Rattle.page_runs.specs.Replies.{commands_at, ArePlacesOf}
 
--- whether the command leaves every map as it is
+-- whether the command leaves every map unchanged
 abbrev pub is_look : {A : Type 0} → Command A → Bool
 is_look c = is_looking (deed_of c)
 
--- whether a page's commands all do
+-- whether all of a page's commands do
 abbrev pub is_only_read : {A : Type 0} → List (Command A) → Route → Bool
 is_only_read batch r = list_all is_look (commands_at batch r.places)
 
--- a leaf is at home there
+-- the place has a leaf that is not checked out
 abbrev pub IsLeafAt : Option PageOfKind → Type 0
 IsLeafAt None = ⊥
 IsLeafAt (Some (Leaf p)) = ⊤
 IsLeafAt (Some (Index p)) = ⊥
 
--- what may be read: a leaf that is at home, by commands that stand at places of the batch
+-- a valid input: a leaf that is not checked out, and commands at places of the batch
 pub record IsRouteToRead (t : TreeInMemory) (batch : List (Command Global)) (r : Route) : Type 0 where
   pub home : IsLeafAt (page_of t.table r.pid)
   pub places : ArePlacesOf batch r.places
 
--- what the page at home there answers
+-- the answers of the page at that place
 abbrev pub answers_at : List (Command Global) → Option PageOfKind → Route → List (Piece Global)
 answers_at batch None r = []
 answers_at batch (Some p) r = leaf_answers batch (record { page = p; route = r })
 
--- what the leaf of a route answers
+-- the answers of the leaf of a route
 abbrev pub route_answers : TreeInMemory → List (Command Global) → Route → List (Piece Global)
 route_answers t batch r = answers_at batch (page_of t.table r.pid) r
 
--- a leaf that was read: the places of its commands, and its answers
+-- the work of reading a leaf: the places of its commands, and its answers
 pub record ReadLeaf : Type 0 where
   pub route : Route
   pub pieces : List (Piece Global)

@@ -1,4 +1,4 @@
--- The commands that a page has to work, and what it answers.
+-- The commands for a page, and its answers.
 use Rattle.std.specs.Prelude.{ℕ, ◌<◌, List, [], ◌∷◌, ◌++◌, length, slice_get, option_to_list}
 use Rattle.std.specs.List.{AllByRecursion}
 use Rattle.keys.specs.declared.command.Command.{Command}
@@ -10,7 +10,7 @@ abbrev pub commands_at : {A : Type 0} → List (Command A) → List ℕ → List
 commands_at cs [] = []
 commands_at cs (p ∷ ps) = option_to_list (slice_get cs p) ++ commands_at cs ps
 
--- each of these is a place of the batch
+-- all of these are places of the batch
 abbrev pub ArePlacesOf : {A : Type 0} → List (Command A) → List ℕ → Type 0
 ArePlacesOf cs ps = AllByRecursion (λ p. p < length cs) ps
 

@@ -1,4 +1,4 @@
--- What an index page's job holds, and what is made of it.
+-- The input and the output of the work on an index page.
 use Rattle.std.specs.Prelude.{ℕ, Option}
 use Rattle.keys.specs.Bytes.{Changes, Names}
 use Rattle.keys.specs.declared.settings.Settings.{Settings}
@@ -21,20 +21,20 @@ pub record TermHeld : Type 0 where
 abbrev pub placed_index : TermHeld → Placed ℕ
 placed_index h = record { pid = h.pid; page = index_of h.page }
 
--- what is made of an index page: what the run of its terms makes of it
+-- the output: the index page after the run of its terms
 abbrev pub index_made : Settings → TermHeld → Worked ℕ
 index_made s h = worked s (placed_index h) h.terms
 
--- what a job holds
+-- the input in a job
 abbrev pub term_held_of : TermJob → TermHeld
 term_held_of j = record { page = j.page; pid = j.pid; terms = j.terms }
 
--- an index page that was worked: what its job held, and what was made of it
+-- the work on an index page: its input and its output
 pub record IndexWorked : Type 0 where
   pub held : TermHeld
   pub made : Worked ℕ
 
--- a page that was worked, from the page now and its way back
+-- the work on a page, from the page now and what undoes the run
 abbrev pub index_worked : PageOfKind → WayBack ℕ → ℕ → IndexWorked
 index_worked page way_back pid =
     let now = index_of page in
@@ -47,7 +47,7 @@ index_worked page way_back pid =
       made = record { placed = record { pid = pid; page = now }; class = class_now way_back; replaced = is_replaced_now way_back };
     }
 
--- the page is an index page, the way back is one from it, and the list that is kept is that of the page before
+-- the page is an index page, the run on it can be undone, and the retained list of children is that of the page before
 abbrev pub IsWorkedIndex : PageOfKind → WayBack ℕ → Option Names → Type 0
 IsWorkedIndex (Leaf p) way_back list = ⊥
 IsWorkedIndex (Index p) way_back list = CanUndo p.layers way_back × IsListOf (page_before p.layers way_back) list

@@ -1,4 +1,4 @@
--- What a run makes of a page under its pid.
+-- A page under its pid after a run.
 use Rattle.std.specs.Prelude.{Bool, true, false}
 use Rattle.keys.specs.Bytes.{Changes}
 use Rattle.keys.specs.declared.settings.Settings.{Settings}

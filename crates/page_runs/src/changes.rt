@@ -1,4 +1,4 @@
-//! What the commands of a leaf have changed so far.
+//! The changes that the commands of a leaf have made so far.
 ghost use Rattle.std.specs.Prelude.{◌≡◌, [], None, IfOk, OnOk};
 ghost use Rattle.std.specs.Option.{option_copied};
 ghost use Rattle.keys.specs.Order.{IsRising};
@@ -21,18 +21,21 @@ pub(crate) type LeafRun = Run<Value<Global>, Global>;
 
 type ChangeMap = BTreeMap<Key<Global>, Option<Value<Global>>, Global>;
 
-// Up to this many changes, a key that goes between others moves at most 31 of them, some two kilobytes. That is no
-// slower than a map's search, and the first node of a map has 640 bytes, which most leaves would need for one change.
+// With up to this many changes, inserting a key moves at most 31 entries, some two kilobytes. That is no slower than a
+// search in a map, and the first node of a map takes 640 bytes, which most leaves would need for a single change.
 const FEW: usize = 32;
 
-/// The touched keys, each with its value now, or none where it is absent now. Contracts see them as a run, which lies
-/// over the page. They are kept in one of two ways: a few, and those of commands whose keys rise, in the run itself, which
-/// takes the least memory, but makes room for a key by moving all those above it; and others in a map, since a run that
-/// is built out of order takes time by the square of its length. Without changes neither takes memory.
+/// The changed keys, each with its current value, or `None` if it is now absent. Contracts see them as a run over the
+/// page.
+///
+/// There are two representations. A run takes the least memory, but inserting a key moves all entries above it, so it
+/// is used for few changes, and for commands in rising order of keys. Other commands use a map, because building a run
+/// out of order takes quadratic time. Without changes, neither allocates.
 #[derive(Drop)]
 pub(crate) struct Changes {
     kept: KeptChanges,
-    // How many commands may change a key. There are no more changes, but for those of wipes, which count as one each.
+    // How many commands may change a key. It bounds the number of changes, except that a wipe counts as one and may
+    // change many keys.
     writes: usize,
 }
 
@@ -54,7 +57,7 @@ impl Model for Changes {
 }
 
 impl Changes {
-    /// No changes, before the commands at these places; `writes` of them may change a key.
+    /// Returns no changes, for the commands at these places. `writes` of them may change a key.
     pub(crate) fn for_commands(
         alloc: Global,
         commands: &[Command<Global>],
@@ -71,7 +74,7 @@ impl Changes {
         Changes { kept, writes }
     }
 
-    /// The key's value on the page by now: that of the changes where they name it, else that of the page.
+    /// The key's current value: that of the changes if they contain the key, else that of the page.
     pub(crate) fn value_now<'a>(
         &'a self,
         page: &'a LeafChain,
@@ -80,7 +83,7 @@ impl Changes {
         requires { IsInOrder page.now }
         ensures { option_copied result ≡ value_at key.now (map_by_now page.now self.now) }
     {
-        // `len` is called only for the proof: it says that the keys rise.
+        // `len` is called only for the proof: its contract says that the keys rise.
         match &self.kept {
             KeptChanges::Few(run) => {
                 let _rising = run.len();
@@ -99,12 +102,11 @@ impl Changes {
         find_lent(page.lent_for(bytes), bytes, &mut Probes::new())
     }
 
-    /// The changes of this key and of those above it.
     pub(crate) fn from_key<'a>(&'a self, low: &'a Key<Global>) -> ChangesFrom<'a>
         ensures left { result ≡ in_range low.now None self.now }
         ensures rising { IsRising self.now }
     {
-        // `len` is called only for the proof: it says that the keys rise.
+        // `len` is called only for the proof: its contract says that the keys rise.
         match &self.kept {
             KeptChanges::Few(run) => {
                 let _rising = run.len();
@@ -117,7 +119,7 @@ impl Changes {
         }
     }
 
-    /// Sets the key's change.
+    /// Sets the change of `key`, with copies of the key and the value.
     pub(crate) fn note(
         &mut self,
         alloc: Global,
@@ -134,7 +136,6 @@ impl Changes {
         self.set(alloc, key, change)
     }
 
-    /// The same of a key and a value that it takes.
     pub(crate) fn set(
         &mut self,
         alloc: Global,
@@ -156,7 +157,6 @@ impl Changes {
         }
     }
 
-    /// The changes as a run.
     pub(crate) fn into_run(self, alloc: Global) -> Result<LeafRun, AllocError>
         ensures { IfOk result (λ run. run ≡ self) }
     {
@@ -171,8 +171,8 @@ impl Changes {
     }
 }
 
-// Gives an empty run room for this many changes. It keeps that while it stands in front of the page, so it is given no more than it can
-// need, and grows where that is much.
+// Reserves room in an empty run. The run keeps this room as long as it is in front of the page, so it gets no more than
+// it can need, and at most `FEW`.
 fn make_room(alloc: Global, run: &mut LeafRun, room: usize) -> Result<(), AllocError>
     ensures { OnOk result (run.new ≡ run.old) }
 {
@@ -192,8 +192,8 @@ fn run_of(alloc: Global, map: ChangeMap) -> Result<LeafRun, AllocError>
     Ok(run)
 }
 
-// Whether each command's key is above that of the one before, and none is a wipe, whose keys may be many and lie anywhere. It decides
-// how the changes are kept, and nothing else.
+// Whether the keys of these commands rise strictly and none is a wipe, whose keys may be many and anywhere. Affects
+// only the representation of the changes.
 fn do_rise(commands: &[Command<Global>], places: &[usize]) -> bool {
     for at in 1..places.len() {
         match (commands.get(places[at - 1]), commands.get(places[at])) {
@@ -204,7 +204,7 @@ fn do_rise(commands: &[Command<Global>], places: &[usize]) -> bool {
     true
 }
 
-// Whether the second of two commands goes on above the first.
+// Whether the key of `next` is above that of `one`, and `next` is no wipe.
 fn does_rise(one: &Command<Global>, next: &Command<Global>) -> bool {
     match next {
         Command::Wipe(_, _) => false,

@@ -9,10 +9,11 @@ use std::alloc::Global;
 use std::collections::btree_map::Range;
 use std::marker::Model;
 
-/// A change: a key, and its value now, or none where it is absent now.
+/// A changed key with its current value, or `None` if it is now absent.
 pub(crate) type Change<'a> = (&'a [u8], Option<&'a Value<Global>>);
 
-/// The changes to a leaf from a key on, in key order. Contracts see it as the list of those that are left.
+/// An iterator over the changes to a leaf from a key on, in key order. Contracts see it as the list of the remaining
+/// changes.
 #[derive(Drop)]
 pub(crate) struct ChangesFrom<'a> {
     kept: KeptFrom<'a>,
@@ -36,7 +37,6 @@ impl<'a> Model for ChangesFrom<'a> {
 }
 
 impl<'a> ChangesFrom<'a> {
-    // The changes of the run from this place on.
     pub(crate) fn of_run(run: &'a LeafRun, at: usize) -> Self
         ensures { result ≡ drop at run.now }
     {
@@ -45,7 +45,6 @@ impl<'a> ChangesFrom<'a> {
         }
     }
 
-    // The changes of this part of a map.
     pub(crate) fn of_map(range: Range<'a, Key<Global>, Option<Value<Global>>>) -> Self
         ensures { result ≡ range.entry }
     {
@@ -70,7 +69,7 @@ impl<'a> Iterator for ChangesFrom<'a> {
     }
 }
 
-// The change of the run at this place, which is the next one's afterwards.
+// The change of the run at place `at`, which advances to the next one.
 fn next_of_run<'a>(run: &'a LeafRun, at: &mut usize) -> Option<Change<'a>>
     ensures { MatchOption result ((drop at.old run.now ≡ []) × (drop at.new run.now ≡ []))
         (λ change. drop at.old run.now ≡ change_lent change ∷ drop at.new run.now) }
@@ -84,7 +83,6 @@ fn next_of_run<'a>(run: &'a LeafRun, at: &mut usize) -> Option<Change<'a>>
     }
 }
 
-// The next change of this part of a map.
 fn next_of_map<'a>(range: &mut Range<'a, Key<Global>, Option<Value<Global>>>) -> Option<Change<'a>>
     ensures { MatchOption result ((range.old ≡ []) × (range.new ≡ []))
         (λ change. range.old ≡ change_lent change ∷ range.new) }

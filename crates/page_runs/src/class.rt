@@ -1,14 +1,14 @@
-//! The classes of pages after a step.
+//! The classes of pages after a batch has been applied to them.
 
-/// What became of a page in a step, which says what its parent has to do about it.
+/// What a batch did to a page, which decides what its parent must do.
 #[derive(Clone, Copy, Debug, PartialEq, Eq)]
 pub enum Class {
-    /// There was no run for it.
+    /// The batch had no run for the page.
     Same,
-    /// It has a run in front, or was replaced by a page that is neither thin nor fat.
+    /// The page got a run in front, or was replaced by a page that is neither thin nor fat.
     Changed,
-    /// It was replaced, and has fewer than `fan / 4` entries.
+    /// The page was replaced, and has fewer than `fan / 4` entries.
     Thin,
-    /// It was replaced, and has more than `fan` entries.
+    /// The page was replaced, and has more than `fan` entries.
     Fat,
 }

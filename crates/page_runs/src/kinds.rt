@@ -1,21 +1,21 @@
-//! Counts the commands of each kind that a page has to work.
+//! Counts the commands of each kind for one page.
 use keys::Command;
 use std::alloc::Global;
 
-// Room is made for the answers of this many scans at most; a batch of more of them may be one that finds no rows on most pages.
+// Room is reserved for the answers of at most this many scans, because in a batch of more scans, most pages may answer
+// without rows.
 const FEW_SCANS: usize = 16;
 
-/// How many commands of each kind a page has to work. It decides how much room is requested at first, and nothing else.
+/// How many commands of each kind there are for a page. Decides only how much room is reserved at first.
 #[derive(Drop)]
 pub(crate) struct Kinds {
     gets: usize,
     scans: usize,
-    /// Those that may change a key.
+    /// Commands that may change a key.
     pub(crate) writes: usize,
 }
 
 impl Kinds {
-    /// Counts the commands at these places.
     pub(crate) fn of(commands: &[Command<Global>], places: &[usize]) -> Self {
         let mut kinds = Kinds {
             gets: 0,
@@ -36,7 +36,7 @@ impl Kinds {
         }
     }
 
-    /// How many answers to make room for.
+    /// How many answers to reserve room for.
     pub(crate) fn room(&self) -> usize {
         let others = self.gets.saturating_add(self.writes);
         others.saturating_add(self.scans.min(FEW_SCANS))

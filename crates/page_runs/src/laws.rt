@@ -1,4 +1,4 @@
-//! What the definitions of `specs/` mean. Each law is the contract of a function with an empty body.
+//! Laws about the definitions of `specs/`. Each law is the contract of a function with an empty body.
 ghost use Rattle.std.specs.Prelude.{◌≡◌, ℕ, Bool, true, false, if◌then◌else◌, length, List, [], flat_map, take, Option, Some, None};
 ghost use Rattle.std.specs.List.{filter, sum_by};
 ghost use Rattle.keys.specs.Bytes.{Bytes, Pairs, Changes};
@@ -20,14 +20,14 @@ ghost use Rattle.page_runs.specs.Apart.{single_key, is_on_one, IsOff, IsWithin, 
 
 use std::alloc::Allocator;
 
-/// The net run of commands takes the map before them to the map after them, and its keys rise.
+/// Applying the net run of commands to the map before them gives the map after them. The keys of the net run rise.
 pub fn the_net_run_is_what_the_commands_come_to<A: Allocator>()
     ensures map { (m : Pairs Bytes) (cs : List (Command A)) → IsRising m →
         with_run m (net_run m cs) ≡ map_after_all m cs }
     ensures rising { (m : Pairs Bytes) (cs : List (Command A)) → IsRising (net_run m cs) }
 {}
 
-/// A page's entries after a run are its entries with the run applied, whether the page was replaced or not.
+/// A page's entries after a run are its entries with the run applied, whether or not the page was replaced.
 pub fn a_page_after_a_run_has_the_run_applied<V>()
     ensures entries { (s : Settings) (p : Layers V) (run : Changes V) →
         entries_of (after_run s p run) ≡ with_run (entries_of p) run }
@@ -35,12 +35,12 @@ pub fn a_page_after_a_run_has_the_run_applied<V>()
         IsRising run → IsInOrder (after_run s p run) }
 {}
 
-/// The commands on some of the keys can be worked by themselves, on any map that agrees with the whole one on these keys; further
-/// commands may be taken along. The commands on one of these keys get the replies that they get among all commands, and where they
-/// alone are taken there are no others. All leave the same at these keys, and their net run has at these keys the changes of the
-/// net run of all commands; where no command on another key is taken, it names no other key, and so it is where the map has no
-/// other key and no command that gives one a value is taken. A command on one key is on these keys alone or wholly off them, as
-/// its key is.
+/// The commands on some of the keys can be executed alone, on any map that agrees with the whole map at these keys;
+/// other commands may be executed with them. The commands on one of these keys get the same replies as among all
+/// commands, and if only they are executed, there are no other replies. The maps afterwards agree at these keys, where
+/// the net run has the changes of the net run of all commands. The net run contains no other key if no command on
+/// another key is executed, or if the map has no other key and no executed command sets one. A command on a single key
+/// is on one of these keys if and only if its key is.
 pub fn commands_on_some_keys_are_worked_apart<A: Allocator>()
     ensures replies { (is_own : Bytes → Bool) (is_taken : Command A → Bool)
         (m x : Pairs Bytes) (cs : List (Command A)) →
@@ -73,9 +73,9 @@ pub fn commands_on_some_keys_are_worked_apart<A: Allocator>()
         is_own k ≡ false → IsOff is_own c }
 {}
 
-/// What a command leaves within a page's range is what it leaves of the page's own pairs, where it goes to the page; a command
-/// on a key gets its page's answer; a scan's rows are those of its pages, joined in their order and cut at the limit; and a wipe
-/// takes as many pairs as its pages take, together.
+/// A command that goes to a page changes the page's range as it changes the page's own pairs. A command on a single key
+/// gets its page's answer; a scan's rows are the concatenated rows of its pages, cut at the limit; and a wipe deletes
+/// as many pairs as it deletes in its pages together.
 pub fn each_page_answers_its_part<V, A: Allocator>()
     ensures map { (low : Bytes) (end : Option Bytes) (m : Pairs Bytes) (c : Command A) →
         IsRising m →

@@ -1,5 +1,6 @@
-//! What becomes of a leaf by a run, and the way back. A leaf that must be replaced counts as replaced; its base is made only where too much
-//! would lie over the old one, or where it isn't known how many entries it has.
+//! Prepends a run to a leaf, and undoes it. A leaf that must be replaced only counts as replaced: its runs are merged
+//! when too much would lie over the old base, or when the class of the leaf does not follow from the bounds on its
+//! number of entries.
 ghost use Rattle.std.specs.Prelude.{◌≡◌, ◌<◌, ◌≤◌, ℕ, [], true, length, min, IfOk, IfErr, IfSome};
 ghost use Rattle.delta_chain.specs.Late.{seen};
 ghost use Rattle.delta_chain.specs.Layers.{entries_of, with_run};
@@ -13,36 +14,38 @@ use delta_chain::{Chain, EntryBounds, LateChain};
 use keys::{Settings, Value};
 use std::alloc::Global;
 
-// The most runs that may lie over a leaf's base in memory,
+// The most runs that may lie over a leaf's base in memory.
 const PENDING_RUNS: usize = 16;
 
-// and the most changes that they may have together. Each scan of the leaf goes through them, and at last they are merged all the same.
+// The most changes that these runs may contain together. Each scan of the leaf reads them, and they must be merged
+// eventually.
 const PENDING_CHANGES: usize = 32;
 
 /// The values of a leaf.
 pub(crate) type LateValues = LateChain<Value<Global>, Global>;
 
-/// What leads from a leaf after a run back to the leaf before it.
+/// What is needed to undo a run on a leaf.
 #[derive(Drop)]
 pub(crate) enum LeafWayBack {
-    /// The run has no change, and the leaf is as it was.
+    /// The run has no change, and the leaf is unchanged.
     Same(LeafRun),
-    /// The run stands in front of the leaf.
+    /// The run was prepended to the leaf.
     InFront,
-    /// All runs count as merged now, with the new one. Of those before, `settled` did.
+    /// All runs, including the new one, now count as merged. Before, the oldest `settled` of them did.
     Settled {
         class: Class,
         settled: usize,
     },
-    /// The leaf is a new one. Before, `settled` runs counted as merged.
+    /// The leaf was rebuilt. Before, `settled` runs counted as merged.
     Replaced {
         way_back: WayBack<Value<Global>>,
         settled: usize,
     },
 }
 
-/// The leaf after the run, with the way back; or the leaf as it was, where memory is refused. A run that is longer than `fan`, or that would
-/// give the leaf more runs than `chain`, has it replaced by a base of its entries, whose number `bounds` limits.
+/// Returns the leaf after the run and what undoes it; or, if allocation fails, the unchanged leaf. If the run is longer
+/// than `fan`, or would be the leaf's run number `chain + 1`, the leaf is replaced by a base of its entries. `bounds`
+/// bounds their number.
 pub(crate) fn put_leaf_run(
     alloc: Global,
     settings: &Settings,
@@ -75,15 +78,15 @@ pub(crate) fn put_leaf_run(
     }
 }
 
-// Whether the leaf has to be replaced: the run is longer than `fan`, or it would give the leaf more runs than `chain`.
+// Whether the leaf must be replaced: the run is longer than `fan`, or would give the leaf more runs than `chain`.
 fn must_replace_leaf(settings: &Settings, page: &LateValues, run: &LeafRun) -> bool
     ensures { result ≡ must_replace settings.now (seen page.now) run.now }
 {
     run.len() > settings.fan as usize || page.depth() >= u64::from(settings.chain)
 }
 
-// A base of the leaf's entries in the place of the leaf, whose newest run was put in front just now: one that is made, or one that all runs
-// count as. A thin or fat leaf is made into others, of its pairs, so that its own base is none that anybody needs.
+// Replaces the leaf, to which a run was just prepended, by a base of its entries: a new base, or by counting all runs
+// as merged. A thin or fat leaf is merged or split next, from its pairs, so nobody would read its new base.
 fn replace_leaf(
     alloc: Global,
     settings: &Settings,
@@ -108,7 +111,7 @@ fn replace_leaf(
     }
 }
 
-// The class of a replaced page, where that follows from these bounds.
+// The class of a replaced page, if these bounds determine it.
 fn class_within(settings: &Settings, bounds: EntryBounds) -> Option<Class>
     ensures { IfSome result (λ class. (n : ℕ) → bounds.fewest ≤ n → min n usize.MAX ≤ bounds.most →
         class ≡ class_of_size settings.now n) }
@@ -126,17 +129,17 @@ fn class_within(settings: &Settings, bounds: EntryBounds) -> Option<Class>
     }
 }
 
-// Whether other pages are made of a page of this class.
+// Whether a page of this class is split or merged with others.
 fn is_called(class: Class) -> bool {
     matches!(class, Class::Thin | Class::Fat)
 }
 
-// Whether there is little over the base in memory.
+// Whether few enough runs and changes lie over the base in memory.
 fn is_little(page: &LateValues) -> bool {
     page.whole().run_count() <= PENDING_RUNS && page.whole().change_count() <= PENDING_CHANGES
 }
 
-// All runs count as merged.
+// Counts all runs as merged.
 fn settle(page: LateValues, class: Class) -> (LateValues, LeafWayBack)
     requires { page.settled < length page.chain.runs }
     ensures page { seen result.0 ≡ record { runs = []; base = entries_of page.chain } }
@@ -151,7 +154,7 @@ fn settle(page: LateValues, class: Class) -> (LateValues, LeafWayBack)
     (page, LeafWayBack::Settled { class, settled })
 }
 
-// The base is made.
+// Merges all runs into a new base.
 fn merge(
     alloc: Global,
     settings: &Settings,
@@ -177,7 +180,7 @@ fn merge(
     }
 }
 
-// The chain, whose oldest `settled` runs count as merged.
+// The chain with its oldest `settled` runs counted as merged.
 fn late(chain: Chain<Value<Global>, Global>, settled: usize) -> LateValues
     requires { settled ≤ length chain.runs }
     ensures { result ≡ record { chain = chain; settled = settled } }
@@ -187,7 +190,7 @@ fn late(chain: Chain<Value<Global>, Global>, settled: usize) -> LateValues
     page
 }
 
-// The leaf without its newest run, when `settled` of the others counted as merged.
+// The leaf without its newest run; `settled` of the other runs count as merged.
 fn taken_off(page: LateValues, settled: usize) -> LateValues
     requires { settled < length page.chain.runs }
     ensures { result ≡ record { chain = (without_newest page).chain; settled = settled } }
@@ -199,7 +202,7 @@ fn taken_off(page: LateValues, settled: usize) -> LateValues
 }
 
 impl LeafWayBack {
-    /// The leaf that the given one was made of. No memory is taken.
+    /// Returns the leaf before the run. Does not allocate.
     pub(crate) fn undo(self, alloc: Global, page: LateValues) -> LateValues
         requires { CanUndoLeaf page self }
         ensures { result ≡ leaf_before page self }
@@ -221,7 +224,6 @@ impl LeafWayBack {
         }
     }
 
-    /// The class of the leaf after the run.
     pub(crate) fn class(&self) -> Class
         ensures { result ≡ leaf_class_now self.now }
     {
@@ -233,7 +235,7 @@ impl LeafWayBack {
         }
     }
 
-    /// Whether the leaf after the run is a base alone, and not the leaf before with a run in front.
+    /// Whether the leaf was replaced, instead of getting a run in front.
     pub(crate) fn is_replaced(&self) -> bool
         ensures { result ≡ is_leaf_replaced_now self.now }
     {

@@ -1,4 +1,4 @@
-//! The work on a leaf in a batch: its commands, one after the other.
+//! Applies a batch to leaves.
 ghost use Rattle.std.specs.Prelude.{◌≡◌, []};
 ghost use Rattle.crew.specs.Turn.{IfDone, IfBack};
 ghost use Rattle.index_page.specs.InMemory.{page_shown};
@@ -17,11 +17,11 @@ use std::alloc::Global;
 use std::marker::Model;
 use std::mem;
 
-/// The work on leaves in a batch: a leaf and its run of commands go in; the leaf afterwards, its class and its
-/// answers come out.
+/// The work on leaves in a batch. The input is a leaf and the places of its commands; the output is the leaf
+/// afterwards, its class and its answers.
 #[derive(Drop)]
 pub struct LeafWork<'a> {
-    /// Where new runs, bases and answers are allocated.
+    /// Allocates new runs, bases and answers.
     pub alloc: Global,
     /// The store's settings; `fan` and `chain` are read.
     pub settings: Settings,
@@ -29,22 +29,22 @@ pub struct LeafWork<'a> {
     pub commands: &'a [Command<Global>],
 }
 
-/// A leaf, and which commands of the batch it has to work.
+/// A leaf, and the commands of the batch that are applied to it.
 #[derive(Drop)]
 pub struct LeafJob {
     pub page: Page<Global>,
-    /// The leaf's page id, and where its commands stand in the batch.
+    /// The leaf's page id, and the places of its commands in the batch.
     pub page_run: PageRun,
 }
 
-/// A leaf after its commands, with its class and its answers, and what gives the job back. It stands in a block of its own, so that lists of
-/// many are short. Contracts see it as what the job held and what was made of it.
+/// A leaf after its commands, with its class and answers, and what is needed to undo the commands. It is boxed, so that
+/// lists of many are small. Contracts see it as the input and the output of the work.
 #[derive(Drop)]
 pub struct LeafDone {
     kept: Box<KeptDone, Global>,
 }
 
-// What a `LeafDone` keeps.
+// The contents of a `LeafDone`.
 #[derive(Drop)]
 struct KeptDone {
     page: PageInMemory<Global>,
@@ -65,35 +65,35 @@ impl Model for LeafDone {
 }
 
 impl LeafDone {
-    /// The leaf's class.
+    /// Returns the leaf's class.
     pub fn class(&self) -> Class
         ensures { result ≡ self.now.made.worked.class }
     {
         self.kept.way_back.class()
     }
 
-    /// Whether the leaf was replaced: it is a base alone then, and not the leaf before with a run in front.
+    /// Returns whether the leaf was replaced by a base, instead of getting a run in front.
     pub fn is_replaced(&self) -> bool
         ensures { result ≡ self.now.made.worked.replaced }
     {
         self.kept.way_back.is_replaced()
     }
 
-    /// The leaf, as it lies in memory.
+    /// Returns the leaf's representation in memory.
     pub fn page(&self) -> &PageInMemory<Global>
         ensures { page_shown result.now ≡ Leaf self.now.made.worked.placed.page }
     {
         &self.kept.page
     }
 
-    /// The leaf's page id.
+    /// Returns the leaf's page id.
     pub fn pid(&self) -> Pid
         ensures { result ≡ self.now.made.worked.placed.pid }
     {
         self.kept.page_run.pid()
     }
 
-    /// The answers, for good: none are left here. It takes no memory, and the job can still be given back.
+    /// Takes the answers out and leaves none. The work can still be undone. Does not allocate.
     pub fn take_pieces(&mut self) -> Pieces<Global>
         ensures pieces { result ≡ self.old.made.pieces }
         ensures rest { self.new ≡ record {
@@ -104,7 +104,7 @@ impl LeafDone {
         self.kept.pieces.take()
     }
 
-    /// The leaf and the rest, for good: the job cannot be given back any more.
+    /// Splits into the leaf and the rest. The work can no longer be undone.
     pub fn into_page_and_rest(self) -> (Page<Global>, LeafRest)
         ensures { result.0 ≡ Leaf self.made.worked.placed.page }
     {
@@ -115,8 +115,8 @@ impl LeafDone {
     }
 }
 
-/// What is left of a leaf's work once the leaf is taken out of it, for good: where the leaf was replaced, the one before it; the places of
-/// its commands, and its answers if they were not taken. It is there to be dropped, which takes long.
+/// The remains of the work on a leaf after the leaf was taken out: the old leaf, if it was replaced, the places of its
+/// commands, and the answers that were not taken. It exists to be dropped, which takes long.
 #[derive(Drop)]
 pub struct LeafRest(Box<KeptDone, Global>);
 
@@ -157,8 +157,8 @@ impl<'a> Work for LeafWork<'a> {
         };
         match put_leaf_run(self.alloc, &self.settings, chain, run, bounds) {
             Ok((mut chain, way_back)) => {
-                // The replies show which entries came and went, and the chain by itself knows only how
-                // many were named.
+                // The replies show which entries were added and deleted; the chain alone knows only
+                // how many keys its runs contain.
                 chain.bound(bounds);
                 boxed(
                     self.alloc,
@@ -182,7 +182,7 @@ impl<'a> Work for LeafWork<'a> {
     }
 }
 
-// What was made of a leaf, in a block of its own; or the job as it was, where there is no memory for that.
+// Boxes the output; if allocation fails, undoes the work and returns the input.
 fn boxed(alloc: Global, done: KeptDone) -> Turn<LeafJob, LeafDone>
     requires { IsWorkedLeaf done.page done.way_back }
     ensures done { IfDone result
@@ -196,7 +196,7 @@ fn boxed(alloc: Global, done: KeptDone) -> Turn<LeafJob, LeafDone>
     }
 }
 
-// The job that this was made of.
+// Undoes the work: the input from which `done` was made.
 fn job_of(alloc: Global, done: KeptDone) -> LeafJob
     requires { IsWorkedLeaf done.page done.way_back }
     ensures { leaf_held_of result

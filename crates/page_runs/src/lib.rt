@@ -1,6 +1,6 @@
-//! What a batch does to one page: a leaf's commands are replayed against what it holds, and it is changed once, by their
-//! net run; an index page is changed once, by the run of its terms.
-//! Other crates name items by this root, and laws by the public module `laws`.
+//! Applies a batch to single pages: a leaf's commands are executed on its contents, and their net run changes the leaf
+//! once; an index page is changed once, by the run of its terms. Other crates name items by this root, and laws by the
+//! public module `laws`.
 #![tactic(auto)]
 
 mod changes;

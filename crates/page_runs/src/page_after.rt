@@ -1,4 +1,4 @@
-//! What becomes of a page by a run, and the way back: the same for pages of either kind.
+//! Prepends a run to a page, and undoes it, for pages of either kind.
 ghost use Rattle.std.specs.Prelude.{◌≡◌, ◌<◌, [], true, length, IfOk, IfErr};
 ghost use Rattle.delta_chain.specs.Layers.{entries_of};
 ghost use Rattle.page_runs.specs.AfterRun.{must_replace, in_front, after_run, class_after, class_of_size, is_replaced};
@@ -10,22 +10,23 @@ use delta_chain::{Chain, Run};
 use keys::{Cell, Settings};
 use std::alloc::Global;
 
-/// What leads from a page after a run back to the page before it.
+/// What is needed to undo a run on a page.
 #[derive(Drop)]
 pub(crate) enum WayBack<V> {
-    /// The run has no change, and the page is as it was.
+    /// The run has no change, and the page is unchanged.
     Same(Run<V, Global>),
-    /// The run stands in front of the page.
+    /// The run was prepended to the page.
     InFront,
-    /// The page is a new one. Of the page before, with the run in front, all is kept but the cells that were moved into the new one.
+    /// The page was rebuilt. Everything of the old page with the run in front is retained, except for the cells that
+    /// were moved into the new page.
     Replaced {
         class: Class,
         emptied: Chain<V, Global>,
     },
 }
 
-/// The page after the run, with the way back; or the page and the run as they were, where memory is refused. A run
-/// that is longer than `fan`, or that would make the chain longer than `chain`, has the page replaced by a base of its
+/// Returns the page after the run and what undoes it; or, if allocation fails, the unchanged page and the run. If the
+/// run is longer than `fan`, or would be the page's run number `chain + 1`, the page is replaced by a base of its
 /// entries.
 pub(crate) fn put_run<V: Cell<Global> + Drop>(
     alloc: Global,
@@ -55,15 +56,15 @@ pub(crate) fn put_run<V: Cell<Global> + Drop>(
     }
 }
 
-// Whether the page has to be replaced: the run is longer than `fan`, or it would make the chain longer than `chain`.
+// Whether the page must be replaced: the run is longer than `fan`, or would make the chain longer than `chain`.
 fn must_replace<V>(settings: &Settings, page: &Chain<V, Global>, run: &Run<V, Global>) -> bool
     ensures { result ≡ must_replace settings.now page.now run.now }
 {
     run.len() > settings.fan as usize || page.depth() >= u64::from(settings.chain)
 }
 
-/// A base of the page's entries in the place of the page, whose newest run was put in front just now. Their cells are moved, or copied
-/// where the page has many runs.
+/// Replaces the page, to which a run was just prepended, by a base of its entries. Their cells are moved, or copied if
+/// the page has many runs.
 pub(crate) fn replace<V: Cell<Global> + Drop>(
     alloc: Global,
     settings: &Settings,
@@ -89,7 +90,7 @@ pub(crate) fn replace<V: Cell<Global> + Drop>(
     }
 }
 
-// The class of a replaced page of this many entries.
+// The class of a replaced page with this many entries.
 fn class_of(settings: &Settings, entries: usize) -> Class
     ensures { result ≡ class_of_size settings.now entries }
 {
@@ -102,7 +103,6 @@ fn class_of(settings: &Settings, entries: usize) -> Class
     }
 }
 
-// The page without its newest run, and that run.
 fn popped<V: Drop>(page: Chain<V, Global>) -> (Chain<V, Global>, Run<V, Global>)
     requires { 0 < length page.runs }
     ensures { page ≡ in_front result.0 result.1 }
@@ -115,8 +115,7 @@ fn popped<V: Drop>(page: Chain<V, Global>) -> (Chain<V, Global>, Run<V, Global>)
 }
 
 impl<V: Cell<Global> + Drop> WayBack<V> {
-    /// The page and the run that the given page was made of. Cells go back to where they were, and the run in front is taken off; no
-    /// memory is taken.
+    /// Returns the page before the run, and the run: moves the cells back, and removes the run. Does not allocate.
     pub(crate) fn undo(
         self,
         alloc: Global,
@@ -142,7 +141,6 @@ impl<V: Cell<Global> + Drop> WayBack<V> {
 }
 
 impl<V> WayBack<V> {
-    /// The class of the page after the run.
     pub(crate) fn class(&self) -> Class
         ensures { result ≡ class_now self.now }
     {

@@ -1,4 +1,5 @@
-//! The rows of a scan and the keys of a wipe on one page: the page's pairs and the changes so far are gone through together, in key order.
+//! The rows of a scan and the keys of a wipe on one page, from one pass in key order over the page's pairs and the
+//! changes so far.
 ghost use Rattle.std.specs.Prelude.{◌≡◌, ◌∷◌, [], None, IfOk, MatchOption};
 ghost use Rattle.std.specs.Map.{keys_of};
 ghost use Rattle.keys.specs.Bytes as bytes;
@@ -18,8 +19,8 @@ use std::alloc::{AllocError, Global};
 use std::cmp::Ordering;
 use std::marker::Model;
 
-/// The rows of the range on the page with the changes so far: those whose keys are `low` or above, and below `end` where there
-/// is one, as many as the limit at most. It takes about as many steps as there are rows and changes in the range.
+/// The rows of the range on the page with the changes so far: those with keys at or above `low` and below `end` (if
+/// given), at most `limit`. Takes about as many steps as there are rows and changes in the range.
 #[inline(never)]
 pub(crate) fn rows_of(
     alloc: Global,
@@ -37,7 +38,6 @@ pub(crate) fn rows_of(
     rows_left(alloc, &mut named, end, limit)
 }
 
-// The rows that the keys which are left give.
 fn rows_left(
     alloc: Global,
     named: &mut NamedKeys<'_>,
@@ -62,8 +62,8 @@ fn rows_left(
     Ok(rows)
 }
 
-/// The keys of the range on the page with the changes so far: those that are `low` or above, and below `end` where there is one, each
-/// copied. It takes about as many steps as there are keys and changes in the range.
+/// Copies of the keys of the range that are present on the page with the changes so far: those at or above `low` and
+/// below `end` (if given). Takes about as many steps as there are keys and changes in the range.
 #[inline(never)]
 pub(crate) fn keys_within(
     alloc: Global,
@@ -80,7 +80,7 @@ pub(crate) fn keys_within(
     keys_left(alloc, &mut named, end)
 }
 
-// Those of the keys which are left that have a value and are below the end.
+// The remaining keys that have a value and are below the end.
 fn keys_left(
     alloc: Global,
     named: &mut NamedKeys<'_>,
@@ -104,7 +104,7 @@ fn keys_left(
     Ok(keys)
 }
 
-// Whether the key is below the end; each is where there is none.
+// Whether `key` is below `end`. Without an end, every key is.
 fn is_before_end(end: &Option<Key<Global>>, key: &[u8]) -> bool
     ensures { result ≡ is_before end.now key.now }
 {
@@ -114,12 +114,13 @@ fn is_before_end(end: &Option<Key<Global>>, key: &[u8]) -> bool
     }
 }
 
-// The keys that a page or the changes name, from a key on, in key order: each with its value now, or none where it is absent now.
+// An iterator over the keys that the page or the changes contain, from a key on, in key order: each with its current
+// value, or `None` if it is now absent.
 #[derive(Drop)]
 struct NamedKeys<'a> {
     pairs: LeafPairs<'a>,
     changes: ChangesFrom<'a>,
-    // The next pair and the next change, each taken out already.
+    // The next pair and the next change, already taken out of their iterators.
     pair: Option<(&'a [u8], &'a Value<Global>)>,
     change: Option<Change<'a>>,
 }
@@ -139,7 +140,7 @@ impl<'a> Model for NamedKeys<'a> {
 }
 
 impl<'a> NamedKeys<'a> {
-    // The keys from this one on.
+    // The keys at or above `low`.
     fn new(alloc: Global, page: &'a LeafChain, changes: &'a Changes, low: &'a Key<Global>) -> Self
         requires { IsInOrder page.now }
         ensures named { result ≡ named_by_either (from low.now (entries_of page.now))
@@ -159,7 +160,8 @@ impl<'a> NamedKeys<'a> {
         }
     }
 
-    // The next key with its value: the lesser of the next pair's and the next change's, and of two that are equal the change's.
+    // The next key with its value: the lesser one of the next pair and the next change, or the change if their keys are
+    // equal.
     fn step(&mut self) -> Option<Change<'a>>
         ensures { MatchOption result ((self.old ≡ []) × (self.new ≡ []))
             (λ item. self.old ≡ change_lent item ∷ self.new) }

@@ -1,4 +1,4 @@
-//! The work on a leaf that a batch only reads.
+//! Executes the commands of a leaf that a batch only reads.
 ghost use Rattle.std.specs.Prelude.{◌≡◌, slice_get};
 ghost use Rattle.std.specs.List.{list_all};
 ghost use Rattle.std.specs.Option.{option_to_list};
@@ -13,19 +13,19 @@ use routing::PageRun;
 use std::alloc::Global;
 use std::marker::Model;
 
-/// The work on leaves that a batch only reads: a leaf's run of commands goes in, and its answers come out. The leaf stays where it is,
-/// in the tree, which all workers look into.
+/// The work on leaves that a batch only reads. The input is the places of a leaf's commands; the output is the leaf's
+/// answers. The leaf stays in the tree, which all workers read.
 #[derive(Drop)]
 pub struct ReadWork<'a> {
-    /// Where answers are allocated.
+    /// Allocates the answers.
     pub alloc: Global,
     /// The whole batch.
     pub commands: &'a [Command<Global>],
-    /// The tree that the leaves are in.
+    /// The tree of the leaves.
     pub tree: &'a Tree<Global>,
 }
 
-/// What a leaf answered, and what gives the job back.
+/// The answers of a leaf, and what is needed to undo the work.
 #[derive(Drop)]
 pub struct LeafRead {
     page_run: PageRun,
@@ -41,7 +41,7 @@ impl Model for LeafRead {
 }
 
 impl LeafRead {
-    /// The answers, for good: the job cannot be given back any more.
+    /// Returns the answers. The work can no longer be undone.
     pub fn into_pieces(self) -> Pieces<Global>
         ensures { result ≡ self.pieces }
     {
@@ -97,14 +97,14 @@ impl<'a> Work for ReadWork<'a> {
     }
 }
 
-/// Whether the commands of this run only look, so that they leave the page as it is: gets and scans, and no wipe.
+/// Returns whether all commands of this run only read: gets and scans.
 pub fn is_only_read(commands: &[Command<Global>], page_run: &PageRun) -> bool
     ensures { result ≡ is_only_read commands.now page_run.now }
 {
     do_all_look(commands, page_run.places())
 }
 
-// Whether the commands at these places only look.
+// Whether all commands at these places only read.
 fn do_all_look(commands: &[Command<Global>], places: &[usize]) -> bool
     ensures { result ≡ list_all is_look (commands_at commands.now places.now) }
 {
@@ -116,7 +116,7 @@ fn do_all_look(commands: &[Command<Global>], places: &[usize]) -> bool
     true
 }
 
-// Whether the command at this place, if there is one, only looks.
+// Whether the command at this place, if there is one, only reads.
 fn is_look_at(commands: &[Command<Global>], place: usize) -> bool
     ensures { result ≡ list_all is_look (option_to_list (slice_get commands.now place)) }
 {

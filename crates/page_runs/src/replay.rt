@@ -1,5 +1,5 @@
-//! The commands of one page, replayed in the order of their places. What they have changed so far lies over the page
-//! like a run, and in the end it is the net run.
+//! Executes the commands of one page in the order of their places. The changes so far lie over the page like a run, and
+//! the final changes are the net run.
 ghost use Rattle.std.specs.Prelude.{◌≡◌, ◌≤◌, [], length, min, Some, None, is_some, if◌then◌else◌, IfOk, OnOk};
 ghost use Rattle.std.specs.Map.{keys_of};
 ghost use Rattle.keys.specs.OrderedMap.{value_at, with_pair};
@@ -18,9 +18,9 @@ use delta_chain::EntryBounds;
 use keys::{Command, Key, Piece, Pieces, Reply, RowList, Value};
 use std::alloc::{AllocError, Global};
 
-/// The net run of the commands at these places on the page, what the page answers to each of them, and the bounds on its number of
-/// entries after them: those before, one more for each reply of a new entry, one less for each of a deleted one, and as many less
-/// as were wiped.
+/// Returns the net run of the commands at these places, the page's answer to each of them, and the bounds on its number
+/// of entries afterwards: the old bounds, plus one for each reply that an entry was added, minus one for each deleted
+/// entry, and minus the number of wiped ones.
 pub(crate) fn replay(
     alloc: Global,
     commands: &[Command<Global>],
@@ -42,8 +42,8 @@ pub(crate) fn replay(
     Ok((changes.into_run(alloc)?, pieces, bounds))
 }
 
-// Executes the commands at these places, where there are no changes and no answers yet. Returns the bounds on the number of entries after
-// them.
+// Executes the commands at these places, with no changes and no answers at first. Returns the bounds on the number of
+// entries afterwards.
 fn execute_all(
     alloc: Global,
     commands: &[Command<Global>],
@@ -63,7 +63,7 @@ fn execute_all(
     ensures most { IfOk result
         (λ bounds. min (length (map_by_now page.now changes.new)) usize.MAX ≤ bounds.most) }
 {
-    // Only for the proof: `depth` says that the page is in order.
+    // Only for the proof: the contract of `depth` says that the page is in order.
     let _in_order = page.depth();
     let mut bounds = page.bounds();
     for place in places {
@@ -89,7 +89,7 @@ fn bounds_after(before: EntryBounds, reply: &Reply<Global>) -> EntryBounds
     }
 }
 
-// How many there are at most; the greatest `usize` is no bound.
+// The upper bound after a command. The greatest `usize` means that no bound is known.
 fn most_after(before: usize, reply: &Reply<Global>) -> usize
     ensures { result ≡ most_after usize.MAX before reply.now }
 {
@@ -99,7 +99,8 @@ fn most_after(before: usize, reply: &Reply<Global>) -> usize
     entries_after(before, reply)
 }
 
-// How many entries there are after a command, up to the greatest `usize`: its reply shows whether one came or went.
+// The number of entries after a command, capped at the greatest `usize`. The reply shows how many were added or
+// deleted.
 fn entries_after(before: usize, reply: &Reply<Global>) -> usize
     ensures { result ≡ min (entries_after before reply.now) usize.MAX }
 {
@@ -112,8 +113,8 @@ fn entries_after(before: usize, reply: &Reply<Global>) -> usize
     }
 }
 
-// The reply to the command, on the page with the changes so far, which has at most `most` entries. Where it has none, no range is
-// gone through.
+// Executes the command on the page with the changes so far, which has at most `most` entries. If it has none, no range
+// is searched.
 fn execute(
     alloc: Global,
     page: &LeafChain,
@@ -221,7 +222,6 @@ fn del(
     Ok(Reply::Deleted)
 }
 
-// The rows of a range.
 fn scan(
     alloc: Global,
     page: &LeafChain,
@@ -242,7 +242,7 @@ fn scan(
     rows_of(alloc, page, changes, low, end, limit)
 }
 
-// Takes away the keys of a range. They are listed before any is noted, so that each is looked for once.
+// Deletes the keys of a range. Lists them before it records the first deletion, so that the range is searched once.
 fn wipe(
     alloc: Global,
     page: &LeafChain,
@@ -267,7 +267,6 @@ fn wipe(
     Ok(Reply::Wiped(count))
 }
 
-// Notes that these keys are absent.
 fn note_absent(
     alloc: Global,
     changes: &mut Changes,

@@ -1,4 +1,4 @@
-//! The work on an index page in a batch: the run of its terms.
+//! Applies the runs of terms to index pages.
 ghost use Rattle.std.specs.Prelude.{◌≡◌};
 ghost use Rattle.index_page.specs.Page.PageOfKind.{Index};
 
@@ -11,11 +11,11 @@ use keys::{Pid, Settings};
 use std::alloc::Global;
 use std::marker::Model;
 
-/// The work on index pages in a batch: an index page and the run of its terms, which says what became of its children,
-/// go in; the page afterwards and its class come out.
+/// The work on index pages in a batch. The input is an index page and the run of its terms, which describes the new and
+/// the deleted children; the output is the page afterwards and its class.
 #[derive(Drop)]
 pub struct TermWork {
-    /// Where new runs and bases are allocated.
+    /// Allocates new runs and bases.
     pub alloc: Global,
     /// The store's settings; `fan` and `chain` are read.
     pub settings: Settings,
@@ -27,17 +27,17 @@ pub struct TermJob {
     pub page: Page<Global>,
     /// The page's own id.
     pub pid: Pid,
-    /// The low keys of children that come, with their page ids, and of children that go.
+    /// The low keys of new children, with their page ids, and those of deleted children.
     pub terms: Run<Pid, Global>,
 }
 
-/// An index page after its terms, with its class, and what gives the job back. Contracts see it as what the job held and
-/// what was made of it.
+/// An index page after its terms, with its class, and what is needed to undo the work. Contracts see it as the input
+/// and the output of the work.
 #[derive(Drop)]
 pub struct TermDone {
     page: Page<Global>,
     way_back: WayBack<Pid>,
-    // The children before the terms, in one list.
+    // The list of the children before the terms.
     list_before: ChildList<Global>,
     pid: Pid,
 }
@@ -53,35 +53,35 @@ impl Model for TermDone {
 }
 
 impl TermDone {
-    /// The page's class.
+    /// Returns the page's class.
     pub fn class(&self) -> Class
         ensures { result ≡ self.now.made.class }
     {
         self.way_back.class()
     }
 
-    /// Whether the page was replaced: it is a base alone then, and not the page before with a run in front.
+    /// Returns whether the page was replaced by a base, instead of getting a run in front.
     pub fn is_replaced(&self) -> bool
         ensures { result ≡ self.now.made.replaced }
     {
         self.way_back.is_replaced()
     }
 
-    /// The page.
+    /// Returns the page.
     pub fn page(&self) -> &Page<Global>
         ensures { result.now ≡ Index self.now.made.placed.page }
     {
         &self.page
     }
 
-    /// The page's own id.
+    /// Returns the page's own id.
     pub fn pid(&self) -> Pid
         ensures { result ≡ self.now.made.placed.pid }
     {
         self.pid
     }
 
-    /// The page, for good: the job cannot be given back any more.
+    /// Returns the page. The work can no longer be undone.
     pub fn into_page(self) -> Page<Global>
         ensures { result ≡ Index self.made.placed.page }
     {

@@ -59,7 +59,7 @@ past-on UpTo k j i p q = up_to_by (order k i) k j i refl p q
 past-on Below k j i p q = rw (total.trans i j k (less_by (order i j) q) (less_by (order j k) p)) refl
 past-on Above k j i p q = rw (total.trans k j i (less_by (order k j) p) (less_by (order j i) q)) refl
 
--- and so does what is less near
+-- and so is a key that is less near
 less_near : (s : Side) (j i : List ℕ) → nearness s j i ≡ Greater → is_on (past s) j i ≡ true
 less_near UpTo j i h = rw (flipped_greater j i h) refl
 less_near Below j i h = rw (flipped_greater j i h) refl
@@ -77,7 +77,7 @@ on_above UpTo k i h = rw h refl
 on_above Below k i h = rw (flipped_less k i h) refl
 on_above Above k i h = rw h refl
 
--- where the key isn't there, it is the place where it would go
+-- if the key isn't there, it is the place where it would go
 pub parts-goes_to : (s : Side) (k : List ℕ) (ks : List (List ℕ)) (at : ℕ) → KeyGoesTo k ks at → Parts s k ks at
 parts-goes_to s k ks at g = record {
   within = g.within;
@@ -95,7 +95,7 @@ itself_below : (k : List ℕ) → is_on Below k k ≡ false
 itself_below k = rw (order_itself k) refl
 
 module _ (s : Side) (k : List ℕ) (ks : List (List ℕ)) (at : ℕ) (r : AreRisingKeys ks) (h : slice_get ks at ≡ Some k) where
-  -- after the place where the key is, where it is with those before it
+  -- after the place where the key is, if it is with those before it
   following : is_on s k k ≡ are_first s → Parts s k ks (at + 1)
   following e =
       let within = slice_get_within ks at k h in
@@ -123,7 +123,7 @@ module _ (s : Side) (k : List ℕ) (ks : List (List ℕ)) (at : ℕ) (r : AreRis
 
 -- ---- the place of the nearest key of a list
 
--- of rising keys, a higher one stands further on
+-- among rising keys, a greater key has a greater place
 stands_after : (ks : List (List ℕ)) (at m : ℕ) (j i : List ℕ) → AreRisingKeys ks → slice_get ks at ≡ Some j → slice_get ks m ≡ Some i → order j i ≡ Less → at < m
 stands_after ks at m j i r p q h =
     elim (cases_lt at m) [
@@ -170,7 +170,7 @@ last_place UpTo k ks at o h r e p = last_by UpTo k ks at o r refl (λ j i. refl)
 last_place Below k ks at o h r e p = last_by Below k ks at o r refl (λ j i. refl) e p
 last_place Above k ks at o h r e p = absurd (elim h [ inl u ↦ (cc) | inr b ↦ (cc) ])
 
--- ---- what a list says of the nearest key that it names
+-- ---- a list's item at the nearest key that it contains
 
 module _ {V : Type 0} where
   unnamed_by : (o : Option V) (b : Bool) (i : List ℕ) (es : List (List ℕ × V)) → value_at i es ≡ o → b ≡ true → ((m : ℕ) → slice_get (keys_of es) m ≡ Some i → b ≡ false) → o ≡ None
@@ -188,7 +188,7 @@ module _ {V : Type 0} where
   unnamed_nearer : (s : Side) (k j : List ℕ) (es : List (List ℕ × V)) (at : ℕ) → IsNearestPlace s k (keys_of es) at → slice_get (keys_of es) at ≡ Some j → (i : List ℕ) → is_on s k i ≡ true → nearness s j i ≡ Less → value_at i es ≡ None
   unnamed_nearer s k j es at n p = λ i o l. unnamed_by (value_at i es) (is_on s k i) i es refl o (λ m t. n.none_nearer m i j p t l)
 
--- ---- what a page says of the nearest key that it names
+-- ---- a page's item at the nearest key that it contains
 
 module _ {V : Type 0} (s : Side) (k : List ℕ) (base : List (List ℕ × V)) where
   pub base-none : HasNoneOn s k (keys_of base) → IsNearest s k (λ i. named_under i [] base) None
@@ -200,7 +200,7 @@ module _ {V : Type 0} (s : Side) (k : List ℕ) (base : List (List ℕ × V)) wh
       record { on = n.on j p; has = rw (value_at-there j v base at r p q) refl; none_nearer = λ i o l. rw (unnamed_nearer s k j base at n p i o l) refl }
 
 module _ {V : Type 0} (s : Side) (k : List ℕ) (run : List (List ℕ × Option V)) (runs : List (List (List ℕ × Option V))) (base : List (List ℕ × V)) where
-  -- where the run names no key on this side, the nearest one is that of the page under it
+  -- if the run contains no key on this side, the nearest one is that of the page below it
   pub run-none : (x : Option (List ℕ × Option V)) → HasNoneOn s k (keys_of run) → IsNearest s k (λ i. named_under i runs base) x → IsNearest s k (λ i. named_under i (run ∷ runs) base) x
   run-none None n u = λ i o. rw (unnamed s k i run n o) (u i o)
   run-none (Some e) n u = record {
@@ -210,7 +210,7 @@ module _ {V : Type 0} (s : Side) (k : List ℕ) (run : List (List ℕ × Option 
   }
 
   module _ (a : List ℕ) (at : ℕ) (n : IsNearestPlace s k (keys_of run) at) (p : slice_get (keys_of run) at ≡ Some a) where
-    -- where the page under it names a nearer one, that is it
+    -- if the page below it contains a nearer one, that is the nearest one
     pub run-under : (e : List ℕ × Option V) → IsNearest s k (λ i. named_under i runs base) (Some e) → true ≡ is_lt (nearness s a e.0) → IsNearest s k (λ i. named_under i (run ∷ runs) base) (Some e)
     run-under e u h =
         let nearer : nearness s a e.0 ≡ Less = less_by (nearness s a e.0) (sym h) in
@@ -251,7 +251,7 @@ module _ {V : Type 0} where
   run_by None n h e = e
   run_by (Some c) n h e = refl
 
-  -- a page holds what the newest list that names the key says of it
+  -- a page holds the item of the newest list that contains the key
   pub held-named : (i : List ℕ) (runs : List (List (List ℕ × Option V))) (base : List (List ℕ × V)) → held_under i runs base ≡ change_or (named_under i runs base) None
   held-named i [] base = base_by (value_at i base)
   held-named i (run ∷ runs) base = run_by (value_at i run) (named_under i runs base) (held_under i runs base) (held-named i runs base)
@@ -263,11 +263,11 @@ module _ {V : Type 0} (s : Side) (k : List ℕ) (p : Layers V) where
   holds-by : (i : List ℕ) (o : Option (Option V)) → names i ≡ o → holds p i ≡ change_or o None
   holds-by i o h = held-named i p.runs p.base ∙ ap (λ (t : Option (Option V)). change_or t None) h
 
-  -- where the page names no key, it holds none
+  -- if the page contains no key, it holds none
   pub none-held : IsNearest s k names None → IsNearest s k (holds p) None
   none-held n = λ i o. holds-by i None (n i o)
 
-  -- where it holds the nearest key that it names, that is it
+  -- if it holds the nearest key that it contains, that is the nearest one
   pub nearest-held : (j : List ℕ) (v : V) → IsNearest s k names (Some (j, Some v)) → IsNearest s k (holds p) (Some (j, v))
   nearest-held j v n = record { on = n.on; has = holds-by j (Some (Some v)) n.has; none_nearer = λ i o l. holds-by i None (n.none_nearer i o l) }
 
@@ -287,7 +287,7 @@ module _ {V : Type 0} (s : Side) (k : List ℕ) (p : Layers V) where
       none_nearer = λ i o l. past_by (nearness s j i) i refl o (λ b. f.none_nearer i b (sym (nearness-past s e.0 i) ∙ l));
     }
 
-  -- the page's entries have what the page holds
+  -- the page's entries are what the page holds
   pub nearest-entries : (x : Option (List ℕ × V)) → IsInOrder p → IsNearest s k (holds p) x → IsNearest s k (λ i. value_at i (entries_of p)) x
   nearest-entries None r n = λ i o. value_at-entries_of p i r ∙ n i o
   nearest-entries (Some e) r n = record { on = n.on; has = value_at-entries_of p e.0 r ∙ n.has; none_nearer = λ i o l. value_at-entries_of p i r ∙ n.none_nearer i o l }

@@ -83,12 +83,12 @@ below_before_count Less k ks at j e r p l = refl
 below_before_count Equal k ks at j e r p l = absurd (let past = count_below-upto k ks at j r p (rw e refl) in omega arith)
 below_before_count Greater k ks at j e r p l = absurd (let past = count_below-upto k ks at j r p (rw e refl) in omega arith)
 
--- just the keys that are below k stand before the count
+-- exactly the keys below k have places below the count
 pub below_iff_before_count : (k : List ℕ) (ks : List (List ℕ)) (at : ℕ) (j : List ℕ) → AreRisingKeys ks → slice_get ks at ≡ Some j → ((order j k ≡ Less) ↔ (at < count_below k ks))
 below_iff_before_count k ks at j r p = (count_below-after k ks at j r p, below_before_count (order j k) k ks at j refl r p)
 
 module _ (k : List ℕ) (ks : List (List ℕ)) where
-  -- where all keys before a place are below k, the count reaches the place
+  -- if all keys before a place are below k, the count reaches the place
   count_below-reaches : (at : ℕ) → AreRisingKeys ks → at ≤ length ks → AreBelowBefore k ks at → at ≤ count_below k ks
   count_below-reaches zero r w b = omega arith
   count_below-reaches (suc m) r w b =
@@ -96,7 +96,7 @@ module _ (k : List ℕ) (ks : List (List ℕ)) where
       let last : slice_get ks m ≡ Some j = slice_get-get_or ks m [] (omega arith) in
       omega (arith, count_below-after k ks m j r last (b m j (omega arith) last))
 
-  -- where all keys from a place on are above k, the count ends there
+  -- if all keys from a place on are above k, the count ends there
   count_below-ends : (at : ℕ) → AreRisingKeys ks → AreAboveFrom k ks at → (at < length ks) ⊎ (length ks ≤ at) → count_below k ks ≤ at
   count_below-ends at r a (inl l) =
       let j : List ℕ = slice_index_or ks at [] in
@@ -105,7 +105,7 @@ module _ (k : List ℕ) (ks : List (List ℕ)) where
       count_below-upto k ks at j r here (rw (flipped_less k j above) refl)
   count_below-ends at r a (inr l) = omega (arith, count_below-le-length k ks)
 
-  -- where a key is, that is how many keys are below it
+  -- the place of a key is the number of keys below it
   pub count_below-there : (at : ℕ) → AreRisingKeys ks → slice_get ks at ≡ Some k → count_below k ks ≡ at
   count_below-there at r p =
       let within = slice_get_within ks at k p in
@@ -113,7 +113,7 @@ module _ (k : List ℕ) (ks : List (List ℕ)) where
       let no_fewer = count_below-reaches at r (omega arith) (λ m j l q. rising-by_place ks m at j k r q p l) in
       omega arith
 
-  -- where a key would go, that is how many keys are below it
+  -- the place where a key would be inserted is the number of keys below it
   pub count_below-goes_to : (at : ℕ) → AreRisingKeys ks → KeyGoesTo k ks at → count_below k ks ≡ at
   count_below-goes_to at r g =
       let no_fewer = count_below-reaches at r g.within g.below in
@@ -143,7 +143,7 @@ module _ {V : Type 0} where
       ap (λ (j : List ℕ). Some (j, e.1)) key ∙ ap (λ (w : V). Some (k, w)) value
   pair_at (e ∷ es) (suc at) k v p q = pair_at es at k v p q
 
-  -- where a key is, the value there is what the entries have at it
+  -- the value at the place of a key is what the entries have at the key
   pub value_at-there : (k : List ℕ) (v : V) (es : List (List ℕ × V)) (at : ℕ) → IsRising es → slice_get (keys_of es) at ≡ Some k → slice_get (values_of es) at ≡ Some v → value_at k es ≡ Some v
   value_at-there k v es at r p q =
       lookup_from_place alike es at k v (IsDistinct-from_sorted order (keys_of es) r) (pair_at es at k v p q)
@@ -156,14 +156,14 @@ module _ {V : Type 0} where
   pub key_at : (es : List (List ℕ × V)) (at : ℕ) (e : List ℕ × V) → slice_get es at ≡ Some e → slice_get (keys_of es) at ≡ Some e.0
   key_at es at e p = rw (slice_get-map, p) refl
 
-  -- where a key stands there is an entry
+  -- if there is a key at a place, there is an entry
   pub within-place : (k : List ℕ) (es : List (List ℕ × V)) (at : ℕ) → slice_get (keys_of es) at ≡ Some k → at < length es
   within-place k es at h =
       let within = slice_get_within (keys_of es) at k h in
       let long = length-map es (λ (e : List ℕ × V). e.0) in
       omega (arith, within, long)
 
-  -- where a key would go, the entries have nothing at it
+  -- the entries have nothing at a key that would be inserted at a place
   pub value_at-goes_to : (k : List ℕ) (es : List (List ℕ × V)) (at : ℕ) → IsRising es → KeyGoesTo k (keys_of es) at → value_at k es ≡ None
   value_at-goes_to k es at r g =
       lookup_at_gap total k es at r

@@ -1,4 +1,4 @@
--- What one walk over all runs and the base has cost, and what several have.
+-- The cost of one pass over all runs and the base, and that of several passes.
 use Rattle.std.specs.Prelude.{◌≡◌, ℕ, suc, ◌+◌, ◌*◌, ◌≤◌, ◌&&◌, Bool, true, false, cond, List, [], ◌∷◌, length, slice_get, Option, Some, None, is_some, min}
 use Rattle.std.proofs.Common.{refl, sym, ap, ◌∙◌, arith, Ordering, Less, Equal, Greater, inl, inr}
 use Rattle.std.specs.Option.{option_map, option_or, is_none}
@@ -43,7 +43,7 @@ is_key_among-goes_to k ks at g = none_among k ks (λ m j p.
       | inr l ↦ rw (g.above m j l p) refl
     ])
 
--- what a search costs at least where it meets the key, and where it doesn't
+-- the least cost of a search, if it finds the key, and if it doesn't
 pub least_there : (k : List ℕ) (ks : List (List ℕ)) (at before after stop : ℕ) → slice_get ks at ≡ Some k → min (before + fewest_among true (length ks)) stop ≤ after → min (before + fewest_among (is_key_among k ks) (length ks)) stop ≤ after
 least_there k ks at before after stop p h = rw (is_key_among-there k ks at p) h
 
@@ -60,7 +60,7 @@ module _ {V : Type 0} (k : List ℕ) where
   pub least_of_base : (base : List (List ℕ × V)) (before after stop : ℕ) → min (before + fewest_among (is_key_among k (keys_of base)) (length (keys_of base))) stop ≤ after → min (before + walk_least k (record { runs = []; base = base })) stop ≤ after
   least_of_base base before after stop h = omega (arith, among k base)
 
-  -- a search in a run too, after a walk over what is below it
+  -- a search in a run too, after a pass over the lists below it
   pub least_with_run : (run : List (List ℕ × Option V)) (runs : List (List (List ℕ × Option V))) (base : List (List ℕ × V)) (before between after stop : ℕ) → min (before + walk_least k (record { runs = runs; base = base })) stop ≤ between → min (between + fewest_among (is_key_among k (keys_of run)) (length (keys_of run))) stop ≤ after → min (before + walk_least k (record { runs = run ∷ runs; base = base })) stop ≤ after
   least_with_run run runs base before between after stop p q = omega (arith, among k run, sum_by-cons (λ es. fewest_in k es) run runs)
 
@@ -72,7 +72,7 @@ module _ {V : Type 0} where
   pub most_with_run : (run : List (List ℕ × Option V)) (runs : List (List (List ℕ × Option V))) (base : List (List ℕ × V)) (before between searched after : ℕ) → between ≤ before + walk_most (record { runs = runs; base = base }) → searched ≤ between + binary_digits (length (keys_of run)) → after ≤ searched + 1 → after ≤ before + walk_most (record { runs = run ∷ runs; base = base })
   most_with_run run runs base before between searched after p q r = omega (arith, ap binary_digits (length-keys_of run), sum_by-cons (λ es. binary_digits (length es) + 1) run runs)
 
--- ---- what the runs say together is what the page says, but for what the base alone names
+-- ---- the merged changes of the runs determine the page, except for keys that only the base contains
 
 module _ {V : Type 0} where
   asserted_by : (b : Bool) (o : Option V) (here : Option (Option (Option V))) (rest : Option (Option V)) → here ≡ option_map Some rest → cond b (Some (Some o)) here ≡ option_map Some (cond b (Some o) rest)
@@ -161,7 +161,7 @@ end_by : (before between after more all walk : ℕ) → between + more * walk �
 end_by before between after more all walk p q = omega arith
 
 module _ {V : Type 0} (first s : Side) (key k : List ℕ) (p : Layers V) (before between after : ℕ) (w : after ≤ between + walk_most p) where
-  -- a walk that comes to an absent key takes what the whole search may take for it
+  -- a pass that finds a deleted key costs at most what the whole search may cost for that key
   pub most_past : (j : List ℕ) (x : Option (List ℕ × V)) → IsInOrder p → IsNearest s k (named_by p) (Some (j, None)) → IsNearest (past s) j (holds p) x
       → between + count_passed s k x (joined_changes p.runs) * walk_most p ≤ before + count_passed first key x (joined_changes p.runs) * walk_most p
       → after + count_passed (past s) j x (joined_changes p.runs) * walk_most p ≤ before + count_passed first key x (joined_changes p.runs) * walk_most p
@@ -210,7 +210,7 @@ module _ {V : Type 0} (k : List ℕ) (p : Layers V) where
   pub most_at_key : (before after : ℕ) → ((e : List ℕ × V) → IsNearest UpTo k (named_by p) (Some (e.0, Some e.1)) → after ≤ before) → is_some (holds p k) ≡ true → after ≤ before
   most_at_key before after f t = held_by (holds p k) before after refl t f
 
-  -- ---- by what is found
+  -- ---- by the result
 
   pub floor_by : (x : Option (List ℕ × V)) (before after : ℕ) → x ≡ floor k (entries_of p) → after ≤ before + nearest_most UpTo k x p → after ≤ before + floor_most k p
   floor_by x before after e h = rw (← e) h

@@ -1,12 +1,12 @@
--- The length of a number in base 2, which bounds the comparisons of a search by halves.
+-- The length of a number in base 2, which bounds the comparisons of a binary search.
 use Rattle.std.specs.Prelude.{ℕ, zero, suc, ◌/◌}
 
--- how many halvings, of at most this many, take the number to 0
+-- how many halvings reduce the number to 0, counting at most the given number of them
 abbrev pub halvings : ℕ → ℕ → ℕ
 halvings zero n = 0
 halvings (suc most) zero = 0
 halvings (suc most) (suc n) = suc (halvings most (suc n / 2))
 
--- how many digits the number has in base 2, and none for 0: n halvings are more than enough
+-- the number of binary digits, which is zero for 0; n halvings are always enough
 unfoldable pub binary_digits : ℕ → ℕ
 binary_digits n = halvings n n

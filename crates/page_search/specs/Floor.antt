@@ -5,7 +5,7 @@ use Rattle.std.specs.Ordering.{is_lt}
 use Rattle.keys.specs.Bytes.{Bytes, Pairs}
 use Rattle.keys.specs.Order.{order}
 
--- the last of the pairs whose key isn't above k: of pairs whose keys rise, the one with the greatest such key
+-- the last of the pairs whose key isn't above k; if the keys rise, the pair with the greatest such key
 abbrev pub floor : {V : Type 0} → Bytes → Pairs V → Option (Bytes × V)
 floor k [] = None
 floor k (e ∷ es) = option_or (floor k es) (if is_lt (order k e.0) then None else Some e)

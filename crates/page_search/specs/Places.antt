@@ -1,4 +1,4 @@
--- Where a key stands among keys.
+-- The place of a key among keys.
 use Rattle.std.specs.Prelude.{◌≡◌, ℕ, ◌<◌, ◌≤◌, List, length, slice_get, Some, count_by}
 use Rattle.std.specs.Ordering.{is_lt}
 use Rattle.std.specs.declared.cmp.Ordering.TheVariants.{Less}
@@ -9,15 +9,15 @@ use Rattle.keys.specs.Order.{order}
 abbrev pub count_below : Bytes → List Bytes → ℕ
 count_below k ks = count_by (λ j. is_lt (order j k)) ks
 
--- each key that stands before this place is below the key
+-- each key before this place is below the key
 abbrev pub AreBelowBefore : Bytes → List Bytes → ℕ → Type 0
 AreBelowBefore k ks at = (m : ℕ) (j : Bytes) → m < at → slice_get ks m ≡ Some j → order j k ≡ Less
 
--- each key that stands at this place or after it is above the key
+-- each key from this place on is above the key
 abbrev pub AreAboveFrom : Bytes → List Bytes → ℕ → Type 0
 AreAboveFrom k ks at = (m : ℕ) (j : Bytes) → at ≤ m → slice_get ks m ≡ Some j → order k j ≡ Less
 
--- the key is not there, and this is the place where it would go
+-- the key is not in the list, and would be inserted at this place
 pub record KeyGoesTo (k : Bytes) (ks : List Bytes) (at : ℕ) : Type 0 where
   pub within : at ≤ length ks
   pub below : AreBelowBefore k ks at

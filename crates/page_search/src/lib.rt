@@ -1,5 +1,5 @@
-//! Search in what a page is made of, by halves, with a count of the comparisons that it takes.
-//! Other crates name items by this root, and laws by the public module `laws`.
+//! Binary search in the parts of a page, with a count of the comparisons. Other crates name items by this root, and
+//! laws by the public module `laws`.
 #![tactic(auto)]
 
 pub mod laws;

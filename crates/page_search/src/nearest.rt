@@ -1,4 +1,4 @@
-//! Search for the entry that is nearest to a key on one side of it.
+//! Search for the nearest entry on one side of a key.
 ghost use Rattle.std.specs.Prelude.{◌≡◌, ◌+◌, ◌≤◌, true, length, min, is_some, Some, MatchOption};
 ghost use Rattle.std.specs.Option.{option_copied, option_map};
 ghost use Rattle.keys.specs.Bytes.{Bytes};
@@ -18,10 +18,12 @@ use delta_chain::{Chain, ChainRef, KeyList};
 use keys::KeyRef;
 use std::alloc::Allocator;
 
-/// The page's last entry whose key isn't above this one, if there is one: its key and its cell. One walk over all runs and
-/// the base finds the nearest key that the page names, by halves in each; only where that key is absent does another walk
-/// look below it. It takes no memory. The count rises by at least what one walk takes at least, and by at most one walk and
-/// another for each absent key that is passed: so by one walk where the nearest key named is there, such as the key itself.
+/// Returns the page's last entry whose key is not above `key`, with its cell, if there is one. One pass with a binary
+/// search in each run and in the base finds the nearest key that they contain; if that key is deleted, another pass
+/// continues below it. Does not allocate.
+///
+/// Increases `probes` by at least the minimum of one pass, and at most by one pass and one more for each deleted key
+/// that is passed. So it takes a single pass if the nearest key contained is present, for example `key` itself.
 pub fn floor<'a, V, A: Allocator + Copy>(
     chain: &'a Chain<V, A>,
     key: &[u8],
@@ -42,8 +44,9 @@ pub fn floor<'a, V, A: Allocator + Copy>(
     nearest(&chain.lent(), key, Side::UpTo, probes)
 }
 
-/// The page's first entry whose key is above this one, if there is one: its key and its cell. As `floor` does, it takes one
-/// walk for each named key that it comes upon, here upwards, and no memory. The count rises as that of `floor` does.
+/// Returns the page's first entry whose key is above `key`, with its cell, if there is one. Like `floor` it takes one
+/// pass for each contained key that it meets, here upwards. Does not allocate, and increases `probes` within the bounds
+/// of `floor`.
 pub fn above<'a, V, A: Allocator + Copy>(
     chain: &'a Chain<V, A>,
     key: &[u8],
@@ -62,8 +65,8 @@ pub fn above<'a, V, A: Allocator + Copy>(
     nearest(&chain.lent(), key, Side::Above, probes)
 }
 
-// The entry that is nearest to the key on this side of it: that of the nearest key that the page names, and where that is
-// absent, of the nearest one past it, and so on.
+// The nearest entry on this side of `key`: that of the nearest key contained in the page, or if that key is deleted, of
+// the next nearest one, and so on.
 fn nearest<'a, V, A: Allocator + Copy>(
     lists: &ChainRef<'a, V, A>,
     key: &[u8],
@@ -93,8 +96,8 @@ fn nearest<'a, V, A: Allocator + Copy>(
     }
 }
 
-// The nearest key on this side that the runs or the base name, and what the newest list that names it has there: a cell, or
-// an absence.
+// The nearest key on this side that the runs or the base contain, and its item in the newest list that contains it: a
+// cell, or a deletion.
 fn nearest_named<'a, V, A: Allocator + Copy>(
     lists: &ChainRef<'a, V, A>,
     key: &[u8],
@@ -143,8 +146,8 @@ fn nearest_place<L: KeyList>(list: &L, key: &[u8], side: Side, probes: &mut Prob
     }
 }
 
-// The place that parts the keys on this side from the others: the first key that is above the one looked for, or for
-// `Below` isn't below it.
+// The place that separates the keys on this side from the others: the first key above `key`, or for `Below`, the first
+// key not below it.
 fn parting<L: KeyList>(list: &L, key: &[u8], side: Side, probes: &mut Probes) -> usize
     ensures place { Parts side key.now (L.keys list.now) result }
     ensures cost { probes.new ≤ probes.old + binary_digits (length (L.keys list.now)) }
@@ -153,7 +156,7 @@ fn parting<L: KeyList>(list: &L, key: &[u8], side: Side, probes: &mut Probes) ->
         ≤ probes.new }
     ensures kept { probes.old ≤ probes.new }
 {
-    // The length is looked up for what it bounds: a place among the keys is below it.
+    // The length is read for its bound: a place among the keys is below it.
     let _count = list.len();
     match place(list, key, probes) {
         Ok(at) => match side {

@@ -6,8 +6,8 @@ use keys::KeyRef;
 use std::cmp::Ordering;
 use std::marker::Model;
 
-/// How often keys were compared. Every comparison of a search goes through it, so the count is what the search
-/// cost. It stops at the greatest `u64`. Contracts see it as a number.
+/// The number of comparisons of keys. Every comparison of a search goes through it, so the count is the cost of the
+/// search. It saturates at the greatest `u64`. Contracts see it as a number.
 #[derive(Drop)]
 pub struct Probes {
     compared: u64,
@@ -22,21 +22,21 @@ impl Model for Probes {
 }
 
 impl Probes {
-    /// No comparison yet.
+    /// Returns a counter at zero.
     pub fn new() -> Self
         ensures { result ≡ 0 }
     {
         Probes { compared: 0 }
     }
 
-    /// How many comparisons there were.
+    /// Returns the number of comparisons.
     pub fn count(&self) -> u64
         ensures { result ≡ self.now }
     {
         self.compared
     }
 
-    /// How the first key compares to the second. It is one comparison more.
+    /// Compares two keys and counts the comparison.
     pub fn compare(&mut self, one: &KeyRef<'_>, other: &KeyRef<'_>) -> Ordering
         ensures order { result ≡ order one.now other.now }
         ensures counted { self.new ≡ min (self.old + 1) u64.MAX }

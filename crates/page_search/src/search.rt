@@ -1,4 +1,4 @@
-//! Searches pages and lists of keys by halves.
+//! Binary search in pages and in lists of keys.
 ghost use Rattle.std.specs.Prelude.{◌≡◌, ◌+◌, ◌≤◌, min, length, slice_get, is_some, Some, MatchResult};
 ghost use Rattle.std.specs.Map.{keys_of};
 ghost use Rattle.std.specs.Option.{option_copied};
@@ -16,7 +16,7 @@ use keys::KeyRef;
 use std::alloc::Allocator;
 use std::cmp::Ordering;
 
-/// How many keys of the base are below the key: the place where the key is, or else where it would go.
+/// Returns how many keys of the base are below `key`: the place of the key, or the place where it would be inserted.
 pub fn lower<V, A: Allocator + Copy>(base: &Base<V, A>, key: &[u8], probes: &mut Probes) -> usize
     ensures place { result ≡ count_below key.now (keys_of base.now) }
     ensures cost { probes.new ≤ probes.old + binary_digits (length base.now) }
@@ -31,8 +31,8 @@ pub fn lower<V, A: Allocator + Copy>(base: &Base<V, A>, key: &[u8], probes: &mut
     }
 }
 
-/// The cell that the page holds at the key, if it holds one: the change of the newest run that names the key,
-/// else the base's entry. The search stops at that run. It takes no memory.
+/// Returns the cell that the page holds at `key`, if it holds one: that of the newest run that contains the key, else
+/// that of the base. Stops at the first run that contains the key. Does not allocate.
 pub fn find<'a, V, A: Allocator + Copy>(
     chain: &'a Chain<V, A>,
     key: &[u8],
@@ -46,7 +46,7 @@ pub fn find<'a, V, A: Allocator + Copy>(
     find_lent(chain.lent(), key, probes)
 }
 
-/// `find` in a borrowed part of a page: from one of its runs down.
+/// Like `find`, in a borrowed part of a page: its base and the runs from some run down.
 pub fn find_lent<'a, V, A: Allocator + Copy>(
     chain: ChainRef<'a, V, A>,
     key: &[u8],
@@ -67,7 +67,7 @@ pub fn find_lent<'a, V, A: Allocator + Copy>(
     find_in_base(rest.base(), key, probes)
 }
 
-// The cell that the base has at the key, if the key is there.
+// The cell that the base has at `key`, if it has one.
 fn find_in_base<'a, V, A: Allocator + Copy>(
     base: &'a Base<V, A>,
     key: &[u8],
@@ -86,8 +86,9 @@ fn find_in_base<'a, V, A: Allocator + Copy>(
     }
 }
 
-/// `Ok` is the place where the key is, `Err` the place where it would go. Each comparison at least halves what is
-/// left, and one that meets the key ends the search, so no further test for equality is needed.
+/// Returns `Ok` with the place of `key`, or `Err` with the place where it would be inserted. Each comparison at least
+/// halves the remaining range, and a comparison that finds the key ends the search, so no final test for equality is
+/// needed.
 pub fn place<L: KeyList>(list: &L, key: &[u8], probes: &mut Probes) -> Result<usize, usize>
     ensures place { MatchResult result
         (λ at. slice_get (L.keys list.now) at ≡ Some key.now)

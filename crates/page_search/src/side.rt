@@ -6,7 +6,7 @@ ghost use Rattle.page_search.specs.Nearest.{nearness, past};
 use crate::probes::Probes;
 use keys::KeyRef;
 
-// On which side of a key one looks for the nearest one. `UpTo` takes in the key itself.
+// The side of a key on which the nearest key is searched. `UpTo` includes the key itself.
 #[derive(Clone, Copy)]
 pub(crate) enum Side {
     UpTo,
@@ -15,7 +15,7 @@ pub(crate) enum Side {
 }
 
 impl Side {
-    // The side on which the search goes on from a key that it has found on this side.
+    // The side on which the search continues from a key that it has found on this side.
     pub(crate) fn past(self) -> Side
         ensures { result ≡ past self }
     {
@@ -25,7 +25,7 @@ impl Side {
         }
     }
 
-    // Whether the first of two keys on this side of a third is the nearer one.
+    // Whether `one` is nearer than `other`, where both are on this side of a third key.
     pub(crate) fn is_nearer(self, one: &KeyRef<'_>, other: &KeyRef<'_>, probes: &mut Probes) -> bool
         ensures nearer { result ≡ is_lt (nearness self other.now one.now) }
         ensures cost { probes.new ≤ probes.old + 1 }

@@ -1,4 +1,4 @@
--- Where frames fit no page, no later frame mends that; and none fits where there is no page.
+-- If frames of a page do not fit together, no later run changes that; and no run fits if there is no page.
 use Rattle.std.specs.Prelude.{◌≡◌, List, [], ◌∷◌, fold}
 use Rattle.std.proofs.Common.{refl}
 use Rattle.frame_codec.specs.Frame.{Content}

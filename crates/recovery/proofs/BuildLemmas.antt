@@ -1,4 +1,4 @@
--- How a table is filled by rising pid, and what is found of the tree that it then holds.
+-- Filling a table by rising pid, and the findings on the tree that it then contains.
 use Rattle.std.specs.Prelude.{◌≡◌, ◌⊎◌, ℕ, suc, pred, ◌<◌, ◌==◌, true, List, [], ◌∷◌, ◌++◌, length, map, Option, Some, None, IsSome, Result, Ok, Err, IfErr, OnOk, IsErrAnd, nat_eq}
 use Rattle.std.proofs.Common.{refl, sym, ap, ◌∙◌, arith, subst, inl, inr, append_assoc, append-nil, Equal, Greater}
 use Rattle.std.specs.List.{AllByRecursion}
@@ -87,7 +87,7 @@ module _ {P : Type 0} (t : Mapping P) where
     room-last : with_room t k ≡ and_last k None
     room-last = ap (λ (o : Option (Option P)). room_by o t k) (none_here k t.places b) ∙ ap with_these (insert_last k t.places None b)
 
-    -- the place's page is away at first
+    -- the place is empty at first
     pub away-last : place_of (with_room t k) k ≡ Some None
     away-last = ap (λ (u : Mapping P). place_of u k) room-last ∙ last_here k t.places None b
 
@@ -132,7 +132,7 @@ filled-none t = ap (λ (es : List (ℕ × Option PageOfKind)). (let u : Mapping 
 
 -- ---- the pages that were made
 
--- of all these, what is left fills the table as all fill the first one; and the pids rise, those in the table before those that are left
+-- the remaining pages fill the table as all pages fill the first one; and the pids rise, those in the table before the remaining ones
 pub record IsFilledBy (old t : Mapping PageOfKind) (left all : List Rebuilt) : Type 0 where
   pub rising : AreRisingPids (pids_in t (log_pids (logs_made left)))
   pub placed : filled t (pages_made left) ≡ filled old (pages_made all)
@@ -148,7 +148,7 @@ module _ (old t : Mapping PageOfKind) (left rest all : List Rebuilt) (h : IsFill
   pub next_is_last : AllByRecursion (λ n. n < r.log.pid) (keys_of t.places)
   next_is_last = all-below (keys_of t.places) (log_pids (logs_made rest)) r.log.pid below_left
 
-  -- where there is no page, nothing is put there
+  -- if there is no page, nothing is put there
   none_filled : r.page ≡ None → IsFilledBy old t rest all
   none_filled none = record {
     rising = rising-left_out (keys_of t.places) (log_pids (logs_made rest)) r.log.pid below_left;
@@ -185,14 +185,14 @@ pub made-filled : {X : Type 0} (e : Result X AllocError) (t now : Mapping PageOf
     → OnOk e (now ≡ record { places = t.places ++ (r.log.pid, Some p) ∷ []; logged = t.logged }) → OnOk e (now ≡ filled t (entry_if r.log.pid r.page))
 made-filled e t now r p some h = subst (λ (o : Option PageOfKind). OnOk e (now ≡ filled t (entry_if r.log.pid o))) (sym some) h
 
--- where none is left, all are in the table
+-- if no page remains, all are in the table
 pub all_filled : (old t : Mapping PageOfKind) (left all : List Rebuilt) → left ≡ [] → IsFilledBy old t left all → t ≡ filled old (pages_made all)
 all_filled old t left all none h = sym (filled-none t) ∙ ap (λ (rs : List Rebuilt). filled t (pages_made rs)) (sym none) ∙ h.placed
 
 first_same : {X : Type 0} (x y : X) (xs ys : List X) → x ∷ xs ≡ y ∷ ys → (x ≡ y) × (xs ≡ ys)
 first_same x y xs ys e = (cc, cc)
 
--- what was made of logs are the pages that they make
+-- the pages that were built from logs are those that the logs determine
 pub pages-made : (s : Format) (rs : List Rebuilt) (hs : List HeldLog) → logs_made rs ≡ hs → map (λ r. r.page) rs ≡ map (λ h. page_in (page_of_frames s h.frames)) hs → pages_made rs ≡ pages_of_logs s hs
 pages-made s [] [] e f = refl
 pages-made s [] (h ∷ hs) e f = absurd (cc)
@@ -212,7 +212,7 @@ pages-following s (g ∷ gs) hs =
     ap (λ (ps : List (ℕ × PageOfKind)). entry_if g.pid (page_in (page_of_frames s g.frames)) ++ ps) (pages-following s gs hs)
     ∙ sym (append_assoc (entry_if g.pid (page_in (page_of_frames s g.frames))) (pages_of_logs s gs) (pages_of_logs s hs))
 
--- of the pages that are kept: the table, the logs that were put aside and those that are left are all; and their pids rise in this order
+-- for the retained pages: those in the table, in the logs put aside and the remaining ones are all; and their pids rise in this order
 pub record AreAside (s : Format) (t : Mapping PageOfKind) (logs : List HeldLog) (left all : List (ℕ × Kept)) : Type 0 where
   pub rising : AreRisingPids (pids_in t (log_pids (logs ++ map log_under left)))
   pub placed : filled t (pages_of_logs s (logs ++ map log_under left)) ≡ record { places = in_places (pages_of_logs s (map log_under all)); logged = [] }
@@ -314,13 +314,13 @@ module _ (s : Format) (t : Mapping PageOfKind) (logs : List HeldLog) (left all :
       } in
       subst (λ (u : Mapping PageOfKind). AreAside s u none left all) (sym built) (subst (λ (hs : List HeldLog). AreAside s (filled t (pages_of_logs s logs)) hs left all) (sym empty) e)
 
-  -- where none is left either, all are in the table once these are built
+  -- if no page remains either, all are in the table after these are built
   pub aside-all : (now : Mapping PageOfKind) → left ≡ [] → now ≡ filled t (pages_of_logs s logs) → now ≡ record { places = in_places (pages_of_logs s (map log_under all)); logged = [] }
   aside-all now none built =
       built ∙ ap (λ (hs : List HeldLog). filled t (pages_of_logs s hs)) (sym (append-nil logs))
       ∙ ap (λ (es : List (ℕ × Kept)). filled t (pages_of_logs s (logs ++ map log_under es))) (sym none) ∙ h.placed
 
--- ---- what is kept gives the pages of the log
+-- ---- the retained frames give the pages of the log
 
 module _ (s : Format) (good : first_bad_field s.settings ≡ None) (found : List Found) (within : AllByRecursion (λ f. is_frame s f.frame ≡ true) found) where
   -- the frames that are kept of a page make it
@@ -372,12 +372,12 @@ built_tree t ps = slot_tree (places_alone ps) t
 pub built-table : (t : Slot) (u : Mapping PageOfKind) (ps qs : List (ℕ × PageOfKind)) → u ≡ places_alone ps → ps ≡ qs → slot_tree u t ≡ built_tree t qs
 built-table t u ps qs e f = ap (λ (v : Mapping PageOfKind). slot_tree v t) (e ∙ ap places_alone f)
 
--- none of whose pages is away
+-- none of whose pages is checked out
 pub home-table : (tree : TreeInMemory) (u : Mapping PageOfKind) (ps : List (ℕ × PageOfKind)) → tree.table ≡ u → u ≡ places_alone ps → AreAllHome tree
 home-table tree u ps e f = subst (λ (v : Mapping PageOfKind). AllByRecursion (λ e. IsSome e.1) v.places) (sym (e ∙ f)) (home-all ps)
 
 module _ (s : Settings) (t : Slot) (fs : List Frame) (tree : TreeInMemory) (is : tree ≡ built_tree t (pages_of fs)) where
-  -- what the walk finds in it is what it finds in the tree by the log
+  -- the finding of the walk in it is the finding in the tree by the log
   built-found : finding s (tree_of tree) ≡ finding s (tree_by_log t fs)
   built-found =
       let root : Place = root_place (tree_by_log t fs) in
@@ -402,7 +402,7 @@ module _ (s : Settings) (t : Slot) (fs : List Frame) (tree : TreeInMemory) (is :
       let found : finding s (tree_of taller) ≡ finding s (tree_of tree) = sym (ap (λ (u : TreeInMemory). finding s (tree_of u)) is) in
       (nothing_found s (tree_of taller) numbers).0 (found ∙ none)
 
-  -- once it is marked as written, it holds the tree by the log
+  -- after it is marked as written, it holds the tree by the log
   pub marked-built : first_bad_field s ≡ None → finding s (tree_of tree) ≡ None → (now : TreeInMemory) → now ≡ record { table = marked_as_written tree.table; root = tree.root; height = tree.height }
       → (tree_of now ≡ tree_by_log t fs) × AreAllHome now
   marked-built good none now e =
@@ -415,7 +415,7 @@ module _ (s : Settings) (t : Slot) (fs : List Frame) (tree : TreeInMemory) (is :
 
 -- ---- faults
 
--- what is found, or lack of memory
+-- the finding, or out of memory
 abbrev pub IsFoundOrLate : Option Finding → Fault → Type 0
 IsFoundOrLate o fault = (fault ≡ NoMemory) ⊎ ((f : Finding) × (o ≡ Some f) × (fault ≡ BadStructure f))
 

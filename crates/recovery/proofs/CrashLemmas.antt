@@ -1,4 +1,4 @@
--- A crash in a flush or an upgrade leaves the store before it or the store after it.
+-- A crash during a flush or an upgrade leaves the old store or the new one.
 use Rattle.std.specs.Prelude.{◌≡◌, ◌≢◌, ◌⊎◌, ℕ, zero, suc, List, [], ◌∷◌, take}
 use Rattle.std.proofs.Common.{arith, ◌≤◌, length, refl, sym, ap, ◌∙◌, subst, inl, inr}
 use Rattle.keys.specs.declared.settings.Settings.{Settings}
@@ -19,10 +19,10 @@ use Rattle.recovery.specs.StoreOfDisk.{frames_in, tree_by_log, store_of_disk}
 use Rattle.recovery.proofs.FlushBack.{left, commit-done, text-some, upgrade-done, slot_with, store_with, same_with, started, room_for}
 use Rattle.recovery.proofs.StoreLemmas.{Reads, StandsBy, store-stands, stands-for}
 
--- ---- the commit of a text
+-- ---- the commit of some frames
 
 module _ (g : Format) (file c : List ℕ) (on_disk : Store) (by : StandsBy g.settings file on_disk) where
-  -- a disk that reads the same stands for the same store
+  -- a disk with the same settings, slot and log encodes the same store
   same-read : Reads g.settings c by.slot by.found → store_of_disk c ≡ store_of_disk file
   same-read reads = stands-for g.settings c by.slot by.found reads by.sound by.proper ∙ sym (stands-for g.settings file by.slot by.found by.reads by.sound by.proper)
 
@@ -34,7 +34,7 @@ module _ (g : Format) (file c : List ℕ) (on_disk : Store) (by : StandsBy g.set
         | inr whole ↦ inr whole
       ]
 
-  -- until it is done the disk stands for the store from before
+  -- until the commit is done the disk encodes the old store
   pub commit-hidden : (text : List Frame) → HasRoom g file by.slot text → IsUncommitted g.settings (suc by.slot.sequence) (spans g.settings by.slot.tail text) file c → store_of_disk c ≡ store_of_disk file
   commit-hidden text room hid =
       let long : 512 ≤ length file = let all = room.whole in omega arith in
@@ -79,7 +79,7 @@ module _ (s : Settings) (text : Text) (file c : List ℕ) (tree : Tree) (on_disk
       commit-hidden (format_with s text) file c on_disk by (text_of text tree) (room_for s text tree by.slot within file by.found by.reads done.room) hid
 
 module _ (s : Settings) (text : Text) (st now : Store) (file bytes c : List ℕ) (is : IsStoreOf s st file) (within : HasFrames s text st.tree) (h : after_text s (store_with (version_with text) st) file (text_of text st.tree) ≡ left now bytes) where
-  -- until its commit is done the disk stands for the store from before
+  -- until its commit is done the disk encodes the old store
   text-hidden : text_of text st.tree ≢ [] → IsUncommitted s (suc st.sequence) (spans s st.tail (text_of text st.tree)) file c → store_of_disk c ≡ store_of_disk file
   text-hidden some hid =
       let (on_disk, read, step) = is.step in

@@ -1,4 +1,4 @@
--- What was made of a page's frames may cross threads: it owns what it holds.
+-- The page that is built from frames may cross threads: it owns its contents.
 use denote.RattleType.{RattleType}
 use denote.Struct.Declared.{shape}
 use denote.Enum.Declared as variants

@@ -1,4 +1,4 @@
--- What is answered of damaged disks: rows 13.1 to 13.9, 15.2, 20 and 21.
+-- The faults of damaged disks: rows 13.1 to 13.9, 15.2, 20 and 21.
 use Rattle.std.specs.Prelude.{◌≡◌, ℕ, List, [], ◌∷◌, ◌++◌, take, drop, Ok, Err}
 use Rattle.std.proofs.Common.{refl}
 use Rattle.keys.specs.declared.fault.Fault.TheVariants.{NotAStore, NoSlot, BadSegment, BadFrame, BadStructure}

@@ -1,4 +1,4 @@
--- The stores that the disks of rows 2, 4, 10 and 15.1 stand for.
+-- The stores that the disks of rows 2, 4, 10 and 15.1 encode.
 use Rattle.std.specs.Prelude.{◌≡◌, ℕ, [], ◌∷◌, Ok}
 use Rattle.std.proofs.Common.{refl}
 use Rattle.keys.proofs.Literals.{S}

@@ -1,4 +1,4 @@
--- The disk of a new store stands for the first store.
+-- The disk of a new store encodes the first store.
 use Rattle.std.specs.Prelude.{◌≡◌, ℕ, List, [], ◌∷◌, None, Ok}
 use Rattle.std.proofs.Common.{refl}
 use Rattle.keys.specs.Limits.{first_bad_field}

@@ -1,4 +1,4 @@
--- The disk after a flush or an upgrade stands for the store after it.
+-- The disk after a flush or an upgrade encodes the store after it.
 use Rattle.std.specs.Prelude.{◌≡◌, ◌≢◌, ◌-◌, ℕ, ◌+◌, ◌≤◌, Bool, true, false, nat_lt, ◌<◌, ◌^◌, if◌then◌else◌, List, [], ◌∷◌, ◌++◌, None, Result, Ok, Err}
 use Rattle.std.proofs.Common.{refl, sym, ap, ◌∙◌, arith, subst}
 use Rattle.std.proofs.lemmas.Bool.{or_parts, ltb-false, leb-false}
@@ -31,9 +31,9 @@ use Rattle.recovery.specs.StoreOfDisk.{frames_in, tree_by_log, store_of_disk}
 use Rattle.recovery.proofs.FlushLemmas.{known-frames, text-read}
 use Rattle.recovery.proofs.StoreLemmas.{Reads, StandsBy, store-stands}
 
--- ---- a commit that is not refused
+-- ---- a commit that does not fail
 
--- its numbers aren't spent, the log isn't full, and this is what is left
+-- its numbers aren't exhausted, the log isn't full, and this is the committed store
 pub record IsCommitted (t : Slot) (is_full : Bool) (st : Store) (file : List ℕ) (now : Store) (bytes : List ℕ) : Type 0 where
   pub number : t.sequence ≤ greatest
   pub tail : t.tail ≤ greatest
@@ -41,7 +41,7 @@ pub record IsCommitted (t : Slot) (is_full : Bool) (st : Store) (file : List ℕ
   pub store : now ≡ st
   pub disk : bytes ≡ file
 
--- what is answered
+-- the answer
 abbrev pub left : Store → List ℕ → Result (Store × List ℕ) Fault
 left now bytes = Ok (now, bytes)
 
@@ -66,12 +66,12 @@ pub text-some : (s : Settings) (st : Store) (file : List ℕ) (text : List Frame
 text-some s st file [] some = absurd (some refl)
 text-some s st file (f ∷ fs) some = refl
 
--- what wasn't refused as upgraded already
+-- an upgrade that did not fail as done already
 pub upgrade-done : (version : Version) (answer : Result (Store × List ℕ) Fault) (now : Store) (bytes : List ℕ) → unless_upgraded version answer ≡ left now bytes → answer ≡ left now bytes
 upgrade-done One answer now bytes h = h
 upgrade-done Two answer now bytes h = absurd (cc)
 
--- ---- the store that has a text
+-- ---- the store after a commit
 
 -- a slot, and a store, with this version
 abbrev pub slot_with : Version → Slot → Slot
@@ -94,7 +94,7 @@ module _ (st on_disk : Store) (tree : Tree) (slot : Slot) (step : AreInStep st o
   pub same_store : store_after st.tree slot ≡ st
   same_store = ap (λ (v : Version). store_after st.tree (slot_with v slot)) (sym same_version) ∙ same_with st.version
 
--- what a log of this version holds is read by that of a store with this text as well
+-- the contents of a log of this version are the same when read as a log after this commit
 abbrev pub IsReadBy : Version → Text → Type 0
 IsReadBy version text = (s : Settings) (file : List ℕ) (head tail : ℕ) (found : List Found) → log_between (record { settings = s; version = version }) file head tail ≡ Ok found
     → log_between (format_with s text) file head tail ≡ Ok found
@@ -104,9 +104,9 @@ pub read-upgraded : (version : Version) → IsReadBy version Upgrade
 read-upgraded One s file head tail found h = log-known s file head tail found h
 read-upgraded Two s file head tail found h = h
 
--- ---- what is read afterwards
+-- ---- reading afterwards
 
--- the store with this tree and what this slot says, as the text takes it
+-- the store with this tree and this slot, for this kind of commit
 abbrev pub started : Text → Tree → Slot → Store
 started text tree slot = store_after tree (slot_with (version_with text) slot)
 
@@ -118,7 +118,7 @@ module _ (s : Settings) (text : Text) (tree : Tree) (slot : Slot) (within : HasF
   abbrev next : Slot
   next = flush_slot s (started text tree slot) frames
 
-  -- where its numbers aren't spent and a segment stays free, it is well formed
+  -- if its numbers aren't spent and a segment stays free, it is well formed
   pub next-good : first_bad_field s ≡ None → IsSlot s slot.sequence slot → tree.root < 2 ^ 64 → 1 ≤ tree.height → tree.height ≤ 64
       → next.sequence ≤ greatest → next.tail ≤ greatest → is_full_for_flush s slot.head next.tail ≡ false → is_slot s next.sequence next ≡ true
   next-good good was root some low number small free =
@@ -155,14 +155,14 @@ module _ (s : Settings) (text : Text) (tree : Tree) (slot : Slot) (within : HasF
 
 -- ---- the laws
 
--- the slot of the commit of a text is well formed
+-- the slot of a commit is well formed
 pub next-good_of : (s : Settings) (text : Text) (st : Store) → IsStore s st → HasFrames s text st.tree → (let t : Slot = flush_slot s st (text_of text st.tree) in
     t.sequence ≤ greatest → t.tail ≤ greatest → is_full_for_flush s t.head t.tail ≡ false → is_slot s t.sequence t ≡ true)
 next-good_of s text st is within number small free =
     let was : IsSlot s st.sequence (slot_of st) = slot-is s st.sequence (slot_of st) is.slot in
     next-good s text st.tree (slot_of st) within is.good was was.root was.height.0 was.height.1 number small free
 
--- what is true of every store is true of it with any version
+-- the invariant of stores holds for the store with any version
 pub kept-with : (s : Settings) (version : Version) (st : Store) → IsStore s st → IsStore s (store_with version st)
 kept-with s version st is = record { good = is.good; proper = is.proper; logs = is.logs; slot = is.slot }
 
@@ -176,7 +176,7 @@ module _ (s : Settings) (text : Text) (file : List ℕ) (tree : Tree) (on_disk :
   stands : AreInStep (store_after tree by.slot) on_disk → (bytes : List ℕ) → Reads s bytes (flush_slot s before (text_of text tree)) (by.found ++ found_in_text s by.slot.tail (text_of text tree)) → store_of_disk bytes ≡ Ok (s, written_store)
   stands step bytes reads = text-read s text before bytes by.found is.proper (known-frames s (store_after tree by.slot) on_disk file is.proper is.logs by step) reads
 
-  -- a text that isn't empty
+  -- a commit that has frames
   back : text_of text tree ≢ [] → IsReadBy by.slot.version text → AreInStep (store_after tree by.slot) on_disk → (now : Store) (bytes : List ℕ) → after_text s before file (text_of text tree) ≡ left now bytes → store_of_disk bytes ≡ Ok (s, now)
   back some read_by step now bytes h =
       let t : Slot = flush_slot s before (text_of text tree) in
@@ -190,7 +190,7 @@ module _ (s : Settings) (text : Text) (file : List ℕ) (tree : Tree) (on_disk :
       answer : Store → Result (Settings × Store) Fault
       answer x = Ok (s, x)
 
--- what was written is what is read
+-- the commit is read back
 pub text-back : (s : Settings) (text : Text) (st : Store) (file : List ℕ) → IsStoreOf s st file → HasFrames s text st.tree → IsReadBy st.version text → text_of text st.tree ≢ [] → (now : Store) (bytes : List ℕ)
     → after_text s (store_with (version_with text) st) file (text_of text st.tree) ≡ left now bytes → store_of_disk bytes ≡ Ok (s, now)
 text-back s text st file is within read_by some now bytes h =

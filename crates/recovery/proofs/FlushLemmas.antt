@@ -1,4 +1,4 @@
--- What was written is what is read.
+-- Written frames are read back.
 use Rattle.std.specs.Prelude.{◌≡◌, ℕ, suc, ◌+◌, Bool, true, false, nat_le, if◌then◌else◌, List, [], ◌∷◌, ◌++◌, length, map, None, Ok}
 use Rattle.std.proofs.Common.{refl, sym, ap, ◌∙◌, subst}
 use Rattle.std.proofs.lemmas.List.{map-append}
@@ -20,7 +20,7 @@ use Rattle.recovery.specs.StoreOfDisk.{frames_in, tree_by_log, store_of_disk}
 use Rattle.recovery.proofs.StoreLemmas.{Reads, StandsBy, stands-for}
 use Rattle.recovery.proofs.TextLemmas.{IsKnown, pages-after, sound-after}
 
--- ---- the frames of a text
+-- ---- the frames of a commit
 
 frame_by : (b : Bool) (f : Frame) (here there : PlacedFrame) (xs ys : List PlacedFrame) → here.frame ≡ f → there.frame ≡ f → map (λ (p : PlacedFrame). p.frame) xs ≡ map (λ (p : PlacedFrame). p.frame) ys
     → map (λ (p : PlacedFrame). p.frame) (if b then here ∷ xs else (there ∷ ys)) ≡ f ∷ map (λ (p : PlacedFrame). p.frame) ys
@@ -41,7 +41,7 @@ frames-placed : (ps : List PlacedFrame) → map (λ (f : Found). f.frame) (map (
 frames-placed [] = refl
 frames-placed (p ∷ ps) = ap (λ (fs : List Frame). p.frame ∷ fs) (frames-placed ps)
 
--- where the frames of a text stand doesn't matter to what they say
+-- the places of frames do not affect the pages that they determine
 pub frames-text : (s : Settings) (tail : ℕ) (found : List Found) (text : List Frame) → frames_in (found ++ found_in_text s tail text) ≡ frames_in found ++ text
 frames-text s tail found text =
     map-append (λ (f : Found). f.frame) found (found_in_text s tail text)
@@ -55,7 +55,7 @@ proper-flushed s t p = record { tree = record { rising = p.tree.rising; some = p
 finding-flushed : (s : Settings) (t : Tree) → IsProper s t → finding s (flushed t) ≡ None
 finding-flushed s t p = let q = proper-flushed s t p in (nothing_found s (flushed t) q.tree).1 q
 
--- what is known of the frames of a disk with which a store is in step
+-- facts about the frames of a disk with which a store is in step
 pub known-frames : (s : Settings) (st on_disk : Store) (file : List ℕ) → IsProper s st.tree → AreLogsTrue st.tree → (by : StandsBy s file on_disk) → AreInStep st on_disk → IsKnown st.tree (frames_in by.found)
 known-frames s st on_disk file proper logs by step =
     let same : AreInStep st (store_after (tree_by_log by.slot (frames_in by.found)) by.slot) = subst (λ (x : Store). AreInStep st x) by.store step in
@@ -67,7 +67,7 @@ known-frames s st on_disk file proper logs by step =
       upto = λ pid k e. same.upto pid k e;
     }
 
--- a disk whose log has the text after what it had, and whose slot is that of its commit
+-- a disk whose log has the new frames after the old ones, and whose slot is that of the commit
 pub text-read : (s : Settings) (text : Text) (st : Store) (bytes : List ℕ) (found : List Found) → IsProper s st.tree → IsKnown st.tree (frames_in found)
     → (let frames : List Frame = text_of text st.tree in let t : Slot = flush_slot s st frames in
     Reads s bytes t (found ++ found_in_text s st.tail frames) → store_of_disk bytes ≡ Ok (s, store_after (flushed st.tree) t))

@@ -1,4 +1,4 @@
--- What flushes and an upgrade leave of a disk: rows 1, 3, 4, 10 and 15.1, byte for byte; and when they are refused.
+-- The effects of flushes and an upgrade on a disk: rows 1, 3, 4, 10 and 15.1, byte for byte; and when they fail.
 use Rattle.std.specs.Prelude.{◌≡◌, ℕ, ◌^◌, ◌-◌, List, [], ◌∷◌, Ok, Err}
 use Rattle.std.proofs.Common.{refl}
 use Rattle.keys.specs.declared.fault.Fault.TheVariants.{Spent, Full, AlreadyUpgraded}
@@ -41,7 +41,7 @@ row_9 = refl
 row_10 : after_flush S (store pages_of_row_4 2 2 ((0, Old) ∷ []) 179 3) disk_of_row_9 ≡ Ok (store pages_of_row_4 2 2 all_written 310 4, disk_of_row_10)
 row_10 = refl
 
--- row 10's flush would need segment 3, which is kept free; with a number above the greatest it is refused for that, full or not
+-- row 10's flush would need segment 3, which must stay free; with a number above the greatest it fails for that, full or not
 full : after_flush S (store pages_of_row_4 2 2 ((0, Old) ∷ []) 691 3) disk_of_row_9 ≡ Err Full
 full = refl
 
@@ -51,7 +51,7 @@ spent = refl
 last_number : after_flush S (store pages_of_row_4 2 2 ((0, Old) ∷ []) 691 (2 ^ 62 - 1)) disk_of_row_9 ≡ Err Full
 last_number = refl
 
--- each page once more; and a second time it is refused
+-- each page once more; and a second upgrade fails
 row_15_1 : after_upgrade S (store pages_of_row_4 2 2 all_written 136 2) disk_of_row_4 ≡ Ok (store_of Two pages_of_row_4 2 2 all_written 238 3, disk_of_row_15)
 row_15_1 = refl
 

@@ -1,4 +1,4 @@
--- Bytes that a reading doesn't look at don't matter.
+-- Bytes that a reading doesn't examine don't matter.
 use Rattle.std.specs.Prelude.{◌≡◌, ◌⊎◌, ℕ, suc, ◌+◌, ◌%◌, ◌<◌, ◌≤◌, false, List, Result, Ok}
 use Rattle.std.proofs.Common.{sym, ap, ap₂, ◌∙◌, arith, subst, inl, inr}
 use Rattle.std.proofs.lemmas.Bool.{cases_eq}
@@ -25,7 +25,7 @@ module _ (s : Settings) (file c : List ℕ) (on_disk : Store) (by : StandsBy s f
   abbrev read : Store
   read = store_after (tree_by_log by.slot (frames_in by.found)) by.slot
 
-  -- the same is read, where the slot is
+  -- the same is read, if the slot is
   stands-too : AgreeAt (IsLookedAt s read) file c → store_slot s c ≡ Ok by.slot → store_of_disk c ≡ Ok (s, read)
   stands-too agree slot =
       let (block, good, whole) = store_settings-are file s by.reads.settings in
@@ -68,7 +68,7 @@ module _ (s : Settings) (file c : List ℕ) (on_disk : Store) (by : StandsBy s f
 abbrev answer : Settings → Store → Result (Settings × Store) Fault
 answer s st = Ok (s, st)
 
--- of a disk that stands for a store, whatever the bytes are that a reading doesn't look at, where the other slot is closed
+-- for a disk that encodes a store, whatever the bytes are that a reading doesn't examine, where the other slot is closed
 pub hidden-closed : (s : Settings) (st : Store) (file c : List ℕ) → store_of_disk file ≡ Ok (s, st) → AgreeAt (IsLookedAt s st) file c → is_open (suc st.sequence) c ≡ false → store_of_disk c ≡ Ok (s, st)
 hidden-closed s st file c is agree shut =
     let by : StandsBy s file st = store-stands s file st is in

@@ -1,4 +1,4 @@
--- What is kept of each page, one frame more at a time.
+-- What is retained of each page, after one more frame at a time.
 use Rattle.std.specs.Prelude.{◌≡◌, ◌≢◌, ℕ, suc, ◌+◌, ◌-◌, ◌^◌, ◌≤◌, min, Bool, true, false, cond, ◌&&◌, ◌||◌, nat_eq, List, [], ◌∷◌, ◌++◌, length, map, Option, Some, None, is_some}
 use Rattle.std.proofs.Common.{refl, sym, ap, ◌∙◌, subst, arith, length-append, append_assoc}
 use Rattle.std.specs.BTreeMap.{BTreeMap, get}
@@ -229,10 +229,10 @@ size-more fs f n e =
     let bytes = spelled (wanted_of Every fs) in
     sized (kind_of f.frame.content) bytes (bytes_of f.frame) n e ∙ ap as_size (kept_as Every f.frame.content f.segment f.frame.pid fs bytes refl)
 
--- ---- what is kept of a page
+-- ---- what is retained of a page
 
 module _ (w : Wanted) where
-  -- what is kept of it, with one more of its frames
+  -- what is retained of it, with one more of its frames
   pub kept-more : (k now : Kept) (fs : List Found) (f : Found) → IsKept w k fs → now.state ≡ state_after k.state (kind_of f.frame.content) → now.segment ≡ segment_after k.segment (kind_of f.frame.content) f.segment
       → now.size ≡ size_after k.size (kind_of f.frame.content) (length (bytes_of f.frame))
       → now.frames.items ≡ kept_with k.frames.items (kind_of f.frame.content) (is_wanted_in w f.segment) (bytes_of f.frame) → IsKept w now (part_with fs f)
@@ -269,7 +269,7 @@ module _ (w : Wanted) where
 abbrev no_page : Option Kept
 no_page = None
 
--- one frame more: what was kept of its pid comes out, and what is kept then goes in
+-- one more frame: the entry of its pid is taken out, and the updated one is put in
 module _ (w : Wanted) (old mid now : BTreeMap ℕ Kept) (f : Found) (kept : Kept)
     (out : (n : ℕ) → get nat_cmp mid n ≡ cond (is_eq (nat_cmp f.frame.pid n)) None (get nat_cmp old n))
     (into : (n : ℕ) → get nat_cmp now n ≡ cond (is_eq (nat_cmp f.frame.pid n)) (Some kept) (get nat_cmp mid n)) where

@@ -1,4 +1,4 @@
--- What is kept of the pages of a log, in the order of their pids, and what the frames that are kept say.
+-- What is retained of the pages of a log, in the order of their pids, and the pages that the retained frames determine.
 use Rattle.std.specs.Prelude.{◌≡◌, ℕ, zero, suc, ◌≤◌, Bool, true, false, cond, ◌||◌, nat_eq, List, [], ◌∷◌, length, map, fold, Option, Some, None, is_some, Result, Ok}
 use Rattle.std.proofs.Common.{refl, sym, ap, ◌∙◌, subst, arith, length-append}
 use Rattle.std.specs.BTreeMap.{BTreeMap}
@@ -44,7 +44,7 @@ looked_up true k v n es e = rw e refl
 looked_up false k v n es e = rw e refl
 
 module _ (w : Wanted) (found : List Found) where
-  -- under each pid that there is, what is kept of its page
+  -- under each existing pid, what is retained of its page
   abbrev pub KeepEach : List (ℕ × Kept) → Type 0
   KeepEach es = (n : ℕ) → is_among n (keys_of es) ≡ true → IsKeptOf w (lookup (nat_eq n) es) (live_frames n found)
 
@@ -61,7 +61,7 @@ module _ (w : Wanted) (found : List Found) where
           absurd (cc)
       of false e = subst (λ (o : Option Kept). IsKeptOf w o (live_frames n found)) (looked_up false k v n es e) (h n (ap (λ (b : Bool). b || is_among n (keys_of es)) e ∙ among))
 
--- what is kept, by rising pid: of each pid with a frame
+-- what is retained, by rising pid, for each pid with a frame
 pub record AreInOrder (w : Wanted) (found : List Found) (es : List (ℕ × Kept)) : Type 0 where
   pub rise : AreRisingPids (keys_of es)
   pub each : KeepEach w found es
@@ -84,7 +84,7 @@ in-order w by_pid found sorted h =
       all = same_rising (keys_of es) (pids_of fs) rise (rising-with_numbers (pids fs) [] tt) among;
     }
 
--- ---- what the log says of a page
+-- ---- the page that the log determines
 
 -- it is what its live frames say
 pub state-in_log : (found : List Found) (pid : ℕ) → in_log (frames_in found) pid ≡ page_from_start (contents_in (live_frames pid found))
@@ -127,7 +127,7 @@ unfit-here left rest every e is same unfit = sym same ∙ ap first_unfit is ∙ 
 pub unfit-later : (left rest every : List (ℕ × Kept)) (e : ℕ × Kept) → left ≡ e ∷ rest → first_unfit left ≡ first_unfit every → is_unfit e.1.state ≡ false → first_unfit rest ≡ first_unfit every
 unfit-later left rest every e is same fits = sym (ap first_unfit is ∙ next-unfit e rest false fits) ∙ same
 
--- ---- frames that stand back to back
+-- ---- concatenated frames
 
 abbrev all_read : List Frame → Result (List Frame) ℕ
 all_read fs = Ok fs
@@ -176,7 +176,7 @@ missing_none : (cs : List Content) → page_in (fold continued Missing cs) ≡ N
 missing_none [] = refl
 missing_none (c ∷ cs) = ap page_in (ap (λ t. fold continued t cs) (missing-breaks c) ∙ broken-stays cs)
 
--- after what is no base there is no page
+-- after a content that is no base there is no page
 pub none-page : (c : Content) (cs : List Content) → is_base c ≡ false → page_in (page_from_start (c ∷ cs)) ≡ None
 none-page (FullLeaf spelling low base) cs e = absurd (cc)
 none-page (DeltaLeaf run) cs e = missing_none cs
@@ -184,7 +184,7 @@ none-page (FullIndex spelling low base) cs e = absurd (cc)
 none-page (DeltaIndex run) cs e = missing_none cs
 none-page Free cs e = missing_none cs
 
--- what is kept of a page, where that of every page is, makes it
+-- if what is retained of every page is right, what is retained of a page determines it
 pub wanted-page : (fs : List Found) → page_in (page_from_start (map (λ (f : Frame). f.content) (wanted_of Every fs))) ≡ page_in (page_from_start (contents_in fs))
 wanted-page [] = refl
 wanted-page (f ∷ fs) = of (is_base f.frame.content) refl

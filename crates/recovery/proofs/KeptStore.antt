@@ -1,4 +1,4 @@
--- What flushes, upgrades and batches leave of a store that is one as every store is.
+-- The effects of flushes, upgrades and batches on a store that satisfies the invariant of stores.
 use Rattle.std.specs.Prelude.{◌≡◌, ◌≢◌, ℕ, ◌^◌, ◌<◌, ◌≤◌, List, [], ◌∷◌, Ok}
 use Rattle.std.proofs.Common.{refl, sym, ap, ◌∙◌, subst}
 use Rattle.keys.specs.declared.settings.Settings.{Settings}
@@ -23,9 +23,9 @@ use Rattle.recovery.proofs.NothingDue.{nothing-due, all-written, logs-in_log}
 use Rattle.recovery.proofs.ReadStore.{store-read}
 use Rattle.recovery.proofs.StepLemmas.{kept-in_step}
 
--- ---- a text
+-- ---- a commit
 
--- what is left of a store with this text: all as it was, where nothing was to be written; else what was committed
+-- the result of this commit for a store: unchanged, if there was nothing to write; else the committed store
 data IsWritten (s : Settings) (text : Text) (st now : Store) (file bytes : List ℕ) : Type 0 where
   Nothing : text_of text st.tree ≡ [] → now ≡ st → IsWritten s text st now file bytes
   Something : (let t : Slot = flush_slot s st (text_of text st.tree) in
@@ -69,7 +69,7 @@ module _ (s : Settings) (text : Text) (st now : Store) (file bytes : List ℕ) (
 -- ---- a flush
 
 module _ (s : Settings) (st : Store) (file : List ℕ) (is : IsStoreOf s st file) (within : HasFrames s (Flush st.version) st.tree) where
-  -- nothing is written for an empty text
+  -- without frames nothing is written
   none_by : (now : Store) (bytes : List ℕ) → store_of_disk file ≡ Ok (s, st) → left st file ≡ left now bytes → store_of_disk bytes ≡ Ok (s, now)
   none_by now bytes here h =
       let same : (let p : Store × List ℕ = (st, file) in p ≡ (now, bytes)) = cc in
@@ -84,7 +84,7 @@ module _ (s : Settings) (st : Store) (file : List ℕ) (is : IsStoreOf s st file
       none_by now bytes (all-written s st file is.is.proper is.is.logs is.step e) nothing
   read_by (f ∷ fs) e now bytes h = text-back s (Flush st.version) st file is within (λ r bs head tail found e. e) (λ none. some_frame f fs (sym e ∙ none)) now bytes h
 
-  -- the disk after a flush stands for the store after it
+  -- the disk after a flush encodes the store after it
   pub flush-read_back : (now : Store) (bytes : List ℕ) → after_flush s st file ≡ left now bytes → (store_of_disk bytes ≡ Ok (s, now)) × IsStoreOf s now bytes
   flush-read_back now bytes h = let read = read_by (flush_text st.version st.tree) refl now bytes h in (read, store-read s now bytes read)
 
@@ -100,7 +100,7 @@ module _ (s : Settings) (st now : Store) (file bytes : List ℕ) (h : after_upgr
   upgraded : after_text s (of_version_two st) file (upgrade_text st.tree) ≡ left now bytes
   upgraded = upgrade-done st.version (after_text s (of_version_two st) file (upgrade_text st.tree)) now bytes h
 
-  -- the disk after an upgrade stands for the store after it
+  -- the disk after an upgrade encodes the store after it
   pub upgrade-read_back : IsStoreOf s st file → HasFrames s Upgrade st.tree → (store_of_disk bytes ≡ Ok (s, now)) × IsStoreOf s now bytes
   upgrade-read_back is within =
       let read = text-back s Upgrade st file is within (read-upgraded st.version) (upgrade-some s st.tree is.is.proper) now bytes upgraded in
@@ -136,7 +136,7 @@ batch-kept s st new is proper logs root height =
       });
     }
 
--- one that keeps what the log has stays in step
+-- a store whose new tree keeps the log states stays in step
 pub batch-in_step : (s : Settings) (st : Store) (new : Tree) (file : List ℕ) → IsStoreOf s st file → IsProper s new → AreLogsTrue new → new.root < 2 ^ 64 → new.height ≤ 64 → KeepsLogged st.tree new
     → IsStoreOf s (with_tree st new) file
 batch-in_step s st new file is proper logs root height keeps =

@@ -1,4 +1,4 @@
--- A store whose log lacks nothing is the one that its disk stands for.
+-- A store whose log lacks nothing is the store that its disk encodes.
 use Rattle.std.specs.Prelude.{◌≡◌, ℕ, ◌-◌, ◌<◌, ◌≤◌, List, [], ◌∷◌, ◌++◌, reverse, length, drop, Option, Some, None, Result, Ok}
 use Rattle.std.proofs.Common.{refl, sym, ap, ◌∙◌, arith, subst}
 use Rattle.std.specs.List.{AllByRecursion}
@@ -35,7 +35,7 @@ use Rattle.recovery.proofs.StepLemmas.{whole_of, logged-whole}
 use Rattle.recovery.proofs.StoreLemmas.{StandsBy, store-stands}
 use Rattle.recovery.proofs.TextLemmas.{IsKnown, true_at, text-of_pid, pages-after}
 
--- ---- what the log has, where it lacks nothing
+-- ---- log states if the log lacks nothing
 
 runs_long : (p : PageOfKind) → length (run_contents p) ≡ page_depth p
 runs_long (Leaf p) = length-map (reverse p.layers.runs) _ ∙ length-reverse p.layers.runs
@@ -90,7 +90,7 @@ pub each_has : (ps : List (ℕ × PageOfKind)) → AreRisingPids (keys_of ps) �
 each_has [] r = tt
 each_has (p ∷ ps) r = (rw (is_eq_same p.0 p.0 refl) refl, later_has p ps ps r.0 (each_has ps r.1))
 
--- what it has is true
+-- the log states are true
 pub logs-in_log : (ps : List (ℕ × PageOfKind)) (root height : ℕ) → AreRisingPids (keys_of ps) → AreLogsTrue (tree_in_log ps root height)
 logs-in_log ps root height rising = record {
   rising = subst (λ (ns : List ℕ). AreRisingPids ns) (sym (keys_whole ps)) rising;
@@ -108,7 +108,7 @@ module _ (t : Tree) (rising : AreRisingPids (keys_of t.pages)) (logs : AreLogsTr
 
 -- ---- the disk
 
--- what is read has a proper tree, and its slot is one that a store may have
+-- the store that is read has a proper tree, and its slot is one that a store may have
 pub slot-read : (s : Settings) (on_disk : Store) (file : List ℕ) (by : StandsBy s file on_disk) → IsSlot s by.slot.sequence by.slot
 slot-read s on_disk file by = slot-is s by.slot.sequence by.slot (slot-stands s by.slot.sequence by.slot file (store_slot-read s file by.slot by.reads.slot)).good
 
@@ -142,7 +142,7 @@ module _ (s : Settings) (st on_disk : Store) (file : List ℕ) (proper : IsPrope
       ∙ ap (λ (t : Tree). store_after t slot) tree_same
       ∙ same_store st on_disk tree_read slot step store
 
--- a store whose log lacks nothing is the one that its disk stands for
+-- a store whose log lacks nothing is the store that its disk encodes
 pub all-written : (s : Settings) (st : Store) (file : List ℕ) → IsProper s st.tree → AreLogsTrue st.tree → IsInStep s st file → flush_text st.version st.tree ≡ [] → store_of_disk file ≡ Ok (s, st)
 all-written s st file proper logs (on_disk, is, are) none =
     is ∙ ap (λ (x : Store). answer x) (same_as_read s st on_disk file proper logs (store-stands s file on_disk is) are none)

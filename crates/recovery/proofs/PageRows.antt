@@ -1,4 +1,4 @@
--- What the log says of a page, of short lists of contents.
+-- The page that the log determines, for short lists of contents.
 use Rattle.std.specs.Prelude.{◌≡◌, [], ◌∷◌, Some, None, codes}
 use Rattle.std.proofs.Common.{refl}
 use Rattle.index_page.specs.Page.PageOfKind.{Leaf, Index}
@@ -22,12 +22,12 @@ newer_run = DeltaLeaf (set "a" "3" ∷ [])
 abbrev other_run : Content
 other_run = DeltaIndex ((codes "a", None) ∷ [])
 
--- the newest run is the last that stands there, and comes first in the page
+-- the newest run is the last one in the log, and the first one in the page
 runs_after_a_base : page_by_log (base ∷ run ∷ newer_run ∷ [])
     ≡ Present (Leaf (record { low = []; layers = record { runs = (set "a" "3" ∷ []) ∷ (set "a" "2" ∷ []) ∷ []; base = pair "a" "1" ∷ [] } }))
 runs_after_a_base = refl
 
--- runs from before the last base don't count, whatever their kind; nor does a free frame, and what stands before it
+-- runs from before the last base don't count, whatever their kind; nor do a free frame and earlier frames
 last_base_alone : page_by_log (base ∷ run ∷ other_run ∷ base ∷ []) ≡ Present (Leaf (record { low = []; layers = record { runs = []; base = pair "a" "1" ∷ [] } }))
 last_base_alone = refl
 

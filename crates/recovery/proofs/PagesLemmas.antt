@@ -1,4 +1,4 @@
--- The pages of a log are what its frames say of each pid.
+-- The pages of a log are those that its frames determine for each pid.
 use Rattle.std.specs.Prelude.{◌≡◌, ℕ, ◌<◌, Bool, true, false, cond, ◌||◌, nat_eq, List, [], ◌∷◌, ◌++◌, map, flat_map, Option, Some, None}
 use Rattle.std.proofs.Common.{refl, sym, ap, ◌∙◌}
 use Rattle.std.specs.List.{AllByRecursion, filter}
@@ -19,7 +19,7 @@ use Rattle.frame_codec.specs.Frame.{Frame}
 use Rattle.recovery.specs.LogPages.{contents_of, in_log, pids_of, pages_of, broken_under, broken_in}
 use Rattle.recovery.specs.PageByLog.{page_in, is_broken}
 
--- ---- what is made of each of some numbers, where there is something
+-- ---- the results for some numbers, if there are any
 
 module _ {V : Type 0} (f : ℕ → Option V) where
   abbrev entry_of : ℕ → List (ℕ × V)
@@ -140,7 +140,7 @@ sound_else : (b : Bool) (fs : List Frame) (pid : ℕ) → broken_in fs ≡ None 
 sound_else true fs pid e h = sound_under fs (pids_of fs) pid e h
 sound_else false fs pid e h = rw (none_of fs pid (sym (among-pids_of fs pid) ∙ h)) refl
 
--- where finding 1 isn't found, no pid has it
+-- if finding 1 isn't found, no pid has it
 pub none_broken : (fs : List Frame) (pid : ℕ) → broken_in fs ≡ None → is_broken (in_log fs pid) ≡ false
 none_broken fs pid e = sound_else (is_among pid (pids_of fs)) fs pid e refl
 
@@ -148,6 +148,6 @@ sound_all : (fs : List Frame) (ns : List ℕ) → ((pid : ℕ) → is_broken (in
 sound_all fs [] h = refl
 sound_all fs (n ∷ ns) h = rw (h n) (sound_all fs ns h)
 
--- and where no pid has it, it isn't found
+-- and if no pid has it, it isn't found
 pub not_broken : (fs : List Frame) → ((pid : ℕ) → is_broken (in_log fs pid) ≡ false) → broken_in fs ≡ None
 not_broken fs h = sound_all fs (pids_of fs) h

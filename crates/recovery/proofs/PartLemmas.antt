@@ -1,4 +1,4 @@
--- What begins with the last element that passes a test.
+-- The part of a list from the last element on that passes a test.
 use Rattle.std.specs.Prelude.{◌≡◌, Bool, true, false, cond, not, ◌&&◌, ◌||◌, ⊤, List, [], ◌∷◌, ◌++◌, map}
 use Rattle.std.proofs.Common.{refl, sym, ap, ◌∙◌}
 use Rattle.std.proofs.lemmas.Bool.{or_parts, or_right}
@@ -12,7 +12,7 @@ module _ {X : Type 0} (test : X → Bool) where
   step_by true false x xs rest e = absurd (cc)
   step_by false c x xs rest e = refl
 
-  -- where one passes after a first one, that one doesn't count
+  -- if one passes after a first one, that one doesn't count
   pub from_last-step : (x : X) (xs : List X) → list_any test xs ≡ true → from_last test (x ∷ xs) ≡ from_last test xs
   from_last-step x xs e = step_by (test x) (list_any test xs) x xs (from_last test xs) e
 
@@ -20,12 +20,12 @@ module _ {X : Type 0} (test : X → Bool) where
   none_by true c x xs rest e = absurd (cc)
   none_by false c x xs rest e = refl
 
-  -- where none passes, there is nothing
+  -- if none passes, there is nothing
   pub from_last-none : (xs : List X) → list_any test xs ≡ false → from_last test xs ≡ []
   from_last-none [] e = refl
   from_last-none (x ∷ xs) e = none_by (test x) (list_any test xs) x xs (from_last test xs) e ∙ from_last-none xs (or_parts (test x) (list_any test xs) e).1
 
-  -- where one passes in the second part, the first part doesn't count
+  -- if one passes in the second part, the first part doesn't count
   pub from_last-following : (xs ys : List X) → list_any test ys ≡ true → from_last test (xs ++ ys) ≡ from_last test ys
   from_last-following [] ys e = refl
   from_last-following (x ∷ xs) ys e =
@@ -36,7 +36,7 @@ module _ {X : Type 0} (test : X → Bool) where
   first_by true false x xs rest e f = refl
   first_by false c x xs rest e f = absurd (cc)
 
-  -- a first one that passes, where none passes after it
+  -- a first one that passes, if none passes after it
   pub from_last-first : (x : X) (xs : List X) → test x ≡ true → list_any test xs ≡ false → from_last test (x ∷ xs) ≡ x ∷ xs
   from_last-first x xs e f = first_by (test x) (list_any test xs) x xs (from_last test xs) e f
 
@@ -66,7 +66,7 @@ module _ {X : Type 0} (test : X → Bool) where
   pub none-append : (xs ys : List X) → list_any test xs ≡ false → list_any test ys ≡ false → list_any test (xs ++ ys) ≡ false
   none-append xs ys e f = list_any-append test xs ys ∙ or_false (list_any test xs) (list_any test ys) f ∙ e
 
-  -- the part has one that passes exactly where the whole has
+  -- the part has one that passes if and only if the whole has
   some_by : (b c : Bool) (x : X) (xs rest : List X) → (b || c) ≡ true → (c ≡ true → list_any test rest ≡ true) → test x ≡ b → list_any test (cond (b && not c) (x ∷ xs) rest) ≡ true
   some_by true true x xs rest h f e = f refl
   some_by true false x xs rest h f e = ap (λ (b : Bool). b || list_any test xs) e

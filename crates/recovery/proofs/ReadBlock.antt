@@ -1,4 +1,4 @@
--- What is read of the settings block.
+-- Reading the settings block.
 use Rattle.std.specs.Prelude.{◌≡◌, ℕ, ◌<◌, ◌≤◌, nat_le, if◌then◌else◌, Bool, List, length, take, Option, Some, None, Result, Ok, Err}
 use Rattle.std.proofs.Common.{sym, ap, subst, ◌∙◌, arith, le-leb}
 use Rattle.std.proofs.lemmas.Bool.{lt-leb}

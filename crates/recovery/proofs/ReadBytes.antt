@@ -1,4 +1,4 @@
--- Bytes that a reading of a disk may have found.
+-- Bytes that a reading of a disk may find.
 use Rattle.std.specs.Prelude.{◌≡◌, ◌≢◌, ◌⊎◌, ℕ, Bool, true, false, IsTrue, List, replicate, Result, Ok, Err, IsErr, IsErrAnd, IfOk, IfErr, OnOk, MatchResult}
 use Rattle.std.proofs.Common.{refl, sym, subst, ◌∙◌, inl}
 use Rattle.std.proofs.lemmas.Bool.{false≢true}
@@ -10,7 +10,7 @@ use Rattle.recovery.specs.Recovered.{IsReadOf, IsLate}
 
 -- ---- the first
 
--- there are such bytes: what a read gives where the disk is honest, else any
+-- there are such bytes: the readable contents if the disk is honest, else any
 pub first_read : (v : View) → (IsTrue v.is_honest → Lawful v) → (file : List ℕ) × IsReadOf v file
 first_read v law = of v.is_honest refl
   where
@@ -40,9 +40,9 @@ same_then a b c ab bc = record {
   left_since = λ t x. (λ h. (ab.left_since t x).0 ((bc.left_since t x).0 h), λ h. (bc.left_since t x).1 ((ab.left_since t x).1 h));
 }
 
--- ---- what is decided
+-- ---- decided faults
 
--- what the bytes decide, or a late fault
+-- the fault that the bytes decide, or a late one
 abbrev pub IsReadOrLate : {X : Type 0} → Result X Fault → (Fault → Type 0) → Result X Fault → Type 0
 IsReadOrLate state Late result = MatchResult result (λ x. state ≡ Ok x) (λ fault. (state ≡ Err fault) ⊎ Late fault)
 
@@ -73,7 +73,7 @@ pub handed_on : {X : Type 0} (r : Result X Fault) (P : X → Type 0) (Q : Fault 
 handed_on (Ok x) P Q fault is h = absurd is
 handed_on (Err f) P Q fault is h = subst Q (sym is) h
 
--- one that was late stays so, where no read had failed before
+-- one that was late stays so, if no read had failed before
 pub late_since : (old mid new : ℕ) (fault : Fault) → mid ≡ old → IsLate mid new fault → IsLate old new fault
 late_since old mid new fault same h = subst (λ (n : ℕ). IsLate n new fault) same h
 
@@ -117,7 +117,7 @@ pub counted_by : {X : Type 0} (r : Result X Fault) (old new : ℕ) → new ≡ o
 counted_by (Ok x) old new same = same
 counted_by (Err fault) old new same = tt
 
--- where memory alone can be refused, an error is late
+-- if only an allocation can fail, an error is late
 pub late_by_memory : {X : Type 0} (r : Result X Fault) (old new : ℕ) → IfErr r (λ fault. fault ≡ NoMemory) → IfErr r (IsLate old new)
 late_by_memory (Ok x) old new refused = tt
 late_by_memory (Err fault) old new refused = inl refused

@@ -1,4 +1,4 @@
--- What is read of the segments, one after the other.
+-- Reading the segments, one after the other.
 use Rattle.std.specs.Prelude.{◌≡◌, ℕ, suc, ◌+◌, ◌-◌, ◌*◌, ◌<◌, ◌≤◌, List, [], ◌∷◌, ◌++◌, map, length, take, drop, None, Result, Ok, OnOk}
 use Rattle.std.proofs.Common.{refl, sym, ap, subst, ◌∙◌, inl, arith}
 use Rattle.std.proofs.lemmas.List.{map-append, take-take}
@@ -38,11 +38,11 @@ module _ (g : Format) (good : first_bad_field g.settings ≡ None) (file buf : L
   fits : place_of_segment g.settings n + length buf ≤ length file
   fits = let room = place-within g.settings n some_segments in omega (arith, room, whole, part)
 
-  -- what is in front of the segments stays
+  -- what is before the segments stays
   pub part-front : take segments_begin with_part ≡ take segments_begin file
   part-front = let at = fits in part-beside file buf 0 (place_of_segment g.settings n) 512 (omega (arith, at)) (inl (omega arith))
 
-  -- and so do the segments of the log in front of it
+  -- and so do the segments of the log before it
   pub part-earlier : (head k : ℕ) → n ≡ head + k → k < g.settings.segments → read_earlier g with_part head k ≡ read_earlier g file head k
   part-earlier head k is few =
       earlier-same g file with_part head k (λ m less.
@@ -50,7 +50,7 @@ module _ (g : Format) (good : first_bad_field g.settings ≡ None) (file buf : L
       let at = fits in
       part-beside file buf (place_of_segment g.settings (head + m)) (place_of_segment g.settings n) g.settings.seg_size (omega (arith, at)) (grind (arith, apart, part)))
 
-  -- the part is as it was read
+  -- the part is read as before
   pub part-read : take (length buf) (segment_bytes g.settings with_part n) ≡ buf
   part-read = take-take (length buf) g.settings.seg_size (drop (place_of_segment g.settings n) with_part) part ∙ overlay-part file (place_of_segment g.settings n) buf fits
 
@@ -59,7 +59,7 @@ module _ (g : Format) (good : first_bad_field g.settings ≡ None) (file buf : L
 
 -- ---- all of them
 
--- bytes whose k segments from the head on were read, by what has taken what they hold; in front of the segments they are as these
+-- bytes whose k segments from the head on were read, by what has taken what they hold; before the segments they are as these
 pub record AreReadUpto (Has : ReadResult → Type 0) (v : View) (g : Format) (head k : ℕ) (file now : List ℕ) : Type 0 where
   pub bytes : IsReadOf v now
   pub front : take segments_begin now ≡ take segments_begin file
@@ -169,7 +169,7 @@ last-taken r Has state whole same h = subst (λ (t : ReadResult). OnOk r (Has t)
 pub in_use : (s : Settings) (tail last size : ℕ) → last ≡ last_segment s tail → size ≡ s.seg_size → tail - last * size ≡ bytes_in_use s tail
 in_use s tail last size at all = ap (λ (n : ℕ). tail - last * n) all ∙ ap (λ (n : ℕ). tail - n * s.seg_size) at
 
--- the last segment in use is one of those from the head on, and begins in front of the tail
+-- the last segment in use is one of those from the head on, and begins before the tail
 pub record IsLast (s : Settings) (e : LogEnds) : Type 0 where
   pub from : e.head ≤ last_segment s e.tail
   pub free : last_segment s e.tail < e.head + s.segments
@@ -184,6 +184,6 @@ is_last s e good is =
     let at = split.is in
     record { from = split.from; free = is.last; begins = omega (arith, at); used = split.high }
 
--- what is left of a buffer, where one segment more is read
+-- the remaining part of a buffer, after one more segment is read
 pub one-left : (rest left n first size all : ℕ) → first ≤ n → rest + size ≡ left → left + (n - first) * size ≡ all → rest + (n + 1 - first) * size ≡ all
 one-left rest left n first size all from is h = let one : n + 1 - first ≡ (n - first) + 1 = omega (arith, from) in rw one (omega (arith, is, h))

@@ -1,4 +1,4 @@
--- What is read of the two slots.
+-- Reading the two slots.
 use Rattle.std.specs.Prelude.{◌≡◌, ℕ, ◌≤◌, true, List, ◌++◌, length, take, drop, replicate, Result, Ok, Err, IfOk}
 use Rattle.std.proofs.Common.{sym, ap, subst, ◌∙◌, inl, arith}
 use Rattle.std.proofs.lemmas.List.{take-take, take_all, drop_at, drop-drop, drop-take, length-replicate}
@@ -27,7 +27,7 @@ pub slot-good : (s : Settings) (disk : List ℕ) (r : Result Slot Fault) → r �
 slot-good s disk (Ok t) e = (slot-stands s t.sequence t disk (store_slot-read s disk t (sym e))).good
 slot-good s disk (Err fault) e = tt
 
--- once they are read, the settings are as they were, and the slots are these
+-- after they are read, the settings are unchanged, and the slots are these
 module _ (file slots : List ℕ) (room : 256 ≤ length file) (long : length slots ≡ 128) where
   pub slots-settings : store_settings (overlay file 128 slots) ≡ store_settings file
   slots-settings =

@@ -1,4 +1,4 @@
--- The store that a disk stands for is one as every store is.
+-- The store that a disk encodes satisfies the invariant of stores.
 use Rattle.std.specs.Prelude.{◌≡◌, ℕ, List, Result, Ok}
 use Rattle.std.proofs.Common.{sym, ap, ◌∙◌, subst}
 use Rattle.keys.specs.declared.fault.Fault.{Fault}

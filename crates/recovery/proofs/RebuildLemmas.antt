@@ -1,4 +1,4 @@
--- How a page is built of its frames, one after the other.
+-- Building a page from its frames, one after the other.
 use Rattle.std.specs.Prelude.{◌≡◌, ℕ, ◌-◌, ◌<◌, ◌≤◌, ◌==◌, Bool, true, false, List, [], ◌∷◌, ◌++◌, map, fold, length, take, drop, Option, Some, None, Result, Ok, Err}
 use Rattle.std.proofs.Common.{refl, sym, ap, ◌∙◌, arith, append_assoc}
 use Rattle.std.proofs.lemmas.Bool.{ne_eqb}
@@ -25,7 +25,7 @@ not_at_tail : (bs : Bytes) → 1 ≤ length bs → is_at_tail bs ≡ false
 not_at_tail [] h = absurd (omega (arith, h))
 not_at_tail (b ∷ bs) h = refl
 
--- where these were read of bytes and these are left, nothing is a page whatever is read of them
+-- if these frames were read from the bytes and these bytes remain, no continuation gives a page
 none_read : (fs : List Frame) (r : Result (List Frame) ℕ) → ((gs : List Frame) → page_in (page_from_start (said (fs ++ gs))) ≡ None) → page_in (page_from_start (said (all_or_none (with_front fs r)))) ≡ None
 none_read fs (Ok gs) none = ap (λ (x : Result (List Frame) ℕ). page_in (page_from_start (said (all_or_none x)))) (front fs) ∙ none gs
   where
@@ -68,7 +68,7 @@ module _ (s : Format) where
       → AreRead s is_at_tail long body (fs ++ f ∷ []) next
   one_more long body rest fs f next h more at = read-more s is_at_tail long body fs rest next f h more at.found at.less
 
-  -- of these bytes these are left, and the frames in front of them make this page
+  -- these bytes remain, and the frames before them form this page
   pub record IsDecidedUpto (bytes : Bytes) (p : PageOfKind) (rest : Bytes) : Type 0 where
     pub frames : List Frame
     pub read : AreRead s is_at_tail (length bytes) bytes frames rest
@@ -96,11 +96,11 @@ module _ (s : Format) where
   abbrev page_state : Result (List Frame) ℕ → Option PageOfKind
   page_state r = page_in (page_from_start (said (all_or_none r)))
 
-  -- no byte is left: that is the page
+  -- no byte remains: that is the page
   pub state-all : (bytes rest : Bytes) (p : PageOfKind) → IsDecidedUpto bytes p rest → is_at_tail rest ≡ true → Some p ≡ page_in (page_of_frames s bytes)
   state-all bytes rest p h e = sym (ap page_state (read-all s is_at_tail (length bytes) bytes h.frames rest h.read e) ∙ ap page_in h.state)
 
-  -- what is left begins with no frame
+  -- the remaining bytes begin with no frame
   pub state-other : (bytes rest : Bytes) (p : PageOfKind) → IsDecidedUpto bytes p rest → is_at_tail rest ≡ false → read_frame s rest ≡ None → None ≡ page_in (page_of_frames s bytes)
   state-other bytes rest p h e none = sym (ap page_state (read-broken s is_at_tail (length bytes) bytes h.frames rest h.read e none))
 

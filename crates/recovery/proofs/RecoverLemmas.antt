@@ -1,4 +1,4 @@
--- What a recovery comes to, by what is read of its disk part by part.
+-- The result of a recovery, from the parts that are read of its disk.
 use Rattle.std.specs.Prelude.{◌≡◌, ◌⊎◌, ℕ, ◌≤◌, List, length, take, Option, Some, None, Result, Ok, Err}
 use Rattle.std.proofs.Common.{sym, ap, ◌∙◌, inl, inr, arith}
 use Rattle.keys.specs.Bytes.{Bytes}
@@ -23,7 +23,7 @@ use Rattle.recovery.specs.declared.gather.Gathering.{Gathering}
 use Rattle.recovery.specs.declared.gather.Wanted.TheVariants.{Every}
 use Rattle.recovery.specs.declared.recovered.LogRead.{LogRead}
 
--- ---- what the bytes of a disk stand for
+-- ---- the store that the bytes of a disk encode
 
 abbrev found_store : Settings → Store → Result (Settings × Store) Fault
 found_store s st = Ok (s, st)
@@ -67,7 +67,7 @@ module _ (file : Bytes) (s : Settings) (settings : store_settings file ≡ Ok s)
       pub right_store : wrong_in s t (frames_in found) ≡ None → store_of_disk file ≡ Ok (s, store_after (tree_by_log t (frames_in found)) t)
       right_store e = by_finding ∙ ap (λ o. of_store s (of_finding s t found o)) e
 
--- bytes that were read after what stands in front of the segments have the same settings and the same slot
+-- bytes that were read after those before the segments have the same settings and the same slot
 pub in-front : (s : Settings) (file now : Bytes) (first old new : View) → disk_size s ≤ first.size → Kept first old → Kept old new → IsReadOf old file → IsReadOf new now
     → take segments_begin now ≡ take segments_begin file → (t : Slot) → store_settings file ≡ Ok s → store_slot s file ≡ Ok t → (store_settings now ≡ Ok s) × (store_slot s now ≡ Ok t)
 in-front s file now first old new within before kept was is front t settings slot =

@@ -1,4 +1,4 @@
--- How a segment's frames are read one by one.
+-- Reading a segment's frames one by one.
 use Rattle.std.proofs.Common.{◌≡◌, ℕ, zero, suc, ◌+◌, ◌-◌, ◌<◌, ◌≤◌, ◌==◌, ◌&&◌, nat_eq, Bool, true, false, List, [], ◌∷◌, ◌++◌, length, length-append, take, drop, map, Option, Some, None, Result, Ok, Err, MatchOption, IfSome, refl, sym, ap, subst, ◌∙◌, arith}
 use Rattle.std.specs.List.{list_all, starts_with}
 use Rattle.std.proofs.lemmas.Bool.{ne_eqb}
@@ -22,11 +22,11 @@ padding-zeros [] = refl
 padding-zeros (zero ∷ bytes) = padding-zeros bytes
 padding-zeros (suc b ∷ bytes) = ap (λ t. t && list_all (λ b. b == 0) bytes) (ne_eqb (suc b) 0 (λ e. cc))
 
--- what is left after the first n bytes
+-- the bytes after the first n
 pub left-following : (n : ℕ) (bytes : Bytes) → take (length bytes - n) (drop n bytes) ≡ drop n bytes
 left-following n bytes = ap (λ (k : ℕ). take k (drop n bytes)) (sym (length-drop n bytes)) ∙ take_all (length (drop n bytes)) (drop n bytes) (omega arith)
 
--- these frames in front of what is read
+-- these frames before what is read
 abbrev pub with_front : List Frame → Result (List Frame) ℕ → Result (List Frame) ℕ
 with_front [] r = r
 with_front (f ∷ fs) r = with_first f (with_front fs r)
@@ -51,7 +51,7 @@ front-err (f ∷ fs) left = ap (λ t. with_first f t) (front-err fs left)
 
 -- of a segment whose frames end so
 module _ (s : Format) (is_end : Bytes → Bool) where
-  -- what is read of bytes, with the limit `long`, where these frames were read and these bytes are left
+  -- the result of reading bytes, with the limit `long`, after these frames were read and while these bytes remain
   pub record AreRead (long : ℕ) (body : Bytes) (fs : List Frame) (rest : Bytes) : Type 0 where
     pub read : read_frames s is_end long body ≡ with_front fs (read_frames s is_end (long - length fs) rest)
     pub room : length fs + length rest ≤ long
@@ -73,12 +73,12 @@ module _ (s : Format) (is_end : Bytes → Bool) where
       → read_frames s is_end (suc most) rest ≡ with_first f (read_frames s is_end most following)
   goes_on most rest following f e some = rw e (rw some refl)
 
-  -- where they end, all were read
+  -- at their end, all were read
   pub read-all : (long : ℕ) (body : Bytes) (fs : List Frame) (rest : Bytes) → AreRead long body fs rest → is_end rest ≡ true
       → read_frames s is_end long body ≡ all_read fs
   read-all long body fs rest h e = h.read ∙ ap (λ r. with_front fs r) (at_end (long - length fs) rest e) ∙ front-ok fs
 
-  -- where there is neither a frame nor the end, this many bytes are left
+  -- if there is neither a frame nor the end, this many bytes remain
   pub read-broken : (long : ℕ) (body : Bytes) (fs : List Frame) (rest : Bytes) → AreRead long body fs rest → is_end rest ≡ false → read_frame s rest ≡ None
       → read_frames s is_end long body ≡ none_at (length rest)
   read-broken long body fs rest h e none = h.read ∙ ap (λ r. with_front fs r) (broken (long - length fs) rest e none) ∙ front-err fs (length rest)
@@ -129,7 +129,7 @@ module _ (s : Format) (rest : Bytes) where
   pub state-some : (state : Option Skimmed) (k : Skimmed) → state ≡ Some k → IsDecidedOf state → IsFrame k
   state-some state k e h = state_by k (subst (λ (o : Option Skimmed). IsDecidedOf o) e h)
 
--- there is less left then
+-- fewer bytes remain then
 pub less-left : (s : Format) (rest : Bytes) (state : Skimmed) (size : ℕ) → size ≡ state.size → IsFrame s rest state → length (take (length rest - size) (drop size rest)) < length rest
 less-left s rest state size same_size f =
     let same = ap (λ (bs : Bytes). length bs) (ap (λ (m : ℕ). take (length rest - m) (drop m rest)) same_size ∙ left-following state.size rest) in
@@ -138,7 +138,7 @@ less-left s rest state size same_size f =
 
 -- ---- the frames of a segment, as they are held
 
--- of segment n, which ends so, these bytes are left, and these items stand for the frames in front of them
+-- these bytes of segment n, with this kind of end, remain, and these items represent the frames before them
 pub record IsUpto (s : Format) (is_end : Bytes → Bool) (long n : ℕ) (body : Bytes) (items : List ScannedFrame) (rest : Bytes) : Type 0 where
   pub frames : List Frame
   pub read : AreRead s is_end long body frames rest
@@ -151,7 +151,7 @@ held-same : (n p q : ℕ) (a b : FrameKind) (x y : Bytes) → p ≡ q → a ≡ 
 held-same n p q a b x y pid kind bytes = ap (λ (m : ℕ). held n m a x) pid ∙ ap (λ (k : FrameKind). held n q k x) kind ∙ ap (λ (bs : Bytes). held n q b bs) bytes
 
 module _ (s : Format) (is_end : Bytes → Bool) (long n : ℕ) (body : Bytes) where
-  -- in the words of the code, where nothing was read
+  -- in the words of the code, if nothing was read
   pub upto-none : (items : List ScannedFrame) (bytes : Bytes) → items ≡ [] → body ≡ drop 16 bytes → length bytes ≤ long
       → IsUpto s is_end long n body items (take (length bytes - 16) (drop 16 bytes))
   upto-none items bytes none is fits =

@@ -1,4 +1,4 @@
--- What is found of a log, one segment more at a time.
+-- What is found of a log, after one more segment at a time.
 use Rattle.std.specs.Prelude.{◌≡◌, ℕ, true, false, List, [], ◌∷◌, ◌++◌, map, fold, Option, Some, None, is_some, Result, Ok, Err, MatchResult, Vec, ◌⊎◌}
 use Rattle.std.specs.declared.alloc.Global.{Global}
 use Rattle.std.proofs.Common.{refl, sym, ap, ◌∙◌, subst, inl, append_assoc, append-nil}
@@ -51,7 +51,7 @@ said hs = Ok hs
 abbrev none_said : Fault → Said
 none_said fault = Err fault
 
--- of segment n, or of more, which hold all this, these frames are left, and those in front of them are kept
+-- these frames of segment n, or of several, remain, and those before them are retained
 pub record AreAfter (w : Wanted) (gathering : Gathering) (n : ℕ) (every : List Found) (left : List ScannedFrame) : Type 0 where
   pub front : List Found
   pub more : List Found
@@ -103,7 +103,7 @@ err_of : (fault : Fault) (r : ReadResult) → said_of r ≡ none_said fault → 
 err_of fault (Ok more) e = absurd (cc)
 err_of fault (Err other) e = let is : other ≡ fault = cc in ap broken is
 
--- of segments that all together hold this, these scans are left
+-- these scans of segments remain
 pub record AreLeft (w : Wanted) (gathering : Gathering) (o : Option Fault) (every : ReadResult) (left : List ScanDone) : Type 0 where
   pub so_far : ReadResult
   pub read : List ReadResult
@@ -151,7 +151,7 @@ module _ (w : Wanted) (gathering : Gathering) (o : Option Fault) (every : ReadRe
       let one = err_of fault f.one (f.state ∙ ap (λ r. frames_held d.segment.number r) err) in
       sym f.all ∙ ap (λ (t : ReadResult). fold followed_by t f.following) (ap (λ (t : ReadResult). followed_by t f.one) state ∙ ap (λ (t : ReadResult). followed_by (all found) t) one) ∙ broken-stays fault f.following
 
--- where none is left
+-- if none remains
 pub left-none : (w : Wanted) (gathering : Gathering) (o : Option Fault) (every : ReadResult) (left : List ScanDone) → left ≡ [] → AreLeft w gathering o every left → IsSoFar w gathering o every
 left-none w gathering o every left none h = of h.read h.all (h.same ∙ ap (λ (ds : List ScanDone). map said_by_scan ds) none)
   where

@@ -1,4 +1,4 @@
--- What contents say of a page: those that a flush writes of it, after what the log had.
+-- The page that contents determine: those that a flush writes, after those in the log.
 use Rattle.std.specs.Prelude.{◌≡◌, ℕ, Bool, true, false, ◌||◌, List, [], ◌∷◌, ◌++◌, map, reverse, length, drop, zero, suc, fold, Option, Some}
 use Rattle.std.proofs.Common.{refl, sym, ap, ◌∙◌}
 use Rattle.std.specs.List.{list_any}
@@ -91,9 +91,9 @@ fold-newer k (Index x) (Index p) h = fold_newer (λ q. Index q) (λ run. DeltaIn
 fold-newer k (Leaf x) (Index p) h = absurd h.1
 fold-newer k (Index x) (Leaf p) h = absurd h.1
 
--- ---- what stands after what the log had
+-- ---- the page after the new frames of a commit follow those in the log
 
--- the whole page, whatever stands before it
+-- the whole page, whatever comes before it
 pub page-whole : (spelling : Spelling) (cs : List Content) (p : PageOfKind) → page_by_log (cs ++ whole_page spelling p) ≡ Present p
 page-whole spelling cs p = ap page_from_start (from_last-at is_start cs (base_content spelling p) (run_contents p) (base_starts spelling p) (no_runs_start p)) ∙ state-whole spelling p
 

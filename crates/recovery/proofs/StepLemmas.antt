@@ -1,4 +1,4 @@
--- A store whose log has every page as it is; and trees that keep what their log has.
+-- A store whose log contains every page with all its runs; and trees that keep the log states.
 use Rattle.std.specs.Prelude.{◌≡◌, ◌↔◌, ℕ, Bool, true, false, cond, List, [], ◌∷◌, ◌++◌, Option, Some, None}
 use Rattle.std.proofs.Common.{refl, sym, ap, ◌∙◌, append_assoc}
 use Rattle.std.specs.Ordering.{nat_cmp, is_eq}
@@ -13,7 +13,7 @@ use Rattle.flush_log.specs.FlushText.{logged_whole, tree_in_log}
 use Rattle.flush_log.specs.Slot.{Slot}
 use Rattle.recovery.specs.InStep.{IsLogged, AreInStep, KeepsLogged}
 
--- ---- a store that is what its disk stands for
+-- ---- a store that equals the one that its disk encodes
 
 -- what the log has of a page that it has as it is
 abbrev pub whole_of : Option PageOfKind → Logged
@@ -40,7 +40,7 @@ upto_whole : (o : Option PageOfKind) (k : ℕ) → whole_of o ≡ Upto k → IsL
 upto_whole None k e = absurd (cc)
 upto_whole (Some p) k e = (cc, over_itself p)
 
--- a store that a disk stands for is in step with itself
+-- a store that a disk encodes is in step with itself
 pub itself-in_step : (ps : List (ℕ × PageOfKind)) (root height : ℕ) (t : Slot) → AreInStep (store_after (tree_in_log ps root height) t) (store_after (tree_in_log ps root height) t)
 itself-in_step ps root height t = record {
   head = refl;

@@ -1,4 +1,4 @@
--- A disk stands for a store by what is read of it: its settings, its slot and its log.
+-- The store that a disk encodes is determined by its settings, its slot and its log.
 use Rattle.std.specs.Prelude.{◌≡◌, ℕ, List, Option, Some, None, Result, Ok, Err}
 use Rattle.std.proofs.Common.{refl, sym, ap, ◌∙◌, subst}
 use Rattle.keys.specs.declared.settings.Settings.{Settings}
@@ -19,7 +19,7 @@ pub record Reads (s : Settings) (file : List ℕ) (t : Slot) (found : List Found
   pub slot : store_slot s file ≡ Ok t
   pub log : log s file t ≡ Ok found
 
--- a disk stands for this store by this slot and these frames
+-- the disk encodes this store, with this slot and these frames
 pub record StandsBy (s : Settings) (file : List ℕ) (on_disk : Store) : Type 0 where
   pub slot : Slot
   pub found : List Found

@@ -35,7 +35,7 @@ module _ {P : Type 0} where
 pub pids-known : (t : TreeInMemory) → AreAllHome t → pids_to_write (tree_of t) ≡ pids_in_use_or_old t.table
 pids-known t home = ap (λ (ns : List ℕ). with_numbers (keys_of (filter (λ l. is_old l.1) t.table.logged)) ns) (keys-home t.table.places home)
 
--- ---- an empty text
+-- ---- nothing to write
 
 both_empty : {X : Type 0} → (xs ys : List X) → xs ++ ys ≡ [] → (xs ≡ []) × (ys ≡ [])
 both_empty [] ys e = (refl, e)

@@ -1,4 +1,4 @@
--- What a flush or an upgrade writes of each pid, and what the log then says of it.
+-- The frames that a flush or an upgrade writes for each pid, and the page that the log then determines.
 use Rattle.std.specs.Prelude.{◌≡◌, ℕ, Bool, true, false, cond, ◌||◌, nat_eq, List, [], ◌∷◌, ◌++◌, flat_map, Option, Some, None, is_some}
 use Rattle.std.proofs.Common.{refl, sym, ap, ◌∙◌, subst}
 use Rattle.std.specs.List.{AllByRecursion, filter}
@@ -29,7 +29,7 @@ use Rattle.recovery.specs.PageByLog.InLog.{Missing, Present, Broken}
 use Rattle.recovery.proofs.PagesLemmas.{contents-append, page_at-pages_of, rising-pages_of, none_broken, not_broken}
 use Rattle.recovery.proofs.StateLemmas.{page-whole, page-free, page-newer}
 
--- ---- the text of each pid
+-- ---- the frames of each pid
 
 own_by : (b : Bool) (n pid : ℕ) (cs : List Content) → nat_eq n pid ≡ b → contents_of pid (frames_of n cs) ≡ cond b cs []
 own_by true n pid [] e = refl
@@ -64,7 +64,7 @@ module _ (g : ℕ → List Frame) (due : ℕ → List Content) (own : (n pid : �
       ∙ ap (λ (cs : List Content). cs ++ contents_of pid (flat_map g ns)) (own n pid)
       ∙ text_by (nat_eq pid n) n pid ns refl (none_above n ns r.0) (made-under ns pid r.1)
 
--- ---- what the log has, as a text takes it
+-- ---- the log states, as a commit treats them
 
 pub true_by : (b : Bool) (pages : List (ℕ × PageOfKind)) (n pid : ℕ) (here : Logged) (rest : Option Logged) (l : Logged) → is_eq (nat_cmp pid n) ≡ b → IsTrueOf (page_at pages n) here → (rest ≡ Some l → IsTrueOf (page_at pages pid) l)
     → cond b (Some here) rest ≡ Some l → IsTrueOf (page_at pages pid) l
@@ -91,7 +91,7 @@ taken-upto Upgrade No k e = absurd (cc)
 taken-upto Upgrade Old k e = absurd (cc)
 taken-upto Upgrade (Upto n) k e = absurd (cc)
 
--- ---- the text of a tree
+-- ---- the frames of a tree
 
 module _ (text : Text) (t : Tree) where
   abbrev own : Spelling
@@ -107,7 +107,7 @@ module _ (text : Text) (t : Tree) where
   none_by None e = refl
   none_by (Some v) e = absurd (cc)
 
-  -- of a pid without a page nothing is due, where the log has none either
+  -- of a pid without a page nothing is due, if the log has none either
   nothing_due : (taker : Text) (listed : Option Logged) → ((l : Logged) → listed ≡ Some l → IsTrueOf None l) → is_old (or_no listed) ≡ false → lacking own None (taken taker (or_no listed)) ≡ []
   nothing_due (Flush version) None true_of e = refl
   nothing_due Upgrade None true_of e = refl
@@ -126,13 +126,13 @@ module _ (text : Text) (t : Tree) where
         let true_of : (l : Logged) → listed_at t.logged pid ≡ Some l → IsTrueOf None l = λ l h. subst (λ (o : Option PageOfKind). IsTrueOf o l) none (true_at t.pages t.logged pid l logs.each h) in
         sym (ap (λ (o : Option PageOfKind). lacking own o (taken text (logged_of t pid))) none ∙ nothing_due text (listed_at t.logged pid) true_of old)
 
-    -- of each pid the text has what the log lacks
+    -- for each pid, a commit has the frames that the log lacks
     pub text-of_pid : (pid : ℕ) → contents_of pid (text_of text t) ≡ due pid
     text-of_pid pid =
         text-under (pids_to_write t) pid (rising-with_numbers (keys_of (filter (λ l. is_old l.1) t.logged)) (keys_of t.pages) pages)
         ∙ else_due (is_among pid (pids_to_write t)) pid refl
 
--- ---- the log with the text after it
+-- ---- the log with the new frames after it
 
 -- a page, or none, as a log says it
 abbrev pub as_read : Option PageOfKind → InLog

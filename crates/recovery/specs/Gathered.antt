@@ -1,4 +1,4 @@
--- What is kept of each page while a log is read: the state after its frames, and the bytes of those that are wanted.
+-- What is retained of each page while a log is read: the state after its frames, and the bytes of the wanted frames.
 use Rattle.std.specs.Prelude.{◌≡◌, ℕ, ◌+◌, ◌-◌, ◌^◌, min, Bool, true, false, ◌&&◌, nat_eq, nat_lt, if◌then◌else◌, List, [], ◌∷◌, ◌++◌, length, map, flat_map, Option, Some, None, is_some, Result, Ok, Err}
 use Rattle.std.specs.BTreeMap.{BTreeMap, get}
 use Rattle.std.specs.List.{AllByRecursion, filter}
@@ -27,7 +27,7 @@ use Rattle.recovery.specs.declared.gather.Wanted.TheVariants.{Every, Before}
 
 -- ---- the frames of a page
 
--- of a pid's frames the live ones, which make its page: from the last base or free frame on
+-- the live frames of a pid, which determine its page: those from the last base or free frame on
 abbrev pub live_frames : ℕ → List Found → List Found
 live_frames pid found = from_last (λ f. is_start f.frame.content) (filter (λ f. nat_eq f.frame.pid pid) found)
 
@@ -35,32 +35,32 @@ live_frames pid found = from_last (λ f. is_start f.frame.content) (filter (λ f
 abbrev pub contents_in : List Found → List Content
 contents_in fs = map (λ f. f.frame.content) fs
 
--- the segment of the first of these frames; 0 if there are none
+-- the segment of the first of these frames, or 0 if there are none
 abbrev pub first_segment : List Found → ℕ
 first_segment [] = 0
 first_segment (f ∷ fs) = f.segment
 
--- whether the frames of a page whose base is in this segment are wanted
+-- whether frames are wanted of a page whose base is in this segment
 abbrev pub is_wanted_in : Wanted → ℕ → Bool
 is_wanted_in Every n = true
 is_wanted_in (Before end) n = nat_lt n end
 
--- of a page's live frames those that are kept: all of them, where the first is a base that is wanted
+-- the retained frames of a page with these live frames: all of them, if the first one is a base that is wanted
 abbrev pub wanted_of : Wanted → List Found → List Frame
 wanted_of w [] = []
 wanted_of w (f ∷ fs) = if is_wanted_in w f.segment && is_base f.frame.content then frames_in (f ∷ fs) else []
 
--- the bytes of frames, back to back
+-- the concatenated encodings of frames
 abbrev pub spelled : List Frame → Bytes
 spelled fs = flat_map bytes_of fs
 
--- the bytes of a page's live frames if the first is a base, else 0; at most the greatest number of 64 bits
+-- the size in bytes of a page's live frames if the first is a base, else 0; capped at the greatest 64-bit number
 abbrev pub live_size : List Found → ℕ
 live_size fs = min (length (spelled (wanted_of Every fs))) (2 ^ 64 - 1)
 
 -- ---- one page
 
--- the state of a page whose contents are these, from its last base or free frame on
+-- the state of a page with these contents, from its last base or free frame on
 abbrev pub IsStateOf : PageState → List Content → Type 0
 IsStateOf state.Nothing cs = cs ≡ []
 IsStateOf state.Leaf cs = (p : Page Bytes) × (page_from_start cs ≡ Present (Leaf p))
@@ -68,16 +68,16 @@ IsStateOf state.Index cs = (p : Page ℕ) × (page_from_start cs ≡ Present (In
 IsStateOf state.Free cs = cs ≡ Free ∷ []
 IsStateOf state.Unfit cs = page_from_start cs ≡ Broken
 
--- what is kept of a page with these live frames
+-- what is retained of a page with these live frames
 pub record IsKept (w : Wanted) (k : Kept) (fs : List Found) : Type 0 where
   pub state : IsStateOf k.state (contents_in fs)
   pub segment : k.segment ≡ first_segment fs
   pub size : k.size ≡ live_size fs
   pub frames : k.frames.items ≡ spelled (wanted_of w fs)
 
--- ---- one frame more
+-- ---- one more frame
 
--- the state of a page with a run of a leaf after it
+-- the state of a page after a run of a leaf
 abbrev pub with_leaf_run : PageState → PageState
 with_leaf_run state.Nothing = state.Nothing
 with_leaf_run state.Leaf = state.Leaf
@@ -85,7 +85,7 @@ with_leaf_run state.Index = state.Unfit
 with_leaf_run state.Free = state.Unfit
 with_leaf_run state.Unfit = state.Unfit
 
--- and with a run of an index page
+-- the state after a run of an index page
 abbrev pub with_index_run : PageState → PageState
 with_index_run state.Nothing = state.Nothing
 with_index_run state.Leaf = state.Unfit
@@ -93,7 +93,7 @@ with_index_run state.Index = state.Index
 with_index_run state.Free = state.Unfit
 with_index_run state.Unfit = state.Unfit
 
--- and with any frame
+-- the state after a frame of any kind
 abbrev pub state_after : PageState → FrameKind → PageState
 state_after t kinds.FullLeaf = state.Leaf
 state_after t kinds.DeltaLeaf = with_leaf_run t
@@ -101,7 +101,7 @@ state_after t kinds.FullIndex = state.Index
 state_after t kinds.DeltaIndex = with_index_run t
 state_after t kinds.Free = state.Free
 
--- the segment of the page's last base or free frame, after one more frame
+-- the segment of the page's last base or free frame after one more frame
 abbrev pub segment_after : ℕ → FrameKind → ℕ → ℕ
 segment_after last kinds.FullLeaf n = n
 segment_after last kinds.DeltaLeaf n = last
@@ -109,11 +109,11 @@ segment_after last kinds.FullIndex n = n
 segment_after last kinds.DeltaIndex n = last
 segment_after last kinds.Free n = n
 
--- the bytes of a page's frames with those of a run after them: where there are none, the run doesn't count
+-- the size of a page's frames after one more run, which does not count if there is no base
 abbrev pub run_size : ℕ → ℕ → ℕ
 run_size n more = if nat_eq n 0 then 0 else min (n + more) (2 ^ 64 - 1)
 
--- and with any frame
+-- the size after a frame of any kind
 abbrev pub size_after : ℕ → FrameKind → ℕ → ℕ
 size_after n kinds.FullLeaf more = min more (2 ^ 64 - 1)
 size_after n kinds.DeltaLeaf more = run_size n more
@@ -121,16 +121,16 @@ size_after n kinds.FullIndex more = min more (2 ^ 64 - 1)
 size_after n kinds.DeltaIndex more = run_size n more
 size_after n kinds.Free more = 0
 
--- the frames that are kept with a base: that alone, where it is wanted
+-- the retained frames after a base: only the base, if it is wanted
 abbrev pub with_base : Bool → Bytes → Bytes
 with_base is_wanted frame = if is_wanted then frame else []
 
--- and with a run after them: where there are none, the run isn't kept
+-- the retained frames after a run, which is not retained if there are none
 abbrev pub with_run : Bytes → Bytes → Bytes
 with_run [] frame = []
 with_run (b ∷ bytes) frame = (b ∷ bytes) ++ frame
 
--- and with any frame
+-- the retained frames after a frame of any kind
 abbrev pub kept_with : Bytes → FrameKind → Bool → Bytes → Bytes
 kept_with frames kinds.FullLeaf is_wanted frame = with_base is_wanted frame
 kept_with frames kinds.DeltaLeaf is_wanted frame = with_run frames frame
@@ -140,39 +140,39 @@ kept_with frames kinds.Free is_wanted frame = []
 
 -- ---- all pages
 
--- what is kept under a pid whose live frames these are
+-- what is retained under a pid with these live frames
 abbrev pub IsKeptOf : Wanted → Option Kept → List Found → Type 0
 IsKeptOf w None fs = fs ≡ []
 IsKeptOf w (Some k) fs = IsKept w k fs
 
--- Of what was found so far, under each pid what is kept of its page; and each pid with a frame that was found is known to have one.
+-- under each pid, what is retained of its page after the frames so far; and each pid of a frame so far has an entry
 pub record AreKept (w : Wanted) (by_pid : BTreeMap ℕ Kept) (found : List Found) : Type 0 where
   pub each : (pid : ℕ) → IsKeptOf w (get nat_cmp by_pid pid) (live_frames pid found)
   pub pids : (pid : ℕ) → is_some (get nat_cmp by_pid pid) ≡ is_among pid (map (λ f. f.frame.pid) found)
 
--- what is kept of the pages is the state after these frames, and those that are wanted
+-- the gathering has the states and the retained frames after these frames
 pub record AreLive (w : Wanted) (g : Gathering) (found : List Found) : Type 0 where
   pub wanted : g.wanted ≡ w
   pub kept : AreKept w g.by_pid found
 
--- and they are frames that a log of this format may have
+-- and a log of this format may contain these frames
 pub record AreGathered (s : Format) (w : Wanted) (g : Gathering) (found : List Found) : Type 0 where
   pub live : AreLive w g found
   pub within : AllByRecursion (λ f. is_frame s f.frame ≡ true) found
 
--- what is kept of a log whose segments so far hold this: of its pages, as long as there is no fault; else the fault
+-- what is retained of a log whose segments so far have these contents: a gathering, as long as there is no fault; else the fault
 abbrev pub IsSoFar : Wanted → Gathering → Option Fault → Result (List Found) Fault → Type 0
 IsSoFar w g None t = (found : List Found) × (t ≡ Ok found) × AreLive w g found
 IsSoFar w g (Some fault) t = t ≡ Err fault
 
--- ---- what fits no page
+-- ---- frames that do not fit together
 
--- whether the frames of a page fit no page
+-- whether the frames of a page do not fit together
 abbrev pub is_unfit : PageState → Bool
 is_unfit state.Unfit = true
 is_unfit _ = false
 
--- the first of these pages whose frames do
+-- the first of these pages whose frames do not fit together
 abbrev pub first_unfit : List (ℕ × Kept) → Option Finding
 first_unfit [] = None
 first_unfit (e ∷ es) = if is_unfit e.1.state then Some (record { rule = 1; pid = e.0 }) else first_unfit es

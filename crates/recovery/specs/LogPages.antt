@@ -1,4 +1,4 @@
--- What the frames of a whole log say: the pages, or the first finding of a page by its log.
+-- The pages that the frames of a log determine, or the first page whose frames do not fit together.
 use Rattle.std.specs.Prelude.{ℕ, nat_eq, if◌then◌else◌, List, [], ◌∷◌, map, flat_map, Option, Some, None}
 use Rattle.std.specs.List.{filter}
 use Rattle.keys.specs.Bytes.{Bytes}
@@ -9,19 +9,19 @@ use Rattle.mapping.specs.Table.{with_numbers}
 use Rattle.frame_codec.specs.Frame.{Content, Frame}
 use Rattle.recovery.specs.PageByLog.{InLog, page_by_log, page_in, is_broken}
 
--- what the frames of a pid say, in their order
+-- the contents of a pid's frames, in order
 abbrev pub contents_of : ℕ → List Frame → List Content
 contents_of pid fs = map (λ f. f.content) (filter (λ f. nat_eq f.pid pid) fs)
 
--- what the log says of the page under a pid
+-- the page that the log determines under a pid
 abbrev pub in_log : List Frame → ℕ → InLog
 in_log fs pid = page_by_log (contents_of pid fs)
 
--- the pids of frames, each once, by rising number
+-- the pids of frames, each once, in rising order
 abbrev pub pids_of : List Frame → List ℕ
 pids_of fs = with_numbers (map (λ f. f.pid) fs) []
 
--- of these pids, those with a page, and their pages
+-- those of these pids that have a page, with their pages
 abbrev pub pages_under : List Frame → Bytes → List (ℕ × PageOfKind)
 pages_under fs pids = flat_map (λ pid. entry_if pid (page_in (in_log fs pid))) pids
 
@@ -29,7 +29,7 @@ pages_under fs pids = flat_map (λ pid. entry_if pid (page_in (in_log fs pid))) 
 abbrev pub pages_of : List Frame → List (ℕ × PageOfKind)
 pages_of fs = pages_under fs (pids_of fs)
 
--- of these pids, the first whose frames fit no page
+-- the first of these pids whose frames do not fit together
 abbrev pub broken_under : List Frame → Bytes → Option Finding
 broken_under fs [] = None
 broken_under fs (pid ∷ pids) = if is_broken (in_log fs pid) then Some (record { rule = 1; pid = pid }) else broken_under fs pids

@@ -1,4 +1,4 @@
--- Which bytes of a disk matter to the store that it stands for.
+-- Which bytes of a disk matter for the store that it encodes.
 use Rattle.std.specs.Prelude.{◌⊎◌, ℕ, ◌+◌, ◌<◌, ◌≤◌}
 use Rattle.keys.specs.declared.settings.Settings.{Settings}
 use Rattle.mapping.specs.Tree.{Store}

@@ -1,4 +1,4 @@
--- What the frames of one pid, in the order of the log, say of its page.
+-- The page that the frames of one pid determine, in the order of the log.
 use Rattle.std.specs.Prelude.{Bool, true, false, not, ◌&&◌, ◌||◌, if◌then◌else◌, List, [], ◌∷◌, fold, Option, Some, None, is_some}
 use Rattle.std.specs.List.{list_any}
 use Rattle.keys.specs.Bytes.{Changes}
@@ -7,7 +7,7 @@ use Rattle.index_page.specs.Page.PageOfKind.{Leaf, Index}
 use Rattle.frame_codec.specs.Frame.{Content}
 use Rattle.frame_codec.specs.Frame.Content.{FullLeaf, DeltaLeaf, FullIndex, DeltaIndex, Free}
 
--- the page that a base is by itself. A further kind of base is one more case.
+-- the page of a base by itself; a new kind of base needs a new case
 abbrev pub base_in : Content → Option PageOfKind
 base_in (FullLeaf spelling low base) = Some (Leaf (bare low base))
 base_in (DeltaLeaf run) = None
@@ -19,27 +19,27 @@ base_in Free = None
 abbrev pub is_base : Content → Bool
 is_base c = is_some (base_in c)
 
--- whether it says that there is no page
+-- whether it records that the page was freed
 abbrev pub is_free : Content → Bool
 is_free Free = true
 is_free _ = false
 
--- a base, or that there is no page: what stands before it no longer counts
+-- whether it is a base or a free frame: earlier contents no longer count
 abbrev pub is_start : Content → Bool
 is_start c = is_base c || is_free c
 
--- what begins with the last that passes the test; nothing where none does
+-- the list from the last item that passes the test on; empty if none does
 abbrev pub from_last : {X : Type 0} → (X → Bool) → List X → List X
 from_last test [] = []
 from_last test (x ∷ xs) = if test x && not (list_any test xs) then x ∷ xs else from_last test xs
 
--- what a log says of a page: there is none; there is this one; or a delta stands where it doesn't fit, which is finding 1
+-- what a log determines about a page: there is none; it is this one; or a run does not fit, which is finding 1
 pub data InLog : Type 0 where
   Missing : InLog
   Present : PageOfKind → InLog
   Broken : InLog
 
--- a page, or that there is none
+-- a page, or none
 abbrev pub present_or_missing : Option PageOfKind → InLog
 present_or_missing None = Missing
 present_or_missing (Some p) = Present p
@@ -48,22 +48,22 @@ present_or_missing (Some p) = Present p
 abbrev pub with_newer_run : {V : Type 0} → Page V → Changes V → Page V
 with_newer_run p run = record { low = p.low; layers = record { runs = run ∷ p.layers.runs; base = p.layers.base } }
 
--- what the first content says by itself
+-- the page after the first content
 abbrev pub begun_page : Content → InLog
 begun_page c = present_or_missing (base_in c)
 
--- and one more content after it: it has to be a delta of the page's kind
+-- the page after one more content, which must be a run for the page's kind
 abbrev pub continued : InLog → Content → InLog
 continued (Present (Leaf p)) (DeltaLeaf run) = Present (Leaf (with_newer_run p run))
 continued (Present (Index p)) (DeltaIndex run) = Present (Index (with_newer_run p run))
 continued _ _ = Broken
 
--- what contents say that begin with a base, or with there being no page
+-- the page after contents that begin with a base or a free frame
 abbrev pub page_from_start : List Content → InLog
 page_from_start [] = Missing
 page_from_start (c ∷ cs) = fold continued (begun_page c) cs
 
--- the page of a pid, by all its contents in order: what the part from the last base or free frame on says
+-- the page of a pid after all its contents: only those from the last base or free frame on count
 abbrev pub page_by_log : List Content → InLog
 page_by_log cs = page_from_start (from_last is_start cs)
 

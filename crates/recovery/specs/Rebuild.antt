@@ -1,4 +1,4 @@
--- What is made of a page's live frames, as they stand in the log.
+-- The page of a page's live frames, as they are in the log.
 use Rattle.std.specs.Prelude.{◌≡◌, ℕ, List, [], map, length, Option, Some, None, Result, Ok, Err}
 use Rattle.keys.specs.Bytes.{Bytes}
 use Rattle.index_page.specs.Page.{PageOfKind}
@@ -14,18 +14,18 @@ use Rattle.recovery.specs.declared.page_parts.PageParts.{PageParts}
 use Rattle.recovery.specs.declared.page_parts.PageParts.TheVariants.{Leaf, Index}
 use Rattle.recovery.specs.declared.rebuild.PageLog.{PageLog}
 
--- ---- the frames that bytes are
+-- ---- frames in bytes
 
--- all that were read, if nothing else was
+-- all frames that were read, if the bytes contain nothing else
 abbrev pub all_or_none : Result (List Frame) ℕ → List Frame
 all_or_none (Ok fs) = fs
 all_or_none (Err left) = []
 
--- the frames that these bytes are, back to back; none where they are not
+-- the frames whose concatenated encodings these bytes are, or none if they contain anything else
 abbrev pub frames_of_bytes : Format → Bytes → List Frame
 frames_of_bytes s bytes = all_or_none (read_frames s is_at_tail (length bytes) bytes)
 
--- what they say of a page
+-- the page that these frames determine
 abbrev pub page_of_frames : Format → Bytes → InLog
 page_of_frames s bytes = page_from_start (map (λ f. f.content) (frames_of_bytes s bytes))
 
@@ -39,9 +39,9 @@ pub record HeldLog : Type 0 where
 abbrev pub held_log : PageLog → HeldLog
 held_log log = record { pid = log.pid; frames = log.frames.items }
 
--- ---- on the way
+-- ---- intermediate states
 
--- what a frame of the code says
+-- the content of a frame in the code's form
 abbrev pub content_of : code.Frame → Content
 content_of f = (frame_of f).content
 
@@ -50,7 +50,7 @@ abbrev pub page_of_parts : PageParts → PageOfKind
 page_of_parts (Leaf low chain) = LeafPage (record { low = low; layers = chain })
 page_of_parts (Index low chain) = IndexPage (record { low = low; layers = chain })
 
--- what became of a page once this follows it: it has one more run, or it is none
+-- a page after this content: it has one more run, or the content does not fit
 abbrev pub IsPushed : PageOfKind → Content → Option PageParts → Type 0
 IsPushed p c None = continued (Present p) c ≡ Broken
 IsPushed p c (Some now) = continued (Present p) c ≡ Present (page_of_parts now)

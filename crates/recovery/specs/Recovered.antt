@@ -1,4 +1,4 @@
--- What a reading of a disk finds, whatever the disk does, and the store that is recovered of it.
+-- The bytes that a reading of a disk finds, whatever the disk does, and the store that is recovered from them.
 use Rattle.std.specs.Prelude.{◌≡◌, ◌⊎◌, ℕ, IsTrue, List, length, Ok}
 use Rattle.keys.specs.Bytes.{Bytes}
 use Rattle.keys.specs.declared.fault.Fault.{Fault}
@@ -15,16 +15,16 @@ use Rattle.recovery.specs.declared.gather.Wanted.TheVariants.{Every}
 use Rattle.recovery.specs.declared.recovered.LogRead.{LogRead}
 use Rattle.recovery.specs.declared.recovered.Recovered.{Recovered}
 
--- bytes that a reading of a disk may have found: as many as it has; and of an honest disk what a read gives
+-- bytes that a reading of the disk may find: as many as it has, and on an honest disk its contents
 pub record IsReadOf (v : View) (file : Bytes) : Type 0 where
   pub whole : length file ≡ v.size
   pub honest : IsTrue v.is_honest → file ≡ v.seen
 
--- a fault that the bytes of a disk don't decide: memory was refused, or a call of the disk failed
+-- a fault that the bytes of a disk do not determine: out of memory, or a failed disk call
 abbrev pub IsLate : ℕ → ℕ → Fault → Type 0
 IsLate old new fault = (fault ≡ NoMemory) ⊎ ((fault ≡ Device) × HasFailed old new)
 
--- the store that was recovered: its tree, and the numbers of its slot
+-- the recovered store: its tree, and the numbers of its slot
 abbrev pub store_recovered : Recovered → Store
 store_recovered r = store_after (tree_of r.tree) r.slot
 

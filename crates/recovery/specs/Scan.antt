@@ -1,4 +1,4 @@
--- What a scan of a segment gives.
+-- The result of scanning a segment.
 use Rattle.std.specs.Prelude.{ℕ, Bool, List, map, fold, Vec, Result, Ok, Err}
 use Rattle.keys.specs.Bytes.{Bytes}
 use Rattle.keys.specs.declared.fault.Fault.{Fault}
@@ -15,12 +15,12 @@ use Rattle.recovery.specs.declared.scan_segment.Segment.{Segment}
 
 -- ---- segments
 
--- whether the frames of a segment that ends so end where these bytes are left
+-- whether the frames of a segment with this kind of end are at their end before these bytes
 abbrev pub is_end_at : End → Bytes → Bool
 is_end_at Tail rest = is_at_tail rest
 is_end_at Padding rest = is_padding rest
 
--- a segment's number, where its frames end, and its bytes
+-- a segment's number, the kind of its end, and its bytes
 pub record HeldSegment : Type 0 where
   pub number : ℕ
   pub end : End
@@ -33,33 +33,33 @@ held_segment g = record { number = g.number; end = g.end; bytes = g.bytes.now }
 abbrev pub scanned : Format → HeldSegment → Result (List Found) Fault
 scanned s g = read_segment s (is_end_at g.end) g.number g.bytes
 
--- what was found, and then what these segments hold, one after the other; or the first fault
+-- the frames found before, followed by those of these segments in order; or the first fault
 abbrev pub scanned_after : Format → Result (List Found) Fault → List HeldSegment → Result (List Found) Fault
 scanned_after s state segments = fold followed_by state (map (scanned s) segments)
 
 -- ---- frames that are not decoded
 
--- of a frame the number of its segment, its page, its kind, and its bytes
+-- a frame that is not decoded: the number of its segment, its page, its kind, and its bytes
 pub record HeldFrame : Type 0 where
   pub segment : ℕ
   pub pid : ℕ
   pub kind : FrameKind
   pub bytes : Bytes
 
--- that of a frame that is found
+-- a found frame in this form
 abbrev pub said_of_frame : Found → HeldFrame
 said_of_frame f = record { segment = f.segment; pid = f.frame.pid; kind = kind_of f.frame.content; bytes = bytes_of f.frame }
 
--- and of all frames that are; or the fault
+-- all found frames in this form; or the fault
 abbrev pub said_of : Result (List Found) Fault → Result (List HeldFrame) Fault
 said_of (Ok found) = Ok (map said_of_frame found)
 said_of (Err fault) = Err fault
 
--- what a scan of segment n gave of a frame
+-- a scanned frame of segment n in this form
 abbrev pub held_frame : ℕ → ScannedFrame → HeldFrame
 held_frame n k = record { segment = n; pid = k.pid; kind = k.kind; bytes = k.bytes.now }
 
--- and of its frames, or the fault
+-- all scanned frames of segment n in this form, or the fault
 abbrev pub frames_held : {A : Type 0} → ℕ → Result (Vec ScannedFrame A) Fault → Result (List HeldFrame) Fault
 frames_held n (Ok frames) = Ok (map (held_frame n) frames.items)
 frames_held n (Err fault) = Err fault

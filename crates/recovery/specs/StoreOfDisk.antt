@@ -1,4 +1,4 @@
--- The store that the bytes of a disk stand for; or the one fault that they have. What a fault comes before isn't looked at.
+-- The store that the bytes of a disk encode, or their single fault. Whatever comes after a fault is not examined.
 use Rattle.std.specs.Prelude.{List, map, Option, Some, None, Result, Ok, Err}
 use Rattle.keys.specs.Bytes.{Bytes}
 use Rattle.keys.specs.declared.settings.Settings.{Settings}
@@ -17,7 +17,7 @@ use Rattle.flush_log.specs.Slot.{Slot, store_slot}
 use Rattle.flush_log.specs.AfterFlush.{store_after}
 use Rattle.recovery.specs.LogPages.{pages_of, broken_in}
 
--- this, unless something was found
+-- this value, unless there is a finding
 abbrev pub unless_found : {X : Type 0} → Option Finding → X → Result X Fault
 unless_found None x = Ok x
 unless_found (Some f) x = Err (BadStructure f)
@@ -30,7 +30,7 @@ frames_in found = map (λ f. f.frame) found
 abbrev pub tree_by_log : Slot → List Frame → Tree
 tree_by_log t fs = tree_in_log (pages_of fs) t.root t.height
 
--- what is wrong with it: first what fits no page, by the least pid, and then what the walk from the root finds
+-- the first finding: first a page whose frames do not fit together, by the least pid, and then that of the walk from the root
 abbrev pub wrong_in : Settings → Slot → List Frame → Option Finding
 wrong_in s t fs = or_else (broken_in fs) (finding s (tree_by_log t fs))
 

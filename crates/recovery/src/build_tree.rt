@@ -1,4 +1,4 @@
-//! Builds the tree of a log's pages from the gathered frames, and checks it.
+//! Builds the tree of a log's pages from the gathered frames, and verifies it.
 ghost use Rattle.std.specs.Prelude.{◌≡◌, ◌⊎◌, ◌<◌, ◌++◌, ◌∷◌, [], List, map, Some, None, IfOk, IfErr, OnOk};
 ghost use Rattle.std.specs.List.{AllByRecursion};
 ghost use Rattle.std.specs.List.Sorted.{IsStrictlySortedBy};
@@ -31,11 +31,11 @@ use std::mem;
 use std::thread::Threads;
 use verify::verify;
 
-// How many pages are built at once. Their frames stay until all of these are built, and are given back before the next are: so a
-// recovery takes little more than the pages and the frames that are left.
+// How many pages are built at once. The frames of these pages are freed before the next pages are built, so a recovery
+// needs little more memory than the built pages and the remaining frames.
 const PAGES_AT_ONCE: usize = 512;
 
-// Puts a page after those that are in the table, whose page ids are less.
+// Puts the page after those in the table, whose page ids are smaller.
 fn put_last(
     table: &mut Table<Page<Global>, Global>,
     pid: Pid,
@@ -52,7 +52,7 @@ fn put_last(
     Ok(())
 }
 
-// Puts the page that was made after those that are in the table, where there is one.
+// Puts the rebuilt page, if there is one, after those in the table.
 fn put_made(table: &mut Table<Page<Global>, Global>, made: Rebuilt) -> Result<(), AllocError>
     requires { AllByRecursion (λ n. n < made.log.pid) (keys_of table.old.places) }
     ensures { OnOk result (table.new ≡ filled table.old (entry_if made.log.pid made.page)) }
@@ -64,7 +64,6 @@ fn put_made(table: &mut Table<Page<Global>, Global>, made: Rebuilt) -> Result<()
     put_last(table, log.pid, page)
 }
 
-// Puts the pages that were made after those that are in the table.
 fn put_all(table: &mut Table<Page<Global>, Global>, made: Vec<Rebuilt>) -> Result<(), AllocError>
     requires { AreRisingPids (keys_of table.old.places ++ log_pids (logs_made made.items)) }
     ensures { OnOk result (table.new ≡ filled table.old (pages_made made.items)) }
@@ -75,7 +74,7 @@ fn put_all(table: &mut Table<Page<Global>, Global>, made: Vec<Rebuilt>) -> Resul
     Ok(())
 }
 
-// Builds the pages of these logs, and puts them after those that are in the table.
+// Builds the pages of these logs, and puts them after those in the table.
 fn build_pages(
     rt: &(impl Threads + Sync),
     crew: Crew,
@@ -97,7 +96,7 @@ fn build_pages(
     }
 }
 
-// The table of the pages that are kept, by rising page id.
+// The table of the gathered pages, by rising page id.
 fn table_of(
     rt: &(impl Threads + Sync),
     crew: Crew,
@@ -112,7 +111,7 @@ fn table_of(
     ensures err { IfErr result (λ fault. fault ≡ NoMemory) }
     ensures ordered { IsStrictlySortedBy nat_cmp (keys_of by_pid.entries) }
 {
-    // `len` is called only for the proof: it says that the page ids rise.
+    // `len` is called only for the proof: its contract says that the page ids rise.
     let _rising = by_pid.len();
     let mut table = Table::new(work.alloc);
     let mut logs = Vec::new(work.alloc);
@@ -134,11 +133,12 @@ fn table_of(
     Ok(table)
 }
 
-/// The tree of the pages that the gathered frames make, with the root and the height of the slot. Nothing is wrong with it under the
-/// settings, no page of it is away, and the log has each as it is.
+/// Returns the tree of the gathered pages, with the root and the height in the slot. The tree is proper under the
+/// settings, no page is checked out, and each page is recorded as being in the log with all its runs. The crew builds
+/// the pages.
 ///
-/// Else it is refused with `Fault::BadStructure` and the first finding: of a page whose frames fit no page, by the least page id, and
-/// then of the walk from the root. Besides there is `Fault::NoMemory`. The crew makes the pages of their frames.
+/// Otherwise fails with `Fault::BadStructure` and the first finding: a page whose frames do not fit together, by the
+/// least page id, or else the first finding of the walk from the root. Any other failure is `Fault::NoMemory`.
 pub(crate) fn checked_tree(
     rt: &(impl Threads + Sync),
     crew: Crew,

@@ -1,6 +1,8 @@
-//! Gathers frames by page: for each page id the state after its frames, and the bytes of those that are wanted, as they stand in the log.
+//! Gathers frames by page: for each page id the state after its frames, and the bytes of the wanted frames, as they are
+//! in the log.
 //!
-//! Whoever wrote a disk chose its page ids. So they are looked up by their order and not by a hash, which ids could be chosen to share.
+//! Whoever wrote a disk chose its page ids. So the page ids are looked up in an ordered map and not by a hash, because
+//! page ids could be chosen to collide.
 ghost use Rattle.std.specs.Prelude.{◌≡◌, ◌++◌, ◌∷◌, [], List, IfOk, OnOk};
 ghost use Rattle.flush_log.specs.Reading.{Found};
 ghost use Rattle.recovery.specs.Gathered.{AreLive, is_wanted_in, state_after, segment_after, run_size, size_after, with_base, with_run, kept_with, is_unfit};
@@ -15,54 +17,55 @@ use keys::{Finding, Pid};
 use std::alloc::{AllocError, Global};
 use std::collections::BTreeMap;
 
-// The number of the rule that a page breaks whose frames don't fit one another.
+// The number of the rule that frames of a page fit together.
 const UNFIT_FRAMES: u32 = 1;
 
-/// Whose frames are kept while a log is read.
+/// Which pages' frames are retained while a log is read.
 #[derive(Clone, Copy, Debug, PartialEq, Eq)]
 pub enum Wanted {
-    /// Those of every page that there is, as a recovery needs them.
+    /// Those of every page, for a recovery.
     Every,
-    /// Those of the pages whose base is in a segment below this one, as cleans need them.
+    /// Those of the pages whose base is in a segment below this one, for cleans.
     Before(u64),
 }
 
-/// The state of a page after its frames so far. What stands before a base or a free frame no longer counts.
+/// The state of a page after its frames so far. Frames before the last base or free frame do not count.
 #[derive(Clone, Copy, Debug, PartialEq, Eq)]
 pub enum PageState {
-    /// There is neither a base nor a free frame yet.
+    /// No base and no free frame yet.
     Nothing,
-    /// There is a leaf.
+    /// The page is a leaf.
     Leaf,
-    /// There is an index page.
+    /// The page is an index page.
     Index,
-    /// There is no such page.
+    /// The page was freed.
     Free,
-    /// They fit no page: a run stands where there is none, or one of the other kind.
+    /// The frames do not fit together: a run without a page, or for a page of the other kind.
     Unfit,
 }
 
-/// What is kept of a page.
+/// What is retained of a page.
 #[derive(Drop)]
 pub struct Kept {
-    /// The state after its frames.
+    /// The state after the page's frames.
     pub state: PageState,
-    /// The segment of its last base or free frame; 0 if it has neither.
+    /// The segment of the page's last base or free frame, or 0 if it has neither.
     pub segment: u64,
-    /// How many bytes its frames from its last base on have, whether they are wanted or not; 0 if it has no base. At most `u64::MAX`.
+    /// The size in bytes of the page's frames from the last base on, whether they are wanted or not; 0 if the page has
+    /// no base. Capped at `u64::MAX`.
     pub size: u64,
-    /// Its frames from its last base on, back to back, where they are wanted; else none, and then they take no memory.
+    /// The page's encoded frames from its last base on, if they are wanted. Otherwise empty and not allocated.
     pub frames: Vec<u8>,
 }
 
-/// What is kept of each page, by page id, of the frames that came so far.
+/// What is retained of each page, by page id, after the frames so far.
 #[derive(Drop)]
 pub struct Gathering {
-    /// Where all of it is allocated.
+    /// Allocates all of it.
     pub alloc: Global,
-    /// Whose frames are kept.
+    /// Which pages' frames are retained.
     pub wanted: Wanted,
-    /// What is kept, under the number of the page id.
+    /// What is retained, by the number of the page id.
     pub by_pid: BTreeMap<u64, Kept, Global>,
 }
 
@@ -91,7 +94,7 @@ fn state_after(state: PageState, kind: FrameKind) -> PageState
     }
 }
 
-// The segment of the page's last base or free frame after one more frame of this kind, which stands in `segment`.
+// The segment of the page's last base or free frame, after one more frame of this kind in `segment`.
 fn segment_after(last: u64, kind: FrameKind, segment: u64) -> u64
     ensures { result ≡ segment_after last kind segment }
 {
@@ -104,7 +107,7 @@ fn segment_after(last: u64, kind: FrameKind, segment: u64) -> u64
     }
 }
 
-// The bytes from the page's base on with a run of `more` bytes after them.
+// The size of the page's frames after a run of `more` bytes.
 fn run_size(size: u64, more: u64) -> u64
     ensures { result ≡ run_size size more }
 {
@@ -115,7 +118,7 @@ fn run_size(size: u64, more: u64) -> u64
     }
 }
 
-// The bytes from the page's last base on after one more frame of this kind, which has `more` bytes.
+// The size of the page's frames from its last base on, after one more frame of this kind with `more` bytes.
 fn size_after(size: u64, kind: FrameKind, more: u64) -> u64
     ensures { result ≡ size_after size kind more }
 {
@@ -128,7 +131,6 @@ fn size_after(size: u64, kind: FrameKind, more: u64) -> u64
     }
 }
 
-// Whether this is the state after frames that fit no page.
 fn is_unfit(state: PageState) -> bool
     ensures { result ≡ is_unfit state }
 {
@@ -141,7 +143,7 @@ fn is_unfit(state: PageState) -> bool
     }
 }
 
-// The frames from a base on: that alone, where it is wanted.
+// The retained frames after a new base: only that base, if it is wanted.
 fn with_base(mut frames: Vec<u8>, is_wanted: bool, frame: &[u8]) -> Result<Vec<u8>, AllocError>
     ensures { IfOk result (λ now. now.items ≡ with_base is_wanted frame.now) }
 {
@@ -152,7 +154,7 @@ fn with_base(mut frames: Vec<u8>, is_wanted: bool, frame: &[u8]) -> Result<Vec<u
     Ok(frames)
 }
 
-// The frames with a run after them, if there are any.
+// The retained frames with a run appended, if there are any.
 fn with_run(mut frames: Vec<u8>, frame: &[u8]) -> Result<Vec<u8>, AllocError>
     ensures { IfOk result (λ now. now.items ≡ with_run frames.items frame.now) }
 {
@@ -162,7 +164,8 @@ fn with_run(mut frames: Vec<u8>, frame: &[u8]) -> Result<Vec<u8>, AllocError>
     Ok(frames)
 }
 
-// What is kept of a page's frames with one more of this kind. Of a page whose base isn't wanted no run is kept.
+// The retained frames of a page after one more frame of this kind. If the base isn't wanted, its runs are not retained
+// either.
 fn frames_with(
     alloc: Global,
     frames: Vec<u8>,
@@ -182,7 +185,7 @@ fn frames_with(
 }
 
 impl Gathering {
-    /// Before the first frame.
+    /// Returns a gathering without frames.
     pub fn new(alloc: Global, wanted: Wanted) -> Self
         ensures { AreLive wanted result [] }
     {
@@ -193,7 +196,7 @@ impl Gathering {
         }
     }
 
-    // Whether the frames of a page are kept whose base stands in this segment.
+    // Whether frames are retained of a page whose base is in this segment.
     fn is_wanted(&self, segment: u64) -> bool
         ensures { result ≡ is_wanted_in self.now.wanted segment }
     {
@@ -203,7 +206,8 @@ impl Gathering {
         }
     }
 
-    /// Adds the next frame of the log, which stands in this segment. After an `Err` what is kept of its page may be lost.
+    /// Adds the next frame of the log, which is in this segment. After an `Err` the retained frames of its page may be
+    /// lost.
     pub fn add(&mut self, segment: u64, frame: ScannedFrame<'_>) -> Result<(), AllocError>
         ensures { (w : declared.Wanted) (found : List Found) (f : Found) →
             said_of_frame f ≡ held_frame segment frame.entry → AreLive w self.old found →
@@ -236,7 +240,7 @@ impl Gathering {
         Ok(())
     }
 
-    /// The first page whose frames fit no page, by the least page id.
+    /// Returns the first page whose frames do not fit together, by the least page id.
     pub fn unfit(&self) -> Option<Finding>
         ensures { (w : declared.Wanted) (found : List Found) → AreLive w self.now found →
             result ≡ broken_in (frames_in found) }

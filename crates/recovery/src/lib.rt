@@ -1,12 +1,13 @@
-//! The store that the bytes of a disk stand for: the pages by their frames, or the one fault that the bytes have; and when a
-//! store in memory is in step with its disk. `recover` reads it: settings and slot (`read_disk`), and the log, segment by segment
-//! (`read_log`, `scan_segment`), whose frames are gathered by page (`log_so_far`, `gather`), pages built of them (`rebuild`), and put
-//! into a tree that is looked at (`build_tree`). A clean reads the log too, by the same `read_log`.
+//! The store that the bytes of a disk encode: its pages, from their frames, or the single fault of the bytes; and when
+//! a store in memory is in step with its disk. `recover` reads the settings and the slot (`read_disk`) and the log,
+//! segment by segment (`read_log`, `scan_segment`), gathers the frames by page (`log_so_far`, `gather`), builds the
+//! pages (`rebuild`), and makes a tree of them, which it verifies (`build_tree`). A clean reads the log by the same
+//! `read_log`.
 //!
-//! Laws: what was flushed is what is read, and so is what was upgraded; what is read is a store; a new disk stands for the first
-//! store; a tree that keeps what the log has stays in step; bytes that no reading looks at don't matter; a crash in a flush or in an
-//! upgrade leaves the store before or after; what a flush of a tree is on its table in memory.
-//! Other crates name items by this root, and laws by the public modules `laws` and `table_laws`.
+//! Laws: a flush is read back, and so is an upgrade; the store that is read satisfies the invariant of stores; a new
+//! disk encodes the first store; a tree that keeps the log states stays in step; bytes that no reading examines do not
+//! matter; a crash during a flush or an upgrade leaves the old store or the new one; the effect of a flush on the table
+//! in memory. Other crates name items by this root, and laws by the public modules `laws` and `table_laws`.
 #![tactic(auto)]
 
 mod build_tree;

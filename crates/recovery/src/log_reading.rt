@@ -1,4 +1,4 @@
-//! The reading of a log: its segments, from the head to the tail, are read, some at a time, and their frames are gathered by page.
+//! Reads a log: reads its segments from the head to the tail, several at a time, and gathers their frames by page.
 ghost use Rattle.std.specs.Prelude.{◌≡◌, ◌⊎◌, ℕ, ◌+◌, ◌-◌, ◌*◌, ◌^◌, ◌<◌, ◌≤◌, [], List, map, length, take, None, Ok, Err, MatchResult, IfOk, IfErr, OnOk};
 ghost use Rattle.std.specs.List.{All};
 ghost use Rattle.keys.specs.Bytes.{Bytes};
@@ -23,11 +23,12 @@ use keys::Fault;
 use std::alloc::Global;
 use std::thread::Threads;
 
-// How many bytes are read before a crew gets them: whole segments, and the longest that may be is a quarter of it. It doesn't depend on
-// the crew, so that a reading takes the same memory and makes the same calls of the disk for every crew.
+// How many bytes are read before the crew scans them: whole segments; the longest allowed segment is a quarter of this.
+// The number does not depend on the crew, so that a reading needs the same memory and makes the same disk calls for
+// every crew.
 const BYTES_AT_ONCE: u64 = 4_194_304;
 
-// How many bytes of the last segment are in use.
+// The number of bytes in use of the last segment.
 fn bytes_in_use(format: &Format, ends: &LogEnds) -> usize
     requires checked { first_bad_field format.now.settings ≡ None }
     requires ends { AreEnds format.now.settings ends.now }
@@ -38,7 +39,8 @@ fn bytes_in_use(format: &Format, ends: &LogEnds) -> usize
     (ends.tail - last * u64::from(format.settings.seg_size)) as usize
 }
 
-// How many segments are read before a crew gets them: as many as may be, and no more than stand in front of the last one, if any do.
+// How many segments are read before the crew scans them: as many as fit, but at most those before the last segment, and
+// at least one.
 fn segments_at_once(format: &Format, ends: &LogEnds) -> usize
     requires checked { first_bad_field format.now.settings ≡ None }
     requires ends { AreEnds format.now.settings ends.now }
@@ -50,7 +52,8 @@ fn segments_at_once(format: &Format, ends: &LogEnds) -> usize
     most.min(earlier.max(1)) as usize
 }
 
-// Reads `count` segments from `first` on, each of them followed by another. The buffer has room for just these.
+// Reads `count` segments from `first` on; the last segment of the log must not be among them. The buffer has room for
+// exactly these.
 fn read_whole<'b, D: Disk>(
     alloc: Global,
     disk: &mut D,
@@ -93,7 +96,7 @@ fn read_whole<'b, D: Disk>(
     Ok(segments)
 }
 
-// Reads what is in use of the last segment. The buffer has room for a segment.
+// Reads the used part of the last segment. The buffer has room for a segment.
 fn read_last<'b, D: Disk>(
     alloc: Global,
     disk: &mut D,
@@ -132,7 +135,7 @@ fn read_last<'b, D: Disk>(
     Ok(segments)
 }
 
-// Reads all segments in front of the last one, at a time as many as the buffer has room for.
+// Reads all segments before the last one, at a time as many as the buffer has room for.
 fn read_earlier<D: Disk>(
     rt: &(impl Threads + Sync),
     crew: Crew,
@@ -174,7 +177,7 @@ fn read_earlier<D: Disk>(
     Ok(())
 }
 
-// Reads the log as `read_log` does. The buffer has room for a segment at least.
+// Reads the log as `read_log` does. The buffer has room for at least one segment.
 fn read_segments<D: Disk>(
     rt: &(impl Threads + Sync),
     crew: Crew,
@@ -206,13 +209,13 @@ fn read_segments<D: Disk>(
     so_far.take(rt, crew, format, segments)
 }
 
-/// Reads the log between its ends, and gathers its frames by page: of each page the state after them, and the bytes of those that are
-/// wanted. The crew scans the segments.
+/// Reads the log between its ends, and gathers its frames by page: the state of each page, and the bytes of the wanted
+/// frames. The crew scans the segments. Does not write to the disk.
 ///
-/// The fault at the least position of the log counts, `Fault::BadSegment` or `Fault::BadFrame`. Besides there is `Fault::NoMemory`, and
-/// `Fault::Device` where a read failed: also after a segment that has a fault, since all are read, and then no longer scanned. It takes
-/// the memory of some segments and of where their frames stand, at most 4 MiB of segments whatever the crew, and what is kept of the
-/// pages. No byte of the disk changes.
+/// Fails with the fault at the least position of the log, `Fault::BadSegment` or `Fault::BadFrame`; with
+/// `Fault::NoMemory`; or with `Fault::Device` if a read fails. All segments are read, also those after a segment with a
+/// fault, which are not scanned, so `Fault::Device` may come instead of that fault. Besides the gathered frames it
+/// needs memory for at most 4 MiB of segments at a time, whatever the crew, and for the places of their frames.
 pub fn read_log<D: Disk>(
     rt: &(impl Threads + Sync),
     crew: Crew,
@@ -225,7 +228,8 @@ pub fn read_log<D: Disk>(
     requires checked { first_bad_field format.now.settings ≡ None }
     requires within { disk_size format.now.settings ≤ (D.view disk.old).size }
     requires ends { AreEnds format.now.settings ends.now }
-    // Of bytes that were read, which are those from before in front of the segments, and on an honest disk what a read gives.
+    // For the bytes that were read, which before the segments are the same as earlier, and on an honest disk are its
+    // contents.
     ensures read { (file : Bytes) → IsReadOf (D.view disk.old) file →
         (now : Bytes) × IsReadOf (D.view disk.new) now
         × (take segments_begin now ≡ take segments_begin file)

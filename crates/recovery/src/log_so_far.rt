@@ -1,4 +1,4 @@
-//! What is kept of a log while it is read: its frames by page, or the first fault.
+//! What is retained of a log while it is read: its frames by page, or the first fault.
 ghost use denote.Param.Send.{IsSync};
 ghost use Rattle.std.specs.Prelude.{◌≡◌, ◌^◌, ◌<◌, ◌++◌, [], List, map, fold, length, None, Result, Ok, Err, MatchResult, IfErr, OnOk};
 ghost use Rattle.std.specs.List.{All};
@@ -17,17 +17,17 @@ use keys::Fault;
 use std::alloc::Global;
 use std::thread::Threads;
 
-/// What was found of a log so far.
+/// The part of a log that was read so far.
 #[derive(Drop)]
 pub(crate) struct LogSoFar {
     alloc: Global,
-    // The frames in front of the first fault.
+    // The frames before the first fault.
     pub(crate) gathering: Gathering,
-    // The first fault that the bytes have.
+    // The first fault of the bytes.
     pub(crate) fault: Option<Fault>,
 }
 
-// Takes the frames of the segment with this number, in their order.
+// Adds the frames of the segment with this number, in order.
 fn add_all(
     gathering: &mut Gathering,
     number: u64,
@@ -45,7 +45,7 @@ fn add_all(
 }
 
 impl LogSoFar {
-    /// Nothing yet; `wanted` says which frames of the log are to be kept.
+    /// An empty part of a log; `wanted` selects the frames that are retained.
     pub(crate) fn new(alloc: Global, wanted: Wanted) -> Self
         ensures { IsSoFar wanted result.gathering result.fault (Ok []) }
     {
@@ -75,7 +75,7 @@ impl LogSoFar {
         }
     }
 
-    // Takes what scans of segments gave, in their order, up to the first fault.
+    // Adds the results of these scans in order, up to the first fault.
     fn gather(&mut self, scans: Vec<ScanDone<'_>>) -> Result<(), Fault>
         requires { self.old.fault ≡ None }
         ensures ok { (w : declared.Wanted) (state : Result (List Found) faults.Fault)
@@ -99,8 +99,9 @@ impl LogSoFar {
         Ok(())
     }
 
-    /// Takes the next segments, which the crew scans at once. A fault of their bytes is no error here, but a part of what was found:
-    /// what stands after it doesn't count, and isn't scanned. The only error is `Fault::NoMemory`; after it nothing is promised.
+    /// Adds the next segments, which the crew scans in parallel. A fault in their bytes is part of the result and not
+    /// an error: later segments do not count, and are not scanned. The only error is `Fault::NoMemory`; the result is
+    /// then unspecified.
     pub(crate) fn take<R: Threads + Sync>(
         &mut self,
         rt: &R,
@@ -120,7 +121,8 @@ impl LogSoFar {
             return Ok(());
         }
         let work = ScanWork::new(self.alloc, format);
-        // A segment is a piece of its own: it is work enough for a draw, and by the crew's grain one worker might get them all.
+        // Each segment is claimed by itself: it is enough work for one claim, and with the crew's grain one worker
+        // might get all segments.
         let crew = Crew { grain: 1, ..crew };
         match run_round(rt, crew, &NoGate, &work, segments) {
             Ok(scans) => self.gather(scans),

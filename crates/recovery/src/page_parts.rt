@@ -1,4 +1,4 @@
-//! A page that is being built of its frames.
+//! A page that is being built from its frames.
 ghost use Rattle.std.specs.Prelude.{◌≡◌, None, Some, IfOk, MatchOption};
 ghost use Rattle.std.specs.Bool.{MatchBool};
 ghost use Rattle.frame_codec.specs.Frame.Content.{DeltaLeaf, DeltaIndex};
@@ -11,17 +11,17 @@ use index_page::{ChildList, Page};
 use keys::{Key, Pid, Value};
 use std::alloc::{AllocError, Global};
 
-/// The low key and the chain of a page. An index page's children are put into one list once it has all its runs.
+/// The low key and the chain of a page. The list of an index page's children is made after all runs are there.
 #[derive(Drop)]
 pub(crate) enum PageParts {
-    /// Those of a leaf.
+    /// The parts of a leaf.
     Leaf(Key<Global>, Chain<Value<Global>, Global>),
-    /// Those of an index page.
+    /// The parts of an index page.
     Index(Key<Global>, Chain<Pid, Global>),
 }
 
 impl PageParts {
-    /// The page that a frame is by itself, where it is a base.
+    /// The page of a single frame, if it is a base.
     pub(crate) fn of_base(frame: Frame) -> Option<Self>
         ensures { MatchOption result (base_in (content_of frame) ≡ None)
             (λ page. base_in (content_of frame) ≡ Some (page_of_parts page)) }
@@ -33,7 +33,8 @@ impl PageParts {
         }
     }
 
-    /// Puts the frame's run on the page as its newest, and returns whether it did: a frame that is no run of such a page is dropped.
+    /// Prepends the frame's run to the page, and returns whether it did. A frame that is no run, or a run for the other
+    /// kind of page, is dropped.
     pub(crate) fn push(&mut self, frame: Frame) -> Result<bool, AllocError>
         ensures { let old = page_of_parts self.old in let content = content_of frame in IfOk result
             (λ is_run. MatchBool is_run (IsPushed old content (Some self.new))
@@ -46,7 +47,7 @@ impl PageParts {
         }
     }
 
-    // Puts the run on the page as its newest, where that is a leaf, and returns whether it is one.
+    // Prepends the run if the page is a leaf, and returns whether it is.
     fn push_leaf_run(&mut self, run: Run<Value<Global>, Global>) -> Result<bool, AllocError>
         ensures { let old = page_of_parts self.old in IfOk result
             (λ is_run. MatchBool is_run (IsPushed old (DeltaLeaf run) (Some self.new))
@@ -61,7 +62,7 @@ impl PageParts {
         }
     }
 
-    // Puts the run on the page as its newest, where that is an index page, and returns whether it is one.
+    // Prepends the run if the page is an index page, and returns whether it is.
     fn push_index_run(&mut self, run: Run<Pid, Global>) -> Result<bool, AllocError>
         ensures { let old = page_of_parts self.old in IfOk result
             (λ is_run. MatchBool is_run (IsPushed old (DeltaIndex run) (Some self.new))
@@ -76,7 +77,6 @@ impl PageParts {
         }
     }
 
-    /// The page of these parts.
     pub(crate) fn into_page(self, alloc: Global) -> Result<Page<Global>, AllocError>
         ensures { IfOk result (λ page. page ≡ page_of_parts self) }
     {

@@ -1,5 +1,5 @@
-//! The reading of some bytes of a disk. Each place is read at most once in a reading of a disk. So some bytes agree with all
-//! that was read, whatever the disk does.
+//! Reads bytes of a disk. A reading of a disk reads each place at most once, so some file agrees with everything that
+//! was read, whatever the disk does.
 ghost use Rattle.std.specs.Prelude.{◌≡◌, ◌+◌, ◌≤◌, length, IfErr, OnOk};
 ghost use Rattle.keys.specs.Bytes.{Bytes};
 ghost use Rattle.flush_log.specs.Disk.{Kept, OnlyRead, CountsNoOther};
@@ -9,8 +9,8 @@ ghost use Rattle.recovery.specs.Recovered.{IsReadOf, IsLate};
 use flush_log::Disk;
 use keys::Fault;
 
-/// Reads bytes from a place on, as many as the buffer has. On an honest disk they are those that stand there; else they are put
-/// over what was read before. A read that fails is `Fault::Device`.
+/// Fills the buffer with the bytes from offset `at` on. On an honest disk these are its contents; for another disk, the
+/// proof overlays them on the bytes that were read before. Fails with `Fault::Device` if the read fails.
 pub fn read<D: Disk>(disk: &mut D, at: u64, buf: &mut [u8]) -> Result<(), Fault>
     requires { at + length buf.old ≤ (D.view disk.old).size }
     ensures kept { Kept (D.view disk.old) (D.view disk.new) }

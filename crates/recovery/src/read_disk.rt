@@ -1,4 +1,4 @@
-//! The reading of a disk: its settings, and the slot of its store.
+//! Reads the settings of a disk and the slot of its store.
 ghost use Rattle.std.specs.Prelude.{◌≡◌, ◌⊎◌, ◌≤◌, true, length, take, drop, None, Ok, Err, MatchResult, IfOk, OnOk};
 ghost use Rattle.keys.specs.Bytes.{Bytes};
 ghost use Rattle.keys.specs.Limits.{first_bad_field};
@@ -14,10 +14,10 @@ use flush_log::{
 };
 use keys::{Fault, Settings};
 
-// How many bytes the settings block has.
+// The size of the settings block in bytes.
 const BLOCK_SIZE: usize = 64;
 
-// Decodes the settings block of a disk of this length, where the disk has room for the segments.
+// Decodes the settings block of a disk of this length, if the disk has room for the segments.
 fn settings_in(block: &[u8], len: u64) -> Result<Settings, Fault>
     ensures read { (file : Bytes) → take settings_block_size file ≡ block.now → length file ≡ len →
         result ≡ store_settings file }
@@ -32,8 +32,8 @@ fn settings_in(block: &[u8], len: u64) -> Result<Settings, Fault>
     Ok(settings)
 }
 
-/// The settings of the store that the disk holds. A disk too short for its settings block, or for the segments that this calls
-/// for, has none: `Fault::NotAStore`. A read that fails is `Fault::Device`.
+/// Reads the settings of the store on the disk. Fails with `Fault::NotAStore` if the disk has no settings block, or is
+/// too short for the block or for the segments in the settings; and with `Fault::Device` if a read fails.
 pub(crate) fn read_settings<D: Disk>(disk: &mut D) -> Result<Settings, Fault>
     ensures read { (file : Bytes) × IsReadOf (D.view disk.new) file
         × MatchResult result
@@ -56,7 +56,7 @@ pub(crate) fn read_settings<D: Disk>(disk: &mut D) -> Result<Settings, Fault>
     settings_in(&block, len)
 }
 
-// The slot of the store, by the bytes of the two that a disk has.
+// Decodes both slots, and chooses that of the store.
 fn slot_in(settings: &Settings, slots: &[u8]) -> Result<Slot, Fault>
     requires checked { first_bad_field settings.now ≡ None }
     requires length { length slots.now ≡ 128 }
@@ -69,8 +69,8 @@ fn slot_in(settings: &Settings, slots: &[u8]) -> Result<Slot, Fault>
     newer(first, second)
 }
 
-/// The slot of the store: of the two the open one with the greater sequence number. Where none is open, or an open one is not well
-/// formed, `Fault::NoSlot`. A read that fails is `Fault::Device`.
+/// Reads the slot of the store: the open slot with the greater sequence number. Fails with `Fault::NoSlot` if no slot
+/// is open, or an open one is malformed; and with `Fault::Device` if a read fails.
 pub(crate) fn read_store_slot<D: Disk>(disk: &mut D, settings: &Settings) -> Result<Slot, Fault>
     requires checked { first_bad_field settings.now ≡ None }
     requires within { disk_size settings.now ≤ (D.view disk.old).size }

@@ -1,4 +1,4 @@
-//! Builds a page again from its frames, as they stand in the log.
+//! Builds pages from their frames in the log.
 ghost use Rattle.std.specs.Prelude.{◌≡◌, ◌⊎◌, ◌<◌, length, None, Some, IfOk, MatchOption};
 ghost use Rattle.keys.specs.Bytes.{Bytes};
 ghost use Rattle.frame_codec.specs.Frame.{Frame};
@@ -19,21 +19,21 @@ use std::alloc::{AllocError, Global};
 pub struct PageLog {
     /// The page's id.
     pub pid: Pid,
-    /// Its frames, back to back, as they stand in the log: its last base, and the runs after that.
+    /// The encoded frames of the page, as they are in the log: its last base, and the later runs.
     pub frames: Vec<u8>,
 }
 
-/// What was made of the frames of a page.
+/// The result of building a page.
 #[derive(Drop)]
 pub struct Rebuilt {
-    /// The frames, which stay beside their page until it is known that memory sufficed for all.
+    /// The frames, which are retained until it is known that there was memory for all pages.
     pub log: PageLog,
-    /// The page, where they make one.
+    /// The page, if the frames form one.
     pub page: Option<Page<Global>>,
 }
 
-/// The page that these frames make, where they stand back to back: a base, and runs of its kind after it. Where they make none, or where
-/// other bytes stand among them, there is none.
+/// Builds the page of these encoded frames: a base, followed by runs of its kind. Returns `None` if the bytes are not
+/// exactly such frames. `Err` means that allocation failed.
 pub fn rebuild(
     alloc: Global,
     format: &Format,
@@ -58,8 +58,8 @@ pub fn rebuild(
     Ok(Some(page.into_page(alloc)?))
 }
 
-// Puts the run of the frame at the front on the page, and returns the bytes after the frame; nothing where there is no frame, or one
-// that is no run of such a page.
+// Decodes the frame at the front and prepends its run to the page. Returns the bytes after the frame, or `None` if
+// there is no frame, or it is no run for this kind of page.
 fn push_next<'a>(
     alloc: Global,
     format: &Format,
@@ -86,12 +86,12 @@ fn push_next<'a>(
     Ok(Some(&bytes[size..]))
 }
 
-/// The work of building pages again: the frames of a page go in, and the page comes out.
+/// The work of building pages. The input is the frames of a page, the output is the page.
 #[derive(Drop)]
 pub struct RebuildWork {
-    /// Where the pages are allocated.
+    /// Allocates the pages.
     pub alloc: Global,
-    /// The format of the log, by which the frames are read.
+    /// The format of the log, which determines how the frames are decoded.
     pub format: Format,
 }
 

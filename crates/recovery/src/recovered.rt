@@ -1,4 +1,4 @@
-//! Recovery: the bytes of a disk become a store again, or are refused with the one fault that they have.
+//! Recovery: reads a store from the bytes of a disk, or finds their single fault.
 ghost use Rattle.std.specs.Prelude.{◌≡◌, ◌⊎◌, None, Ok, Err, IfOk, MatchResult, OnOk};
 ghost use Rattle.keys.specs.Bytes.{Bytes};
 ghost use Rattle.keys.specs.Limits.{first_bad_field};
@@ -19,14 +19,14 @@ use mapping::Tree;
 use std::alloc::Global;
 use std::thread::Threads;
 
-/// A store that was read of a disk.
+/// A store that was read from a disk.
 #[derive(Drop)]
 pub struct Recovered {
-    /// The settings that it was made with.
+    /// The settings from its creation.
     pub settings: Settings,
-    /// Where its log begins and ends, which version that has, and the number of its last commit.
+    /// The ends of its log, the log's version, and the number of its last commit.
     pub slot: Slot,
-    /// Its pages; the log has them all as they are.
+    /// Its pages; the log contains each of them with all its runs.
     pub tree: Tree<Global>,
 }
 
@@ -38,7 +38,6 @@ struct LogRead {
     gathering: Gathering,
 }
 
-// Reads the settings, the slot and the log.
 fn read_parts<D: Disk>(
     rt: &(impl Threads + Sync),
     crew: Crew,
@@ -70,28 +69,30 @@ fn read_parts<D: Disk>(
     })
 }
 
-/// Reads the store that the disk holds. It writes nothing. The crew scans the segments and builds the pages; the answer is the same
-/// for every crew. Logs of both versions are read, each by the version in its slot: what only the second one may have is no
-/// frame in a log of the first.
+/// Reads the store on the disk. Does not write to the disk. The crew scans the segments and builds the pages; the
+/// result does not depend on the crew. Logs of both versions are read, each by the version in its slot: a frame that
+/// only the second version allows is no frame in a log of the first.
 ///
-/// A disk that has no settings block, or is shorter than that calls for, is `Fault::NotAStore`; one without an open slot, or with one
-/// that is not well formed, `Fault::NoSlot`; then, of the log, the fault at the least position counts, `Fault::BadSegment` or
-/// `Fault::BadFrame`; and last the first finding, of a page by its log or of the tree, as `Fault::BadStructure`. Besides there are
-/// `Fault::NoMemory`, and `Fault::Device` where a read failed: also where it failed after a place that has a fault of the log.
+/// Fails with the first of these faults that applies: `Fault::NotAStore` if the disk has no settings block, or is
+/// shorter than its settings require; `Fault::NoSlot` if no slot is open, or an open one is malformed;
+/// `Fault::BadSegment` or `Fault::BadFrame`, whichever is at the least position of the log; `Fault::BadStructure` with
+/// the first finding, on the frames of a page or on the tree. It may also fail with `Fault::NoMemory`, or with
+/// `Fault::Device` if a read fails, even if the failed read comes after a fault in the log.
 pub fn recover<D: Disk>(
     rt: &(impl Threads + Sync),
     crew: Crew,
     alloc: Global,
     disk: &mut D,
 ) -> Result<Recovered, Fault>
-    // Of what was read, which on an honest disk is what a read gives: its store, or exactly its fault, or a late one.
+    // For the bytes that were read, which on an honest disk are its contents: their store, exactly their fault, or
+    // `NoMemory` or `Device`.
     ensures read { (file : Bytes) × IsReadOf (D.view disk.old) file
         × MatchResult result
         (λ found. (store_of_disk file ≡ Ok (found.settings, store_recovered found))
         × AreAllHome found.tree)
         (λ fault. (store_of_disk file ≡ Err fault)
         ⊎ IsLate (D.failed disk.old) (D.failed disk.new) fault) }
-    // No byte changed, and nothing of what a crash may leave.
+    // Neither the bytes changed, nor what a crash may leave.
     ensures same { OnlyRead (D.view disk.old) (D.view disk.new) }
     ensures kept { Kept (D.view disk.old) (D.view disk.new) }
     ensures counted { OnOk result (D.failed disk.new ≡ D.failed disk.old) }

@@ -1,5 +1,5 @@
-//! Scans a segment: finds the frames in its bytes, or its first fault. They are not decoded yet, since a decoded frame can take many
-//! times its bytes, and most count no longer once the log is read.
+//! Scans a segment: finds the frames in its bytes, or its first fault. Frames are not decoded yet, because a decoded
+//! frame can take many times its encoded size, and most frames are obsolete when the log has been read.
 ghost use Rattle.std.specs.Prelude.{◌≡◌, ◌⊎◌, ◌^◌, ◌<◌, ◌==◌, map, length, Ok, Err, IfOk, IfErr};
 ghost use Rattle.std.specs.List.{list_all};
 ghost use Rattle.keys.specs.declared.fault.Fault.TheVariants.{NoMemory};
@@ -15,9 +15,9 @@ use std::marker::PhantomData;
 /// Where the frames of a segment end.
 #[derive(Clone, Copy)]
 pub enum End {
-    /// Where its bytes do: it is the last segment, whose bytes are those up to the tail.
+    /// At the end of the bytes: this is the last segment, with the bytes up to the tail.
     Tail,
-    /// Where zeros alone are left, or nothing: another segment follows it.
+    /// Where only zeros remain, or nothing: another segment follows.
     Padding,
 }
 
@@ -39,7 +39,7 @@ pub struct ScannedFrame<'a> {
     pub pid: u64,
     /// What kind of frame it is.
     pub kind: FrameKind,
-    /// Its bytes, which stay where they are.
+    /// The encoded frame, borrowed from the segment.
     pub bytes: &'a [u8],
 }
 
@@ -49,7 +49,7 @@ fn are_zeros(bytes: &[u8]) -> bool
     bytes.iter().all(|byte| *byte == 0)
 }
 
-/// Whether the frames end where these bytes are left.
+/// Returns whether the frames end before these bytes.
 pub fn is_end(end: End, rest: &[u8]) -> bool
     ensures { result ≡ is_end_at end rest.now }
 {
@@ -59,10 +59,10 @@ pub fn is_end(end: End, rest: &[u8]) -> bool
     }
 }
 
-/// The frames of a segment: those after its header, up to their end. The bytes may be any.
+/// Returns the frames of a segment: those after its header, up to their end. The bytes may be arbitrary.
 ///
-/// A header of another segment, or none, is `Fault::BadSegment`. Where there is neither a frame nor the end of the frames, that is
-/// `Fault::BadFrame` with the offset; the first such place counts, and what stands after it is not looked at. Else there is
+/// Fails with `Fault::BadSegment` if the bytes do not begin with the segment's header, and with `Fault::BadFrame` and
+/// the first offset at which there is neither a frame nor the end of the frames. Any other failure is
 /// `Fault::NoMemory`.
 pub fn scan_segment<'a>(
     alloc: Global,
@@ -98,7 +98,8 @@ pub fn scan_segment<'a>(
     Ok(frames)
 }
 
-/// The work of scanning segments: a segment goes in, whose bytes are lent; its frames or its first fault come out.
+/// The work of scanning segments. The input is a segment with borrowed bytes; the output is its frames or its first
+/// fault.
 #[derive(Drop)]
 pub struct ScanWork<'a> {
     alloc: Global,
@@ -106,7 +107,7 @@ pub struct ScanWork<'a> {
     lent: PhantomData<&'a [u8]>,
 }
 
-/// What a scan of a segment gave, with the segment.
+/// The result of a scan, with the segment.
 #[derive(Drop)]
 pub struct ScanDone<'a> {
     /// The segment.
@@ -116,7 +117,7 @@ pub struct ScanDone<'a> {
 }
 
 impl<'a> ScanWork<'a> {
-    /// The work with this allocator, on segments of a log of this format.
+    /// Makes the work with this allocator, for segments of a log of this format.
     pub fn new(alloc: Global, format: &Format) -> Self
         ensures { result.format ≡ format.now }
     {

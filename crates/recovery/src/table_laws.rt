@@ -1,5 +1,5 @@
-//! What a flush of a tree is on the table that holds the tree in memory. Each law is the contract of a function with an empty
-//! body.
+//! Laws about the effect of a flush on the table of a tree in memory. Each law is the contract of a function with an
+//! empty body.
 ghost use Rattle.std.specs.Prelude.{◌≡◌, ◌↔◌, [], None};
 ghost use Rattle.std.specs.List.{AllByRecursion};
 ghost use Rattle.keys.specs.Limits.{first_bad_field};
@@ -12,8 +12,8 @@ ghost use Rattle.mapping.specs.Tree.{Tree, page_at, logged_of};
 ghost use Rattle.mapping.specs.TreeInMemory.{TreeInMemory, AreAllHome, tree_of};
 ghost use Rattle.flush_log.specs.FlushText.{spelling_of, lacking, pids_to_write, flush_text, flushed};
 
-/// While all pages are at home, a flush goes over the pids that the table knows. Its text is empty just where the log lacks nothing
-/// of any of them.
+/// If no page is checked out, a flush visits the pids that the table iterates over. It has nothing to write if and only
+/// if the log lacks nothing of any of them.
 pub fn a_flush_goes_over_the_pids_that_the_table_knows()
     ensures pids { (t : TreeInMemory) → AreAllHome t →
         pids_to_write (tree_of t) ≡ pids_in_use_or_old t.table }
@@ -23,7 +23,7 @@ pub fn a_flush_goes_over_the_pids_that_the_table_knows()
         ≡ []) (pids_to_write t) }
 {}
 
-/// A table that is marked as written holds the tree that a flush leaves.
+/// A table that is marked as written contains the tree that a flush leaves.
 pub fn a_table_marked_as_written_holds_the_flushed_tree()
     ensures { (s : Settings) (t : TreeInMemory) → first_bad_field s ≡ None →
         IsProper s (tree_of t) →

@@ -44,7 +44,7 @@ module _ {X : Type 0} where
   nothing_first zero = refl
   nothing_first (suc n) = refl
 
-  -- the first n need no more than n of what stands in front
+  -- the first n elements of a concatenation need only the first n of its first part
   take_front : (n : ℕ) (xs ys : List X) → take n (take n xs ++ ys) ≡ take n (xs ++ ys)
   take_front zero xs ys = refl
   take_front (suc n) [] ys = refl
@@ -129,9 +129,9 @@ module _ {A : Type 0} where
   pub with_pieces-page : (cs : List (Command A)) (page : List (Piece A)) (left rest : List (List (Piece A))) (rs end : List (Reply A)) → left ≡ page ∷ rest → with_pieces cs (flat left) rs ≡ end → with_pieces cs (flat rest) (with_pieces cs page rs) ≡ end
   with_pieces-page cs page left rest rs end e h = sym (with_pieces-append cs page (flat rest) rs) ∙ subst (λ (pages : List (List (Piece A))). with_pieces cs (flat pages) rs ≡ end) e h
 
-  -- ---- what stands at a place
+  -- ---- the reply at a place
 
-  -- what stands at a place, where something does, after more answers
+  -- the reply at a place, if there is one, after more answers
   added : ℕ → Option (Reply A) → List (Reply A) → Option (Reply A)
   added limit o [] = o
   added limit None (r ∷ rs) = None
@@ -421,14 +421,14 @@ module _ {A : Type 0} where
   alone p [] (b ∷ back) h = absurd (omega arith)
   alone p (f ∷ front) back h = absurd (omega (arith, length-append front (p ∷ back)))
 
-  -- where one piece stands at a place, that piece has the reply
+  -- if there is one piece at a place, its reply is the only one there
   alone_at : (p : Piece A) (front back : List (Piece A)) → length (pieces_at (front ++ p ∷ back) p.place) ≡ 1 → lone (replies_of (pieces_at (front ++ p ∷ back) p.place)) ≡ Some p.reply
   alone_at p front back h =
       let here : pieces_at (p ∷ back) p.place ≡ p ∷ pieces_at back p.place = cond-true (p.place == p.place) (p ∷ pieces_at back p.place) (pieces_at back p.place) (eq-eqb p.place p.place refl) in
       let parts : pieces_at (front ++ p ∷ back) p.place ≡ pieces_at front p.place ++ p ∷ pieces_at back p.place = filter-append (λ q. q.place == p.place) front (p ∷ back) ∙ ap (λ (qs : List (Piece A)). pieces_at front p.place ++ qs) here in
       ap (λ (qs : List (Piece A)). lone (replies_of qs)) parts ∙ alone p (pieces_at front p.place) (pieces_at back p.place) (sym (ap length parts) ∙ h)
 
-  -- the reply at the place of a piece is the piece's, where the command is on one key
+  -- the reply at the place of a piece is the piece's, if the command is on one key
   pub reply_at-piece : (cs : List (Command A)) (ps : List (Piece A)) → AreAnswers cs ps → All (λ p. is_ranged_at cs p.place ≡ false → reply_at cs ps p.place ≡ Some p.reply) ps
   reply_at-piece cs ps answers k d h plain =
       let p : Piece A = get_or ps k d in
@@ -436,7 +436,7 @@ module _ {A : Type 0} where
       let one = one_piece cs ps p.place answers (answers.within k d h) plain in
       one.1 ∙ subst (λ (qs : List (Piece A)). lone (replies_of (pieces_at qs p.place)) ≡ Some p.reply) (sym parts) (alone_at p (take k ps) (drop (k + 1) ps) (subst (λ (qs : List (Piece A)). length (pieces_at qs p.place) ≡ 1) parts one.0))
 
-  -- each piece's reply stands at its place in the list, but for scans' and wipes'
+  -- each piece's reply is at its place in the list, except for pieces of scans and wipes
   abbrev HasPieces : List (Command A) → List (Reply A) → Piece A → Type 0
   HasPieces cs rs p = is_ranged_at cs p.place ≡ false → slice_get rs p.place ≡ Some p.reply
 
@@ -460,7 +460,7 @@ module _ {A : Type 0} where
     there i (Wipe lo hi) h is = reply_at-wipe cs ps i lo hi is ∙ sym (wipes i lo hi is)
     there i _ h is = plain_there i h (ap (is_some_that is_ranged) is)
 
-    -- the list in which all of them stand is the list of the replies
+    -- the list with all of these at their places is the list of the replies
     pub replies_determined : (xs : List (Reply A)) → ((i : ℕ) → slice_get xs i ≡ reply_at cs ps i) → length rs ≡ length cs → xs ≡ rs
     replies_determined xs made len = same_at_each xs rs (λ i. made i ∙ (elim ((slice_get_cases cs i).1) [
       | inl w ↦ there i w.0 w.1 w.2

@@ -1,4 +1,4 @@
--- The reply at each place of a batch, by what the pages answer.
+-- The reply at each place of a batch, from the answers of the pages.
 use Rattle.std.specs.Prelude.{◌≡◌, ℕ, ◌+◌, ◌-◌, ◌^◌, ◌<◌, ◌==◌, min, Bool, true, false, List, [], ◌∷◌, ◌++◌, map, slice_set, slice_index_or, take, flat_map, length, slice_get, Option, Some, None}
 use Rattle.std.specs.List.{All, filter, sum_by}
 use Rattle.keys.specs.Bytes.{Bytes, Pairs}
@@ -13,7 +13,7 @@ use Rattle.keys.specs.declared.piece.Piece.{Piece}
 abbrev pub pieces_at : {A : Type 0} → List (Piece A) → ℕ → List (Piece A)
 pieces_at ps place = filter (λ p. p.place == place) ps
 
--- the rows of an answer; only one to a scan has any
+-- the rows of an answer; only answers to scans have any
 abbrev pub rows_of : {A : Type 0} → Reply A → Pairs Bytes
 rows_of (Rows rows) = rows
 rows_of _ = []
@@ -23,7 +23,7 @@ abbrev pub is_rows : {A : Type 0} → Reply A → Bool
 is_rows (Rows rows) = true
 is_rows _ = false
 
--- the count in an answer; only one to a wipe has any
+-- the count in an answer; only answers to wipes have one
 abbrev pub count_of : {A : Type 0} → Reply A → ℕ
 count_of (Wiped count) = count
 count_of _ = 0
@@ -33,27 +33,27 @@ abbrev pub is_count : {A : Type 0} → Reply A → Bool
 is_count (Wiped count) = true
 is_count _ = false
 
--- the greatest count that a reply can have
+-- the greatest count in a reply
 abbrev pub most_counted : ℕ
 most_counted = 2 ^ 128 - 1
 
--- the reply, where it is the only one
+-- the reply, if there is exactly one
 abbrev pub lone : {A : Type 0} → List (Reply A) → Option (Reply A)
 lone (r ∷ []) = Some r
 lone _ = None
 
--- answers as one reply: the answer of the one page; the rows of all, joined and cut at the limit; or the sum of all counts, as far
--- as a reply can have it
+-- several answers as one reply: the answer of the single page; the concatenated rows, cut at the limit; or the sum of the counts, capped at the
+-- greatest count
 abbrev pub joined_by : {A : Type 0} → Joining → List (Reply A) → Option (Reply A)
 joined_by Alone rs = lone rs
 joined_by (RowsUpTo limit) rs = Some (Rows (take limit (flat_map rows_of rs)))
 joined_by Summed rs = Some (Wiped (min (sum_by count_of rs) most_counted))
 
--- the reply to a command that what the pages answer makes
+-- the reply to a command, from the answers of the pages
 abbrev pub joined_replies : {A : Type 0} → Command A → List (Reply A) → Option (Reply A)
 joined_replies c rs = joined_by (joining_of c) rs
 
--- the same of the command at a place
+-- the reply to the command at a place
 abbrev pub joined_replies_at : {A : Type 0} → Option (Command A) → List (Reply A) → Option (Reply A)
 joined_replies_at None rs = None
 joined_replies_at (Some c) rs = joined_replies c rs
@@ -66,15 +66,15 @@ reply_at cs ps place = joined_replies_at (slice_get cs place) (map (λ p. p.repl
 abbrev pub IsPlaceOf : {A : Type 0} → List (Command A) → Piece A → Type 0
 IsPlaceOf cs p = p.place < length cs
 
--- what pages answer to a batch: rows to a scan and to nothing else, a count to a wipe and to nothing else, and each command that is
--- on one key is answered just once
+-- valid answers of pages to a batch: rows to scans and to no other command, counts to wipes and to no other command, and exactly one answer to each
+-- command on a single key
 pub record AreAnswers {A : Type 0} (cs : List (Command A)) (ps : List (Piece A)) : Type 0 where
   pub within : All (IsPlaceOf cs) ps
   pub kind : All (λ p. is_rows p.reply ≡ is_scan_at cs p.place) ps
   pub counts : All (λ p. is_count p.reply ≡ is_wipe_at cs p.place) ps
   pub once : (place : ℕ) → place < length cs → is_ranged_at cs place ≡ false → length (pieces_at ps place) ≡ 1
 
--- ---- one answer after the other
+-- ---- adding one answer after the other
 
 -- the most rows that the reply to a command may have
 abbrev pub limit_in : Joining → ℕ
@@ -85,8 +85,7 @@ limit_in Summed = 0
 abbrev pub limit_of : {A : Type 0} → Command A → ℕ
 limit_of c = limit_in (joining_of c)
 
--- what stands at a command's place before any answer to it: no rows yet for a scan, nothing counted yet for a wipe, and else nothing
--- of meaning
+-- the reply to a command before any answer is added: no rows for a scan, a count of zero for a wipe, and otherwise a placeholder
 abbrev pub blank_in : {A : Type 0} → Joining → Reply A
 blank_in Alone = Missing
 blank_in (RowsUpTo limit) = Rows []
@@ -95,7 +94,7 @@ blank_in Summed = Wiped 0
 abbrev pub blank_of : {A : Type 0} → Command A → Reply A
 blank_of c = blank_in (joining_of c)
 
--- rows with more after them, cut at a limit
+-- rows with more rows appended, cut at a limit
 abbrev pub with_rows : {A : Type 0} → ℕ → Reply A → Pairs Bytes → Reply A
 with_rows limit (Rows rows) more = Rows (take limit (rows ++ more))
 with_rows limit at more = at
@@ -105,8 +104,7 @@ abbrev pub with_count : {A : Type 0} → Reply A → ℕ → Reply A
 with_count (Wiped count) more = Wiped (min (count + more) most_counted)
 with_count at more = at
 
--- what stands at a place after one more answer: rows go after the rows there, a count is added to the count there, and another
--- answer goes in the place of what stood there
+-- the reply at a place after one more answer: rows are appended to its rows, a count is added to its count, and any other answer replaces it
 abbrev pub with_answer : {A : Type 0} → ℕ → Reply A → Reply A → Reply A
 with_answer limit at (Rows more) = with_rows limit at more
 with_answer limit at (Wiped more) = with_count at more

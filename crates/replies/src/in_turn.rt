@@ -219,7 +219,6 @@ impl<'a> LentMap<'a> {
         Ok(())
     }
 
-    // Returns the keys of a range, in order.
     fn keys_within(
         &self,
         alloc: Global,
@@ -282,7 +281,6 @@ fn execute_next<'a>(
     Ok(())
 }
 
-// Appends a put of `value` under `key`.
 fn push_put(
     alloc: Global,
     key: &[u8],
@@ -295,7 +293,6 @@ fn push_put(
     Ok(())
 }
 
-// Appends an add of `value` under `key`.
 fn push_add(
     alloc: Global,
     key: &[u8],
@@ -308,7 +305,6 @@ fn push_add(
     Ok(())
 }
 
-// Appends a delete of `key`.
 fn push_del(alloc: Global, key: &[u8], points: &mut Vec<Command<Global>>) -> Result<(), AllocError>
     ensures { OnOk result (points.new.items ≡ points.old.items ++ Del key.now ∷ []) }
 {

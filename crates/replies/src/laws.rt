@@ -1,5 +1,4 @@
-//! What the replies of a batch are, in the words of its pieces. Each law is the contract of a function with an empty
-//! body.
+//! Laws that relate the replies of a batch to its pieces. Each law is the contract of a function with an empty body.
 ghost use Rattle.std.specs.Prelude.{◌≡◌, ℕ, false, min, List, ◌++◌, map, take, flat_map, length, slice_get, Option, Some};
 ghost use Rattle.std.specs.List.{All, sum_by};
 ghost use Rattle.keys.specs.Bytes.{Bytes};
@@ -13,8 +12,8 @@ ghost use Rattle.replies.specs.ByPlace.{AreAnswers, pieces_at, rows_of, count_of
 
 use std::alloc::Allocator;
 
-/// The blanks of a batch with all answers added are the replies: as many as commands, and at each place the reply there. Pieces
-/// that are added page by page are added one after the other.
+/// Adding all answers to the blank replies of a batch gives its replies: as many as commands, and at each place the
+/// reply for that place. Adding pieces page by page is adding them one after the other.
 pub fn blanks_with_all_answers_are_the_replies<A: Allocator>()
     ensures count { (cs : List (Command A)) (ps : List (Piece A)) →
         length (with_pieces cs ps (map blank_of cs)) ≡ length cs }
@@ -24,9 +23,10 @@ pub fn blanks_with_all_answers_are_the_replies<A: Allocator>()
         with_pieces cs (ps ++ qs) rs ≡ with_pieces cs qs (with_pieces cs ps rs) }
 {}
 
-/// The reply at the place of a command on one key is that of the place's piece. A scan's is the rows of its pieces, each piece after
-/// the one before it, and of these the first up to the limit; a wipe's is the sum of its pieces' counts, as far as a reply can have
-/// it. A list of as many replies as commands in which all these stand at their places is the list of the replies.
+/// The reply to a command on a single key is that of the piece at its place. The reply to a scan is the concatenated
+/// rows of its pieces, in order and cut at the limit. The reply to a wipe is the sum of its pieces' counts, capped at
+/// the greatest count of a reply. A list with as many replies as commands that has all these replies at their places is
+/// the list of the replies.
 pub fn each_piece_has_the_reply_at_its_place<A: Allocator>()
     ensures here { (cs : List (Command A)) (ps : List (Piece A)) → AreAnswers cs ps →
         All (λ p. is_ranged_at cs p.place ≡ false → reply_at cs ps p.place ≡ Some p.reply) ps }

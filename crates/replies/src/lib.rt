@@ -1,5 +1,5 @@
-//! The replies of a batch, put together from what each page answered.
-//! Other crates name items by this root, and laws by the public module `laws`.
+//! The replies of a batch, combined from the answers of its pages. Other crates name items by this root, and laws by
+//! the public module `laws`.
 #![tactic(auto)]
 
 mod in_turn;
@@ -16,9 +16,9 @@ pub use crate::in_turn::{LentMap, execute_in_turn};
 use keys::{Command, Piece, Pieces, Reply, RowList, Rowless};
 use std::alloc::{AllocError, Global};
 
-/// For each command of a batch a reply that answers are to be added to: no rows yet for a scan, nothing counted yet for a wipe, and
-/// else one that will be written over. Once each page's answers were added (`add_answers`), these are the replies. `AllocError` comes only where memory was
-/// refused to the list.
+/// Returns, for each command of a batch, a reply to which answers are to be added: no rows for a scan, a count of zero
+/// for a wipe, and otherwise a placeholder. After `add_answers` with each page's answers, these are the replies. `Err`
+/// means that the list could not be allocated.
 pub fn blank_replies(
     alloc: Global,
     commands: &[Command<Global>],
@@ -32,7 +32,7 @@ pub fn blank_replies(
     Ok(blanks)
 }
 
-// The reply that answers to this command are to be added to.
+// The reply to `command` before any answer is added.
 fn blank(alloc: Global, command: &Command<Global>) -> Reply<Global>
     ensures { result ≡ blank_of command.now }
 {
@@ -43,10 +43,10 @@ fn blank(alloc: Global, command: &Command<Global>) -> Reply<Global>
     }
 }
 
-/// Adds each answer of a page to what stands at its command's place. The rows of a scan are appended to those that stand there, up to its
-/// limit: so pages are added in their order. The counts of a wipe are added up. Replies are moved, and so are the rows of a scan's first
-/// page; those of later pages are copied. `AllocError` comes only where memory was refused to a list of rows; the replies then have some of
-/// the answers, and must be dropped.
+/// Adds the answers of a page to the replies at their commands' places. The rows of a scan are appended, up to its
+/// limit, so pages must be added in key order. The counts of a wipe are summed. Replies are moved, and so are the rows
+/// of a scan's first page; those of later pages are copied. `Err` means that rows could not be allocated; the replies
+/// then contain some of the answers, and must be dropped.
 pub fn add_answers(
     replies: &mut [Reply<Global>],
     commands: &[Command<Global>],
@@ -63,7 +63,7 @@ pub fn add_answers(
     Ok(())
 }
 
-// Adds a page's first answer, if it has any, to what stands at its place.
+// Adds a page's first answer, if it has any, to the reply at its place.
 fn add_first(
     replies: &mut [Reply<Global>],
     commands: &[Command<Global>],
@@ -83,7 +83,7 @@ fn add_first(
     }
 }
 
-// Adds each of these answers to what stands at its place.
+// Adds each of these answers to the reply at its place.
 fn add_all(
     replies: &mut [Reply<Global>],
     commands: &[Command<Global>],
@@ -99,7 +99,7 @@ fn add_all(
     Ok(())
 }
 
-// Adds each of these answers, to scans and without rows, to what stands at its place.
+// Adds these answers of scans without rows to the replies at their places.
 fn add_rowless(replies: &mut [Reply<Global>], commands: &[Command<Global>], rowless: Vec<Rowless>)
     requires count { length replies.old ≡ length commands.now }
     requires within { All (λ r. r.place < length commands.now) rowless.items }
@@ -111,7 +111,7 @@ fn add_rowless(replies: &mut [Reply<Global>], commands: &[Command<Global>], rowl
     }
 }
 
-// Adds an answer to what stands at its command's place.
+// Adds an answer to the reply at its command's place.
 fn add(
     at: &mut Reply<Global>,
     command: &Command<Global>,
@@ -132,7 +132,7 @@ fn add(
     }
 }
 
-// Appends rows to those that stand there. Rows past `limit` are dropped.
+// Appends rows to the reply, and drops rows past `limit`.
 fn add_rows(at: &mut Reply<Global>, more: RowList<Global>, limit: usize) -> Result<(), AllocError>
     ensures { OnOk result (at.new ≡ with_rows limit at.old more) }
 {
@@ -145,7 +145,7 @@ fn add_rows(at: &mut Reply<Global>, more: RowList<Global>, limit: usize) -> Resu
     Ok(())
 }
 
-// Drops the rows after the first `limit`: what adding no rows does.
+// Drops the rows past `limit`, as if no rows were added.
 fn cut(at: &mut Reply<Global>, limit: usize)
     ensures { at.new ≡ with_rows limit at.old [] }
 {
@@ -154,7 +154,7 @@ fn cut(at: &mut Reply<Global>, limit: usize)
     }
 }
 
-// Adds a count to the one that stands there, up to the greatest `u128`.
+// Adds a count to the reply, capped at the greatest `u128`.
 fn add_count(at: &mut Reply<Global>, more: u128)
     ensures { at.new ≡ with_count at.old more }
 {
@@ -163,7 +163,7 @@ fn add_count(at: &mut Reply<Global>, more: u128)
     }
 }
 
-// The most rows that the reply to a command may have: only a scan's has any.
+// The most rows of the reply to `command`; only a scan's reply has rows.
 fn limit_of(command: &Command<Global>) -> usize
     ensures { result ≡ limit_of command.now }
 {

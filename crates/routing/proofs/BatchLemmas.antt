@@ -1,4 +1,4 @@
--- Lemmas on commands with nearer ends, looked up by place.
+-- Lemmas on commands with closer ends, looked up by place.
 use Rattle.std.specs.Prelude.{◌≡◌, ℕ, zero, suc, ◌<◌, ◌≤◌, List, [], ◌∷◌, map, drop, length, slice_get, Option, Some, None}
 use Rattle.std.proofs.Common.{refl, sym, ap, ◌∙◌, get_or}
 use Rattle.std.proofs.lemmas.Option.{same_Some, slice_get_read, slice_get_past}
@@ -19,7 +19,7 @@ first_after end_of [] place x h = absurd (cc)
 first_after end_of (y ∷ ys) zero x h = ap end_of (sym (same_Some y x h))
 first_after end_of (y ∷ ys) (suc place) x h = first_after end_of ys place x h
 
--- the end at a place, where the list has one there
+-- the end at a place, if the list has one there
 pub end_there : {X : Type 0} (end_of : X → Option (List ℕ)) (xs : List X) (place : ℕ) (x : X) → place < length xs → x ≡ get_or xs place x → end_of x ≡ first_end (drop place (map end_of xs))
 end_there end_of xs place x h e = first_after end_of xs place x (slice_get_read xs (length xs) place x refl h e)
 
@@ -51,7 +51,7 @@ module _ {A : Type 0} (cs : List (Command A)) (ends : List (Option (List ℕ))) 
   pub past : (place : ℕ) → length cs ≤ place → slice_get batch place ≡ None
   past place h = slice_get_past batch place (rw length_same at h)
 
-  -- at a place stands the command with the end at that place
+  -- the command at a place of the batch has the end at that place
   there : (place : ℕ) (c : Command A) → place < length cs → c ≡ get_or cs place c → slice_get batch place ≡ Some (with_end (first_end (drop place ends)) c)
   there place c h e =
       ap (λ (ds : List (Command A)). slice_get ds place) (sym same) ∙ get-with_ends cs ends place

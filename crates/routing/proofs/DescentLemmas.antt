@@ -1,4 +1,4 @@
--- Lemmas on the way of shares down the levels of a tree, for the proofs of this crate.
+-- Lemmas on distributing shares down the levels of a tree, for the proofs of this crate.
 use Rattle.std.specs.Prelude.{◌≡◌, ℕ, zero, suc, pred, ◌+◌, ◌-◌, ◌<◌, Bool, true, false, not, ◌&&◌, ◌||◌, List, [], ◌∷◌, ◌++◌, map, flat_map, length, drop, slice_get, Option, Some, None}
 use Rattle.std.proofs.Common.{refl, sym, ap, ◌∙◌, subst, arith, append_assoc, get_or, inl, inr}
 use Rattle.std.specs.List.{AllByRecursion, filter}

@@ -1,4 +1,4 @@
--- Lemmas on shares that go down several levels at once, in parts.
+-- Lemmas on distributing shares down several levels at once, in parts.
 use Rattle.std.specs.Prelude.{◌≡◌, ℕ, zero, suc, pred, ◌+◌, ◌-◌, ◌<◌, List, [], ◌∷◌, ◌++◌, flat_map}
 use Rattle.std.proofs.Common.{refl, sym, ap, ◌∙◌, subst, arith}
 use Rattle.std.specs.List.{AllByRecursion}
@@ -43,7 +43,7 @@ module _ {A : Type 0} (pages : List (ℕ × PageOfKind)) (cs : List (Command A))
   down-append zero ss ts = refl
   down-append (suc n) ss ts = ap (λ (x : List Share). shares_down pages cs n x) (flat_map-append (share_below pages cs) ss ts) ∙ down-append n (below ss) (below ts)
 
-  -- and where they can as one, each of them can
+  -- and if they can as one list, each of them can
   pub can_apart : (n : ℕ) (ss ts : List Share) → CanGoDown pages cs n (ss ++ ts) → CanGoDown pages cs n ss × CanGoDown pages cs n ts
   can_apart zero ss ts h = all_apart HasEachPlaceOnce ss ts h
   can_apart (suc n) ss ts h =

@@ -1,4 +1,4 @@
--- Lemmas on the commands that are left out of a page since they find nothing there, for the proofs of this crate.
+-- Lemmas on the commands that are left out of a page because they find nothing there, for the proofs of this crate.
 use Rattle.std.specs.Prelude.{◌≡◌, ◌⊎◌, ℕ, ◌<◌, Bool, true, false, ◌||◌, List, [], ◌∷◌, nat_eq, nat_le, min, if◌then◌else◌, Option, Some, None}
 use Rattle.std.proofs.Common.{refl, sym, ap, ◌∙◌, subst, arith, inl, inr}
 use Rattle.std.specs.List.{filter, list_any, fold, reduce}

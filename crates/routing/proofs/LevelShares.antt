@@ -1,4 +1,4 @@
--- Lemmas on the shares of the pages of a level, which lack some places that are idle: how they go down from level to level.
+-- Lemmas on the shares of a level's pages, without some idle places: how they are distributed from level to level.
 use Rattle.std.specs.Prelude.{◌≡◌, ◌⊎◌, ℕ, suc, pred, ◌+◌, ◌<◌, Bool, true, false, not, ◌&&◌, ◌||◌, cond, List, [], ◌∷◌, ◌++◌, flat_map, length, slice_get, Option, Some, None}
 use Rattle.std.proofs.Common.{refl, sym, ap, ◌∙◌, subst, arith, inl, inr}
 use Rattle.std.specs.List.{AllByRecursion, filter, list_any}
@@ -41,8 +41,8 @@ use Rattle.routing.proofs.IdleLemmas.{IsLeftOut, none_among, none_there, among_p
 
 -- ---- a share for a page
 
--- a share for the page at this place, of these places of the batch: those that begin in it, and those that reach it, but for some after one
--- that takes all of it, where nothing is put there
+-- a share for the page at this place, from these places of the batch: those that begin in it, and those that reach it, without some after a wipe of
+-- the whole page if nothing is put into it
 pub record IsShareFor {A : Type 0} (cs : List (Command A)) (ps : List ℕ) (at : Place) (s : Share) : Type 0 where
   pub pid : s.pid ≡ at.pid
   pub own : s.own ≡ filter (is_in_range cs at.low at.end) ps
@@ -50,7 +50,7 @@ pub record IsShareFor {A : Type 0} (cs : List (Command A)) (ps : List ℕ) (at :
   pub there : (p : ℕ) → is_among p s.reaching ≡ true → (is_among p ps ≡ true) × (reaches_at cs at.low p ≡ true)
   pub each : (p : ℕ) → is_among p ps ≡ true → reaches_at cs at.low p ≡ true → (is_among p s.reaching ≡ true) ⊎ IsLeftOut cs at.end s.own s.reaching p
 
--- shares for the pages at these places, but for those that get nothing
+-- shares for the pages at these places; pages without commands have none
 pub data AreSharesFor {A : Type 0} (cs : List (Command A)) (ps : List ℕ) : List Place → List Share → Type 0 where
   none : AreSharesFor cs ps [] []
   next : {ats : List Place} {ss : List Share} → (at : Place) → (s : Share) → IsShareFor cs ps at s → has_any s ≡ true → AreSharesFor cs ps ats ss → AreSharesFor cs ps (at ∷ ats) (s ∷ ss)
@@ -159,7 +159,7 @@ module _ {A : Type 0} (cs : List (Command A)) (ps : List ℕ) (in_order : AreInK
     reaching_all_below : AllByRecursion (IsBelowKey cs up.low) s.reaching
     reaching_all_below = all_weaker (λ q. is_among q s.reaching ≡ true) (IsBelowKey cs up.low) (λ q m. reaching_below cs up.low q (h.there q m).1) s.reaching (all_among s.reaching)
 
-    -- a share's places stand in the order of their keys
+    -- a share's places are in key order
     pub all_in_order : AreInKeyOrder cs (all_of s)
     all_in_order = in_order-append cs up.low s.reaching s.own reaching_all_below all_from h.in_order own_in_order
 

@@ -86,7 +86,7 @@ module _ {X : Type 0} where
   below-places_from m n passes [] h = tt
   below-places_from m n passes (x ∷ xs) h = below_by (passes x) m n (places_from (suc n) passes xs) (omega arith) (below-places_from m (suc n) passes xs (omega arith))
 
-  -- where all pass, they are all places
+  -- if all pass, they are all places
   pub places_from-all : (n : ℕ) (passes : X → Bool) (xs : List X) → ((x : X) → passes x ≡ true) → places_from n passes xs ≡ range_with_len n (length xs)
   places_from-all n passes [] h = refl
   places_from-all n passes (x ∷ xs) h = let t = h x in rw (t, places_from-all (suc n) passes xs h, add-one) refl
@@ -122,7 +122,7 @@ later_among_by : (b : Bool) (n : ℕ) (ms : List ℕ) → is_among (suc n) (cond
 later_among_by true n ms = let e : nat_eq (suc n) 0 ≡ false = apart_by (nat_eq (suc n) 0) (suc n) 0 refl (λ h. omega arith) in rw e refl
 later_among_by false n ms = refl
 
--- a place is among those of what passes exactly if what stands there passes
+-- a place is among the places of the passing items if and only if its item passes
 pub among-places : {X : Type 0} (n : ℕ) (passes : X → Bool) (xs : List X) → is_among n (places_from 0 passes xs) ≡ is_some_that passes (slice_get xs n)
 among-places n passes [] = refl
 among-places zero passes (x ∷ xs) = first_among_by (passes x) (places_from 1 passes xs) (rw (places_from-suc 0 passes xs) (zero_among (places_from 0 passes xs)))
@@ -159,14 +159,14 @@ later_counted_by true n ms =
     counted (suc n) 0 ms ∙ rw e (omega arith)
 later_counted_by false n ms = refl
 
--- a place is there once if what stands there passes, else not at all
+-- a place occurs once among them if its item passes, else not at all
 count-places : {X : Type 0} (n : ℕ) (passes : X → Bool) (xs : List X) → count_of n (places_from 0 passes xs) ≡ cond (is_some_that passes (slice_get xs n)) 1 0
 count-places n passes [] = refl
 count-places zero passes (x ∷ xs) = first_counted_by (passes x) (places_from 1 passes xs) (rw (places_from-suc 0 passes xs) (zero_counted (places_from 0 passes xs)))
 count-places (suc n) passes (x ∷ xs) =
     later_counted_by (passes x) n (places_from 1 passes xs) ∙ ap (λ (is : List ℕ). count_of (suc n) is) (places_from-suc 0 passes xs) ∙ count-suc n (places_from 0 passes xs) ∙ count-places n passes xs
 
--- what stands at a place that there is passes, where all do
+-- if all items pass, the item at any place passes
 pub all_passed_at : {X : Type 0} (passes : X → Bool) → ((x : X) → passes x ≡ true) → (xs : List X) (n : ℕ) → n < length xs → is_some_that passes (slice_get xs n) ≡ true
 all_passed_at passes h [] n l = absurd (omega arith)
 all_passed_at passes h (x ∷ xs) zero l = h x
@@ -221,7 +221,7 @@ before_end : (mid : List ℕ) (end : Option (List ℕ)) (k : List ℕ) → IsBef
 before_end mid None k l h = refl
 before_end mid (Some end) k l h = below_later mid end k l h
 
--- a key lies in a range, or in none, on just one side of a key in it
+-- a key lies in a range, or in none, on exactly one side of a key in it
 pub within_parts : (low mid : List ℕ) (end : Option (List ℕ)) (k : List ℕ) → order low mid ≡ Less → IsBefore end mid → is_within low end k ≡ (is_within low (Some mid) k || is_within mid end k)
 within_parts low mid end k l m = within_by (is_below k low) (is_below k mid) (is_before end k) (below_later low mid k l) (before_end mid end k m)
 

@@ -28,8 +28,8 @@ three = leaf 7 [] ∷ leaf 2 (97 ∷ []) ∷ leaf 5 (97 ∷ 97 ∷ []) ∷ []
 no_routes : routes {A = Global} three [] ≡ []
 no_routes = refl
 
--- a command at a low key goes to the leaf that begins there, the empty key to the first, and what lies between keys that
--- begin alike to the leaf on the left; a leaf's commands stand in the order of the batch
+-- a command at a leaf's low key goes to that leaf, the empty key to the first leaf, and a key between two low keys with a common prefix to the leaf
+-- on the left; a leaf's commands are in batch order
 abbrev batch : Commands
 batch = Put (97 ∷ 98 ∷ []) (49 ∷ []) ∷ Get (97 ∷ []) ∷ Del [] ∷ Add (97 ∷ 97 ∷ []) (50 ∷ []) ∷ Get (97 ∷ 0 ∷ []) ∷ Del (96 ∷ 255 ∷ []) ∷ Get (97 ∷ []) ∷ []
 
@@ -72,7 +72,7 @@ scans = Scan (97 ∷ []) None 10 ∷ Scan d (Some f) 10 ∷ Scan d (Some (103 �
 scans_go : routes four scans ≡ to 7 (0 ∷ 5 ∷ []) ∷ to 2 (0 ∷ 1 ∷ 2 ∷ 3 ∷ 5 ∷ 7 ∷ 8 ∷ []) ∷ to 5 (0 ∷ 2 ∷ 4 ∷ 5 ∷ 8 ∷ []) ∷ to 9 (0 ∷ 6 ∷ 8 ∷ []) ∷ []
 scans_go = refl
 
--- a leaf may be met by a scan alone
+-- a leaf may be reached by a scan alone
 one_scan : routes {A = Global} four (Scan [] None 1 ∷ []) ≡ to 7 (0 ∷ []) ∷ to 2 (0 ∷ []) ∷ to 5 (0 ∷ []) ∷ to 9 (0 ∷ []) ∷ []
 one_scan = refl
 
@@ -116,7 +116,7 @@ ends_sooner = refl
 no_end : is_idle {A = Global} (Wipe d (Some (122 ∷ [])) ∷ Scan [] None 10 ∷ []) j None 1 ≡ false
 no_end = refl
 
--- a scan takes nothing away, and what stands before the wipe finds what was there
+-- a scan deletes nothing, and a command before the wipe finds the old pairs
 before_the_wipe : is_idle {A = Global} (Scan [] None 10 ∷ Scan [] None 1 ∷ Wipe [] None ∷ []) f (Some j) 1 ≡ false
 before_the_wipe = refl
 

@@ -1,4 +1,4 @@
--- Lemmas on the runs of pages, which lack some commands that are idle there, for the proofs of this crate and of those above it.
+-- Lemmas on the runs of pages, without some idle commands, for the proofs of this crate and of those above it.
 use Rattle.std.specs.Prelude.{◌≡◌, ◌⊎◌, ℕ, zero, suc, ◌+◌, ◌<◌, Bool, true, false, not, ◌&&◌, ◌||◌, cond, List, [], ◌∷◌, ◌++◌, flat_map, length, take, slice_get, nat_eq, count_by, Option, Some, None}
 use Rattle.std.proofs.Common.{refl, sym, ap, ◌∙◌, subst, arith, inl, inr, eqb-true}
 use Rattle.std.specs.List.{AllByRecursion, filter, list_any}
@@ -140,7 +140,7 @@ count_if b true f n m xs ys e g k ih = counted n m ys ∙ ap (λ (i : ℕ). cond
 count_if true false f n m xs ys e g k ih = absurd (let same : m ≡ n = eqb-true m n e in let t : f n ≡ false = subst (λ (i : ℕ). f i ≡ false) same g in cc)
 count_if false false f n m xs ys e g k ih = ih ∙ sym (counted n m xs ∙ ap (λ (b : Bool). cond b 1 0 + count_of n xs) e ∙ omega arith)
 
--- a place that passes stands among those that do as often as among all
+-- a place that passes occurs as often among the passing places as among all places
 count-filter : (f : ℕ → Bool) (n : ℕ) → f n ≡ true → (xs : List ℕ) → count_of n (filter f xs) ≡ count_of n xs
 count-filter f n k [] = refl
 count-filter f n k (x ∷ xs) = count_if (nat_eq x n) (f x) f n x xs (filter f xs) refl refl k (count-filter f n k xs)

@@ -47,7 +47,7 @@ found_before f [] w (suc p) l h = absurd (cc)
 found_before f (x ∷ xs) zero (suc p) l h = rw h refl
 found_before f (x ∷ xs) (suc w) (suc p) l h = or_right (f x) (list_any f (take p xs)) (found_before f xs w p (omega arith) h)
 
--- what is found nowhere doesn't pass where it is among the list
+-- what is found nowhere doesn't pass if it is among the list
 not_found : (f : ℕ → Bool) (p : ℕ) (xs : List ℕ) → list_any f xs ≡ false → is_among p xs ≡ true → f p ≡ false
 not_found f p xs n m = holds_among (λ q. f q ≡ false) p xs (none_of f xs n) m
 

@@ -1,4 +1,4 @@
--- Lemmas on the shares that go down the tree, for the proofs of this crate.
+-- Lemmas on the shares that are distributed down the tree, for the proofs of this crate.
 use Rattle.std.specs.Prelude.{◌≡◌, ℕ, zero, suc, ◌+◌, ◌-◌, ◌<◌, ◌≤◌, Bool, true, false, ◌&&◌, ◌||◌, cond, List, [], ◌∷◌, ◌++◌, map, length, take, drop, slice_get, Option, Some, None}
 use Rattle.std.proofs.Common.{refl, sym, ap, ◌∙◌, subst, arith, append-nil, append_assoc, get_or, Less}
 use Rattle.std.specs.List.{AllByRecursion, filter, list_any, slice_range}
@@ -123,7 +123,7 @@ points_of_batch : {A : Type 0} (cs : List (Command A)) (es : List Keyed) → lis
 points_of_batch cs [] h = tt
 points_of_batch cs (e ∷ es) h = (point_at cs e.1 (none_found is_ranged cs h), points_of_batch cs es h)
 
--- where no scan meets a page, none of its places has one
+-- if no scan meets a page, none of its places has one
 places_by : {A : Type 0} (cs : List (Command A)) (es : List Keyed) → AllByRecursion (λ e. is_ranged_at cs e.1 ≡ false) es → ArePoints cs (places_of es)
 places_by cs [] a = tt
 places_by cs (e ∷ es) a = (a.0, places_by cs es a.1)
@@ -151,7 +151,7 @@ share_at P (s ∷ ss) (suc i) d l a = let m : i < length ss = omega arith in sha
 pub share_taken : (P : Share → Type 0) (shares : List Lent) (i : ℕ) (d l : Lent) → i < length shares → l ≡ get_or shares i d → AllByRecursion P (lent_shares shares) → P (share_of_lent l)
 share_taken P shares i d l w t a = subst (λ (x : Lent). P (share_of_lent x)) (sym t) (share_at P shares i d w a)
 
--- one more share, where the rest is what there was
+-- one more share, if the rest is what there was
 pub push_share : (old new : List Lent) (share : Lent) (r : Share) (more less : List Share) → new ≡ old ++ share ∷ [] → share_of_lent share ≡ r → more ≡ r ∷ less → lent_shares new ++ less ≡ lent_shares old ++ more
 push_share old new share r more less i k j =
     ap (λ (n : List Lent). lent_shares n ++ less) i
@@ -199,7 +199,7 @@ module _ {A : Type 0} (cs : List (Command A)) where
   never_reaching : (low : List ℕ) (ps : List ℕ) → ArePoints cs ps → AllByRecursion (λ p. reaches_at cs low p ≡ false) ps
   never_reaching low ps a = all_weaker (λ p. is_ranged_at cs p ≡ false) (λ p. reaches_at cs low p ≡ false) (λ p h. never_by low (slice_get cs p) h) ps a
 
-  -- where all of some places reach a page, and none is a scan's, there are none
+  -- if all of some places reach a page, and none is a scan's, there are none
   none_reached : (low : List ℕ) (ps : List ℕ) → ArePoints cs ps → AllByRecursion (λ p. reaches_at cs low p ≡ true) ps → ps ≡ []
   none_reached low [] h a = refl
   none_reached low (p ∷ ps) h a = absurd (let n = never_by low (slice_get cs p) h.0 in let t = a.0 in cc)
@@ -282,7 +282,7 @@ module _ {A : Type 0} (cs : List (Command A)) where
   shares_after [] xs ys r a = refl
   shares_after (e ∷ es) xs ys r a = after_by e es xs ys r a
 
-  -- where a list is cut at an end: what stands before the cut is before the end, and what stands after it isn't
+  -- a list split at an end: the places in the first part are before the end, and those in the second part are not
   pub record IsCutAt (end : Option (List ℕ)) (xs ys : List ℕ) : Type 0 where
     pub before : AllByRecursion (λ q. is_before end (key_at cs q) ≡ true) xs
     pub following : AllByRecursion (λ q. is_before end (key_at cs q) ≡ false) ys
@@ -324,7 +324,7 @@ module _ {A : Type 0} (cs : List (Command A)) where
       let first : Route = record { pid = child.0; places = xs } in
       skipped e f es (xs ++ ys) from ∙ ih b c ∙ ap (λ (rs : List Route). first ∷ rs) (sym (skipped e f es ys (all_apart (λ q. is_below (key_at cs q) f.0 ≡ false) xs ys from).1))
 
-  -- the child that a key goes to gets the places before its end, where the key is that of the first place
+  -- the child that a key goes to gets the places before its end, if the key is that of the first place
   first_from : (e : List ℕ × ℕ) (es : List (List ℕ × ℕ)) (p : ℕ) (qs xs ys : List ℕ) → p ∷ qs ≡ xs ++ ys → IsRising (e ∷ es) → is_below (key_at cs p) e.0 ≡ false → AreInKeyOrder cs (p ∷ qs) → has_some xs ≡ true
       → IsCutAt (child_with_end (key_at cs p) (e ∷ es)).1 xs ys → IsFirst (e ∷ es) (child_with_end (key_at cs p) (e ∷ es)) xs ys
   unfolding IsStrictlySortedBy
@@ -346,7 +346,7 @@ module _ {A : Type 0} (cs : List (Command A)) where
   before_end k (e ∷ []) = refl
   before_end k (e ∷ f ∷ es) = before_by (is_below k f.0) k e f es refl (before_end k (f ∷ es))
 
-  -- so its place stands before the cut
+  -- so its place is in the first part
   pub some_before : (es : List (List ℕ × ℕ)) (p : ℕ) (qs : List ℕ) (n : ℕ) → IsCutAt (child_with_end (key_at cs p) es).1 (take n (p ∷ qs)) (drop n (p ∷ qs)) → (0 < n) × (has_some (take n (p ∷ qs)) ≡ true)
   some_before es p qs zero c = absurd (let b = before_end (key_at cs p) es in let d = c.following.0 in cc)
   some_before es p qs (suc n) c = (omega arith, refl)
@@ -399,7 +399,7 @@ module _ {A : Type 0} (cs : List (Command A)) where
   child_for_first page [] d l h = absurd (omega arith)
   child_for_first page (e ∷ es) d l h = subst (λ (k : List ℕ). HasChildFor page k) (sym h.keys.0) h.places.each.0
 
-  -- entries whose keys are below another stand before the others
+  -- entries with keys below another key come first
   pub parted_keyed : (page : PageOfKind) (es : List Keyed) (k : List ℕ) → CanHandDownKeyed cs page es → IsPartitionedBy (has_key_below k) es
   parted_keyed page es k h = λ i j d l w t.
       let all = All-from_recursion (λ (entry : Keyed). entry.0 ≡ key_at cs entry.1) es h.keys in
@@ -476,7 +476,7 @@ module _ {A : Type 0} (cs : List (Command A)) where
   pub part_is : (es : List Keyed) (start count end : ℕ) → end ≡ start + count → slice_range es start end ≡ take count (drop start es)
   part_is es start count end e = let n : end - start ≡ count = omega arith in ap (λ (i : ℕ). take i (drop start es)) n
 
-  -- one more share, where the rest is what there was
+  -- one more share, if the rest is what there was
   pub hand_step : (page : PageOfKind) (es rest : List Keyed) (start count end : ℕ) (pid : ℕ) (old new : List Lent) (lent : Lent) (whole : List Share) → rest ≡ drop start es → end ≡ start + count → lent.pid ≡ pid → lent.keyed ≡ slice_range es start end → lent.reaching ≡ [] → new ≡ old ++ lent ∷ []
       → (let s : Share = record { pid = pid; own = places_of (take count rest); reaching = [] } in shares_below cs page (places_of rest) ≡ s ∷ shares_below cs page (places_of (drop count rest)))
       → lent_shares old ++ shares_below cs page (places_of (drop start es)) ≡ whole → lent_shares new ++ shares_below cs page (places_of (drop end es)) ≡ whole

@@ -32,7 +32,7 @@ use Rattle.routing.specs.SortedPlaces.{order_of_places, AreInKeyOrder, AreSorted
 use Rattle.routing.proofs.RouteLemmas.{among-places, goes_as, all_places, within_parts, rising-places_from, among-append}
 use Rattle.routing.proofs.SortLemmas.{total_places, holds_among, among-permutation, same_sorted, same_number}
 
--- numbers where none stands twice rise strictly, once they are put in order
+-- distinct numbers, once sorted, rise strictly
 pub rising_once_sorted : (ps qs : List ℕ) → IsDistinct nat_eq ps → IsPermutation ps qs → IsNonDecreasing qs → IsStrictlyIncreasing qs
 rising_once_sorted ps qs d p s = IsStrictlyIncreasing-from_distinct qs s (IsDistinct-IsPermutation nat_eq nat_eq_equiv.symm ps qs p d)
 
@@ -235,7 +235,7 @@ module _ {A : Type 0} (cs : List (Command A)) where
   before_all low r [] h a = tt
   before_all low r (p ∷ ps) h a = (rw (less_through (key_at cs r) (key_at cs p) low h a.0) refl, before_all low r ps h a.1)
 
-  -- places below a key and places from it on stand in order together
+  -- places below a key, followed by places from that key on, are in order
   pub in_order-append : (low : List ℕ) (rs ps : List ℕ) → AllByRecursion (IsBelowKey low) rs → AllByRecursion (IsFromKey low) ps → AreInKeyOrder cs rs → AreInKeyOrder cs ps → AreInKeyOrder cs (rs ++ ps)
   unfolding IsStrictlySortedBy
   in_order-append low [] ps a b s t = t
@@ -261,7 +261,7 @@ module _ {A : Type 0} (cs : List (Command A)) where
       let rising = sorted_from_strictly_increasing qs (rising_once_sorted (rs ++ ps) qs (distinct (rs ++ ps) (both_in_order low end rs ps r h)) p s) in
       same_sorted nat_cmp nat_cmp_total same_number qs (places_within low end cs) (λ i. sym (among-permutation i (rs ++ ps) qs p) ∙ among_both low end rs ps r h i) rising (rising-places_from 0 (goes_to low end) cs)
 
-  -- ---- which of them go on
+  -- ---- which of them continue
 
   -- what reaches a page begins in the one before it, or reaches that
   onward_is : (low mid : List ℕ) (o : Option (Command A)) → order low mid ≡ Less → ((is_some_that (reaches low) o || is_some_that (begins_in low (Some mid)) o) && is_some_that (reaches mid) o) ≡ is_some_that (reaches mid) o
@@ -287,7 +287,7 @@ module _ {A : Type 0} (cs : List (Command A)) where
   unfolding IsStrictlySortedBy
   none_reach = record { own = λ n. sym (among-places n (reaches []) cs ∙ none_reach_by (slice_get cs n)); in_order = tt }
 
-  -- ---- a search by halves
+  -- ---- binary search
 
   below_by : (o : Ordering) (p q : ℕ) (k : List ℕ) → order (key_at cs p) (key_at cs q) ≡ o → ordering_then o (nat_cmp p q) ≡ Less → IsBelowKey k q → IsBelowKey k p
   below_by Less p q k e l h = rw (total.trans (key_at cs p) (key_at cs q) k e (below_is_less (key_at cs q) k h)) refl
@@ -297,7 +297,7 @@ module _ {A : Type 0} (cs : List (Command A)) where
   pub earlier_below : (p q : ℕ) (k : List ℕ) → order_of_places cs p q ≡ Less → IsBelowKey k q → IsBelowKey k p
   earlier_below p q k l h = below_by (order (key_at cs p) (key_at cs q)) p q k refl l h
 
-  -- of places in key order, those below a key stand first
+  -- among places in key order, those below a key come first
   pub parted_by_key : (k : List ℕ) (ps : List ℕ) → AreInKeyOrder cs ps → IsPartitionedBy (λ place. is_below (key_at cs place) k) ps
   parted_by_key k ps s = λ i j d l w h. elim (cases_lt i j) [
     | inl b ↦ earlier_below (get_or ps i d) (get_or ps j d) k (Less-from_sorted (order_of_places cs) ps i j d s b w) h
@@ -325,7 +325,7 @@ module _ {X : Type 0} (f : X → Bool) where
   abbrev NonePass : List X → Type 0
   NonePass xs = AllByRecursion (λ x. f x ≡ false) xs
 
-  -- of those that pass and stand first, the same holds in any part
+  -- if the items that pass come first in a list, they do in every part of it
   pub parted_part : (xs : List X) (low high : ℕ) → IsPartitionedBy f xs → high ≤ length xs → IsPartitionedBy f (slice_range xs low high)
   parted_part xs low high p h = λ i j d l w t.
       let many = length-take (high - low) (drop low xs) in
@@ -354,7 +354,7 @@ module _ {X : Type 0} (f : X → Bool) where
       none_by true e g n = absurd (let t = g e in cc)
       none_by false e g n = e
 
-  -- where those before a stretch pass and those after it don't, a cut of the stretch is one of the whole
+  -- if those before a stretch pass and those after it don't, a cut of the stretch is one of the whole
   cut_within : (ss ds : List X) (n : ℕ) → n ≤ length ss → AllPass (take n ss) → NonePass (drop n ss) → NonePass ds → AllPass (take n (ss ++ ds)) × NonePass (drop n (ss ++ ds))
   cut_within ss ds zero l a b e = (tt, all-append (λ x. f x ≡ false) ss ds b e)
   cut_within [] ds (suc n) l a b e = absurd (omega arith)

@@ -1,4 +1,4 @@
--- Lemmas on the walk over an index page's children, from left to right, where scans go on from child to child.
+-- Lemmas on the walk over an index page's children, from left to right, with scans that continue from child to child.
 use Rattle.std.specs.Prelude.{◌≡◌, ℕ, zero, suc, ◌+◌, ◌<◌, ◌≤◌, Bool, true, false, ◌||◌, cond, List, [], ◌∷◌, ◌++◌, length, take, drop, Option, Some, None}
 use Rattle.std.proofs.Common.{refl, sym, ap, ◌∙◌, subst, arith, append-nil, append_assoc, Less}
 use Rattle.std.specs.List.{AllByRecursion, filter, slice_range}
@@ -33,7 +33,7 @@ abbrev pub from_low : List ℕ → Names → Names
 from_low low [] = []
 from_low low (e ∷ es) = cond (is_below e.0 low) (from_low low es) (e ∷ es)
 
--- a key at which an entry stands
+-- a key that is the key of an entry
 pub record IsEntry (es : Names) (low : List ℕ) : Type 0 where
   pub some : 0 < length (from_low low es)
   pub first : first_key (from_low low es) ≡ low
@@ -74,7 +74,7 @@ entry_later e es low b h = record { some = rw b at h.some; first = rw b at h.fir
 entry_earlier : (e : List ℕ × ℕ) (es : Names) (low : List ℕ) → is_below e.0 low ≡ true → IsEntry es low → IsEntry (e ∷ es) low
 entry_earlier e es low b h = record { some = rw b h.some; first = rw b h.first }
 
--- the first entry isn't above a key at which an entry stands
+-- the first entry isn't above the key of an entry
 first_by : (b : Bool) (f : List ℕ × ℕ) (es : Names) (low : List ℕ) → is_below f.0 low ≡ b → IsEntry (f ∷ es) low → is_below low f.0 ≡ false
 first_by true f es low b h = not_below_lower f.0 low (below_is_less f.0 low b)
 first_by false f es low b h = let e : f.0 ≡ low = rw b at h.first in rw (← e) (not_below_itself f.0)
@@ -194,7 +194,7 @@ module _ {A : Type 0} (cs : List (Command A)) where
       got true i e = refl
       got false i e = e
 
-  -- what is left for the children from this key on
+  -- what remains for the children from this key on
   abbrev left_over : List ℕ → List ℕ → List ℕ → List ℕ → List ℕ
   left_over end rs xs ys = filter (reaches_at cs end) (rs ++ xs) ++ ys
 
@@ -203,7 +203,7 @@ module _ {A : Type 0} (cs : List (Command A)) where
   below_end e f rs xs l r b =
       all-append (IsBelowKey cs f.0) rs xs (all_weaker (IsBelowKey cs e.0) (IsBelowKey cs f.0) (λ q h. below_through (key_at cs q) e.0 f.0 h l) rs (all_below e.0 rs r)) b
 
-  -- the first child gets what lies before its end, and what reaches it; the others get what is left over
+  -- the first child gets the places before its end and those that reach it; the others get the rest
   here : (e f : List ℕ × ℕ) (es : Names) (rs xs ys : List ℕ) → IsRising (e ∷ f ∷ es) → AllByRecursion (λ q. reaches_at cs e.0 q ≡ true) rs → AllByRecursion (IsFromKey cs e.0) (xs ++ ys) → AreParted (Some f.0) xs ys
       → (has_some xs || has_some rs) ≡ true
       → (let s : Share = record { pid = e.1; own = xs; reaching = without_idle cs (Some f.0) xs rs } in shares cs (rs ++ (xs ++ ys)) (children (e ∷ f ∷ es) None) ≡ s ∷ shares cs (left_over f.0 rs xs ys) (children (f ∷ es) None))
@@ -243,7 +243,7 @@ module _ {A : Type 0} (cs : List (Command A)) where
 
   -- ---- the next child that gets anything
 
-  -- what is left for the children after one whose range has this end
+  -- what remains for the children after one whose range has this end
   abbrev pub rest_of : Option (List ℕ) → List ℕ → List ℕ → List ℕ → Names → List Share
   rest_of None rs xs ys es = []
   rest_of (Some end) rs xs ys es = shares cs (left_over end rs xs ys) (children (from_low end es) None)
@@ -285,7 +285,7 @@ module _ {A : Type 0} (cs : List (Command A)) where
 
   -- ---- a step of the walk
 
-  -- where the walk stands: at the key of an entry, with scans that reach it, and with places from it on
+  -- the state of the walk: at the key of an entry, with scans that reach it, and with places from it on
   pub record IsAt (es : Names) (low : List ℕ) (rs qs : List ℕ) : Type 0 where
     pub entry : IsEntry es low
     pub reach : AllByRecursion (λ q. reaches_at cs low q ≡ true) rs
@@ -299,7 +299,7 @@ module _ {A : Type 0} (cs : List (Command A)) where
       next_from k e left rs xs ys r (subst (λ (x : List ℕ). AllByRecursion (λ q. reaches_at cs x q ≡ true) rs) (sym same) a.reach) (subst (λ (x : List ℕ). AllByRecursion (IsFromKey cs x) (xs ++ ys)) (sym same) a.from)
       (λ h. w h ∙ sym same) n s p
 
-  -- a child's range ends after the key where the walk stands, at another entry, and fewer are left from there
+  -- a child's range ends after the walk's key, at another entry, and fewer entries remain from there on
   end_from : (left es : Names) (k low end : List ℕ) → left ≡ from_low low es → IsRising left → IsEntry es low → (child_with_end k left).1 ≡ Some end → (order low end ≡ Less) × (length (from_low end left) < length left) × IsEntry left end
   end_from [] es k low end t r h c = absurd (cc)
   end_from (e ∷ left) es k low end t r h c =
@@ -331,7 +331,7 @@ module _ {A : Type 0} (cs : List (Command A)) where
       ∙ ap (λ (ss : List Share). share pid child.1 ∷ ss) (rest_from child.1 es k low rs xs ys r a.entry refl)
       ∙ ap (λ (o : Option (List ℕ)). share pid o ∷ rest_of o rs xs ys es) (sym end_is)
 
-  -- and the walk stands at its end then, with fewer children left
+  -- the walk's next state is at that end, with fewer children remaining
   pub walk_on : (es : Names) (k low end : List ℕ) (rs xs ys : List ℕ) (pid : ℕ) → IsRising es → IsAt es low rs (xs ++ ys) → is_below k low ≡ false → (pid, Some end) ≡ child_with_end k es → AreParted (Some end) xs ys
       → IsAt es end (filter (reaches_at cs end) (rs ++ xs)) ys × (length (from_low end es) < length (from_low low es))
   walk_on es k low end rs xs ys pid r a b c p =
@@ -344,8 +344,8 @@ module _ {A : Type 0} (cs : List (Command A)) where
 
   -- ---- the next key
 
-  -- what is known of the next key: it isn't below where the walk stands, it is there where scans go on, no place is below it, and some are
-  -- before each end after it
+  -- the next key: it isn't below the walk's key, it equals that key if scans reach it, no place is below it, and some places are before each end
+  -- after it
   record IsNextKey (low : List ℕ) (rs ps : List ℕ) (k : List ℕ) : Type 0 where
     above : is_below k low ≡ false
     at_low : has_some rs ≡ true → k ≡ low
@@ -387,7 +387,7 @@ module _ {A : Type 0} (cs : List (Command A)) where
   two_parts : (es : List Keyed) (n : ℕ) → places_of es ≡ places_of (take n es) ++ places_of (drop n es)
   two_parts es n = ap (λ (x : List Keyed). places_of x) (sym (take-append-drop n es)) ∙ map-append (λ (e : Keyed). e.1) (take n es) (drop n es)
 
-  -- where the walk stands, by entries, and the next key
+  -- the state of the walk, by entries, and the next key
   pub record IsWalking (page : PageOfKind) (low : List ℕ) (rs : List ℕ) (rest : List Keyed) (k : List ℕ) : Type 0 where
     pub can : CanHandDownKeyed cs page rest
     pub at : IsAt (child_entries page) low rs (places_of rest)
@@ -404,7 +404,7 @@ module _ {A : Type 0} (cs : List (Command A)) where
       some_child [] h n = absurd (let s = h.some in omega arith)
       some_child (e ∷ es) h n = (omega arith, from_higher (is_below k e.0) k low e.0 refl (first_by (is_below e.0 low) e es low refl h) n)
 
-  -- the next child's share, and what is left for those after it
+  -- the next child's share, and what remains for those after it
   pub walked : (page : PageOfKind) (low k : List ℕ) (rs : List ℕ) (rest : List Keyed) (n : ℕ) (pid : ℕ) (end : Option (List ℕ)) → IsWalking page low rs rest k → (pid, end) ≡ child_with_end k (child_entries page) → AreCutAt cs end (take n rest) (drop n rest)
       → (let s : Share = record { pid = pid; own = places_of (take n rest); reaching = without_idle cs end (places_of (take n rest)) rs } in
       shares cs (rs ++ places_of rest) (children (from_low low (child_entries page)) None) ≡ s ∷ rest_of end rs (places_of (take n rest)) (places_of (drop n rest)) (child_entries page))
@@ -425,7 +425,7 @@ module _ {A : Type 0} (cs : List (Command A)) where
       ap (λ (zs : List ℕ). shares cs (rs ++ zs) (children (from_low low es) None)) two
       ∙ walk_step es k low rs xs ys pid end w.can.places.rising (subst (λ (zs : List ℕ). IsAt es low rs zs) two w.at) next.above next.at_low (subst (λ (zs : List ℕ). AllByRecursion (IsFromKey cs k) zs) two next.from) some c parted
 
-  -- and where the walk stands then
+  -- the next state of the walk
   pub walked_on : (page : PageOfKind) (low k end : List ℕ) (rs : List ℕ) (rest : List Keyed) (n : ℕ) (pid : ℕ) → IsWalking page low rs rest k → (pid, Some end) ≡ child_with_end k (child_entries page) → AreCutAt cs (Some end) (take n rest) (drop n rest)
       → IsAt (child_entries page) end (filter (reaches_at cs end) (rs ++ places_of (take n rest))) (places_of (drop n rest)) × (length (from_low end (child_entries page)) < length (from_low low (child_entries page)))
   walked_on page low k end rs rest n pid w c cut =
@@ -451,7 +451,7 @@ module _ {A : Type 0} (cs : List (Command A)) where
             ∙ ap (λ (zs : List ℕ). shares cs (s.reaching ++ zs) (children es None)) p,
       )
 
-  -- where the code stands, by what is left of the entries
+  -- the state of the code's loop, by the remaining entries
   pub walking : (page : PageOfKind) (low k : List ℕ) (rs : List ℕ) (es rest : List Keyed) (start : ℕ) → rest ≡ drop start es → CanHandDownKeyed cs page es → IsAt (child_entries page) low rs (places_of (drop start es)) → next_key low rs rest ≡ Some k → IsWalking page low rs rest k
   walking page low k rs es rest start t h a e = record {
     can = rest_keyed cs page es rest start t h;
@@ -490,7 +490,7 @@ module _ {A : Type 0} (cs : List (Command A)) where
       let both = walked_on page low k end rs rest count pid w c cut in
       (subst (λ (zs : List ℕ). IsAt (child_entries page) end zs (places_of (drop until es))) (sym on) (subst (λ (x : List Keyed). IsAt (child_entries page) end (filter (reaches_at cs end) (rs ++ places_of (take count rest))) (places_of x)) left both.0), both.1)
 
-  -- the last child takes all that is left
+  -- the last child takes everything that remains
   pub scan_last : (page : PageOfKind) (low k : List ℕ) (rs : List ℕ) (es rest : List Keyed) (start : ℕ) (pid : ℕ) (old new : List Lent) (lent : Lent) (whole : List Share) → rest ≡ drop start es → IsWalking page low rs rest k
       → (pid, None) ≡ child_with_end k (child_entries page) → lent.pid ≡ pid → lent.keyed ≡ rest → lent.reaching ≡ without_idle cs None (places_of rest) rs → new ≡ old ++ lent ∷ []
       → lent_shares old ++ shares cs (rs ++ places_of (drop start es)) (children (from_low low (child_entries page)) None) ≡ whole → lent_shares new ≡ whole
@@ -511,7 +511,7 @@ module _ {A : Type 0} (cs : List (Command A)) where
   nothing_next low [] [] e = (refl, refl)
   nothing_next low [] (x ∷ rest) e = absurd (cc)
 
-  -- where there is no next key, nothing is left
+  -- if there is no next key, nothing is left
   pub all_walked : (low : List ℕ) (rs : List ℕ) (es rest : List Keyed) (start : ℕ) (ats : List Place) (old : List Lent) (whole : List Share) → rest ≡ drop start es → next_key low rs rest ≡ None
       → lent_shares old ++ shares cs (rs ++ places_of (drop start es)) ats ≡ whole → lent_shares old ≡ whole
   all_walked low rs es rest start ats old whole t e h =

@@ -4,7 +4,7 @@ use Rattle.keys.specs.Bytes.{Bytes}
 use Rattle.keys.specs.CommandKey.{key_of}
 use Rattle.keys.specs.declared.command.Command.{Command}
 
--- the key of a command, and the empty key where there is none
+-- the key of a command, or the empty key if there is no command
 abbrev pub key_or_empty : {A : Type 0} → Option (Command A) → Bytes
 key_or_empty None = []
 key_or_empty (Some c) = key_of c

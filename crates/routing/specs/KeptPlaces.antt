@@ -1,4 +1,4 @@
--- The places of a page's commands, in either of the ways in which they are kept.
+-- The places of a page's commands, in either of the two representations.
 use Rattle.std.specs.Prelude.{ℕ, List, [], ◌∷◌}
 use Rattle.routing.specs.declared.page_run.KeptPlaces.{KeptPlaces}
 use Rattle.routing.specs.declared.page_run.KeptPlaces.TheVariants.{One, Many}

@@ -1,4 +1,4 @@
--- Places of a batch beside the keys of their commands, as they are sorted and handed down.
+-- Places of a batch beside the keys of their commands, as routing sorts and distributes them.
 use Rattle.std.specs.Prelude.{◌≡◌, ℕ, Bool, List, map}
 use Rattle.std.specs.List.{AllByRecursion}
 use Rattle.keys.specs.Bytes.{Bytes}

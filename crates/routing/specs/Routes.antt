@@ -10,8 +10,7 @@ use Rattle.index_page.specs.Range.{is_within}
 use Rattle.index_page.specs.Children.{Place, children, is_between}
 use Rattle.mapping.specs.Levels.{Placed, names}
 
--- whether a span goes to the page with this range of keys: to the page whose range has its key, or its lower bound; and with
--- bounds also to each page whose low key lies between them
+-- whether a span meets the page with this range of keys: the range contains its key or its lower bound, or the page's low key lies between its bounds
 abbrev pub meets_page : Bytes → Option Bytes → Span → Bool
 meets_page low end (One k) = is_within low end k
 meets_page low end (Range lo hi) = is_within low end lo || is_between lo hi low
@@ -24,7 +23,7 @@ goes_to low end c = meets_page low end (span_of c)
 abbrev pub goes_at : {A : Type 0} → List (Command A) → Bytes → Option Bytes → ℕ → Bool
 goes_at cs low end place = is_some_that (goes_to low end) (slice_get cs place)
 
--- the places, counted from this number on, of the items that pass
+-- the places, counted from this number on, of the items that pass the test
 abbrev pub places_from : {X : Type 0} → ℕ → (X → Bool) → List X → List ℕ
 places_from n passes [] = []
 places_from n passes (x ∷ xs) = if passes x then n ∷ places_from (suc n) passes xs else places_from (suc n) passes xs
@@ -48,15 +47,15 @@ has_some (p ∷ ps) = true
 abbrev pub has_places : Route → Bool
 has_places r = has_some r.places
 
--- the pages of a level, each with its range: up to the next page's low key, and of the last page without an end
+-- the pages of a level, each with its range, which ends at the next page's low key; the last page's range has no end
 abbrev pub ranges : {V : Type 0} → List (Placed V) → List Place
 ranges level = children (names level) None
 
--- for each page of a level that any command goes to, from left to right, its pid and the places of these commands
+-- for each page of a level that some command goes to, from left to right, its pid and the places of these commands
 abbrev pub routes : {A V : Type 0} → List (Placed V) → List (Command A) → List Route
 routes level cs = filter has_places (map (route_to cs) (ranges level))
 
--- a route to the page with this range: some places of the batch, which rise, each of a command that goes to the page
+-- a route to the page with this range: places of the batch, in rising order, of commands that go to the page
 pub record IsRouteTo {A : Type 0} (cs : List (Command A)) (at : Place) (r : Route) : Type 0 where
   pub pid : r.pid ≡ at.pid
   pub some : 0 < length r.places

@@ -16,11 +16,11 @@ use Rattle.routing.specs.BatchKeys.{key_at}
 use Rattle.routing.specs.Places.{places_below}
 use Rattle.routing.specs.Routes.{places_from}
 
--- how two places compare: by the keys of their commands, and where these are equal by the places
+-- compares two places by the keys of their commands, and equal keys by place
 abbrev pub order_of_places : {A : Type 0} → List (Command A) → ℕ → ℕ → Ordering
 order_of_places cs p q = ordering_then (order (key_at cs p) (key_at cs q)) (nat_cmp p q)
 
--- each place comes, in this order, before all that stand after it
+-- each place precedes, in this order, all places after it in the list
 abbrev pub AreInKeyOrder : {A : Type 0} → List (Command A) → List ℕ → Type 0
 AreInKeyOrder cs ps = IsStrictlySortedBy (order_of_places cs) ps
 
@@ -29,16 +29,16 @@ pub record AreSortedPlaces {A : Type 0} (cs : List (Command A)) (ps : List ℕ) 
   pub all : IsPermutation (places_below (length cs)) ps
   pub in_order : AreInKeyOrder cs ps
 
--- whether a command begins in the page with this range: its key lies in the range
+-- whether the key of a command lies in the page with this range
 abbrev pub begins_in : {A : Type 0} → Bytes → Option Bytes → Command A → Bool
 begins_in low end c = is_within low end (key_of c)
 
--- whether a span reaches the page with this low key from the left: it has bounds, and the low key lies between them
+-- whether a span reaches the page with this low key from the left: it is a range, and the low key lies between its bounds
 abbrev pub reaches_page : Bytes → Span → Bool
 reaches_page low (One k) = false
 reaches_page low (Range lo hi) = is_between lo hi low
 
--- whether a command does
+-- whether the command does
 abbrev pub reaches : {A : Type 0} → Bytes → Command A → Bool
 reaches low c = reaches_page low (span_of c)
 

@@ -1,4 +1,4 @@
-//! A batch as it goes down the tree.
+//! A batch whose scans may have closer upper bounds.
 ghost use Rattle.std.specs.Prelude.{◌≡◌, length, map, drop};
 ghost use Rattle.std.specs.List.{list_any};
 ghost use Rattle.std.specs.Option.{option_copied};
@@ -14,12 +14,12 @@ use keys::Command;
 use std::alloc::Global;
 use std::marker::Model;
 
-/// The commands of a batch as they go down the tree: a scan may have a nearer end in the place of its own upper bound, where
-/// it is known to have all its rows before that. Contracts see it as the list of the commands with these ends.
+/// The commands of a batch during routing. A scan may have a closer end instead of its own upper bound, if it is known
+/// to find all its rows before that end. Contracts see it as the list of the commands with these ends.
 #[derive(Drop)]
 pub struct BatchWithEnds<'a> {
     commands: &'a [Command<Global>],
-    // For each place the scan's nearer end, if it has one; places after the list's end have none.
+    // The closer end of the scan at each place, if it has one; places after the end of the list have none.
     ends: Vec<Option<&'a [u8]>>,
 }
 
@@ -36,22 +36,21 @@ impl<'a> Model for BatchWithEnds<'a> {
 }
 
 impl<'a> BatchWithEnds<'a> {
-    /// These commands, and for each place the scan's nearer end, if it has one. The list of the ends may be shorter: places
-    /// after its end have none.
+    /// Combines `commands` with the closer end of the scan at each place, if it has one. `ends` may be shorter than
+    /// `commands`: the remaining places have none.
     pub fn new(commands: &'a [Command<Global>], ends: Vec<Option<&'a [u8]>>) -> Self
         ensures { result ≡ with_ends commands.entry.now (map option_copied ends.entry.items) }
     {
         BatchWithEnds { commands, ends }
     }
 
-    // How many commands there are.
     pub(crate) fn len(&self) -> usize
         ensures { result ≡ length self.now }
     {
         self.commands.len()
     }
 
-    // The key of the command at this place, and the empty key where there is none.
+    // The key of the command at this place, or the empty key if there is no command.
     #[inline]
     pub(crate) fn key_at(&self, place: usize) -> &'a [u8]
         ensures { result.now ≡ key_at self.now place }
@@ -62,14 +61,14 @@ impl<'a> BatchWithEnds<'a> {
         }
     }
 
-    // Whether a command of the batch is on a range of keys.
+    // Whether a command of the batch covers a range of keys.
     pub(crate) fn has_ranges(&self) -> bool
         ensures { result ≡ list_any is_ranged self.now }
     {
         has_range(self.commands)
     }
 
-    // Whether the command at this place is on a range of keys.
+    // Whether the command at this place covers a range of keys.
     pub(crate) fn is_ranged_at(&self, place: usize) -> bool
         ensures { result ≡ is_ranged_at self.now place }
     {
@@ -79,7 +78,7 @@ impl<'a> BatchWithEnds<'a> {
         }
     }
 
-    // Whether the command at this place gives a key a value.
+    // Whether the command at this place sets the value of a key.
     pub(crate) fn gives_at(&self, place: usize) -> bool
         ensures { result ≡ gives_at self.now place }
     {
@@ -89,7 +88,7 @@ impl<'a> BatchWithEnds<'a> {
         }
     }
 
-    // Whether the command at this place is a wipe that takes all from its lower bound up to this end.
+    // Whether the command at this place is a wipe that covers all keys from its lower bound up to `end`.
     pub(crate) fn empties_at(&self, place: usize, end: Option<&[u8]>) -> bool
         ensures { result ≡ empties_at self.now (option_copied end.entry) place }
     {
@@ -99,7 +98,7 @@ impl<'a> BatchWithEnds<'a> {
         }
     }
 
-    // Whether the command at this place reaches the page with this low key.
+    // Whether the command at this place reaches the page with this low key from the left.
     pub(crate) fn reaches_at(&self, place: usize, low: &[u8]) -> bool
         ensures { result ≡ reaches_at self.now low.now place }
     {
@@ -110,14 +109,14 @@ impl<'a> BatchWithEnds<'a> {
     }
 }
 
-// Whether one of these commands is on a range of keys.
+// Whether one of these commands covers a range of keys.
 fn has_range(commands: &[Command<Global>]) -> bool
     ensures { result ≡ list_any is_ranged commands.now }
 {
     commands.iter().any(|command| command.is_ranged())
 }
 
-// The end at this place, if there is one.
+// The closer end at this place, if there is one.
 fn end_at<'a>(ends: &[Option<&'a [u8]>], place: usize) -> Option<&'a [u8]>
     ensures { option_copied result ≡ first_end (drop place (map option_copied ends.now)) }
 {

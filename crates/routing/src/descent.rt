@@ -1,4 +1,4 @@
-//! The way of a batch down the tree: level by level, each page with its part of the sorted places.
+//! Routes a batch down the tree, level by level, with the sorted places split among the pages.
 ghost use Rattle.std.specs.Prelude.{◌≡◌, ◌-◌, ◌/◌, ◌<◌, ◌≤◌, ◌∷◌, ◌++◌, List, [], length, take, drop, flat_map, IfOk, IfErr, OnOk};
 ghost use Rattle.std.specs.List.{AllByRecursion, list_any};
 ghost use Rattle.std.specs.Option.{option_copied};
@@ -26,15 +26,16 @@ use mapping::Tree;
 use std::alloc::{AllocError, Global};
 use std::thread::{Threads, join};
 
-// Fewer pages of a level are not shared: to start a thread would take longer.
+// Workers do not share a level with fewer pages than this, because starting a thread would take longer.
 const LEAST_PAGES: usize = 32;
 
-/// For each leaf of the tree that a command of the batch goes to, from left to right, its page id and the places of these commands, but for
-/// scans and wipes that find nothing left there: a leaf that a wipe takes whole, and into which the batch puts nothing, isn't visited again
-/// for each later one. A scan with a nearer end goes to no leaf from there on. The commands are sorted once, and each index page on their
-/// way is visited once. The workers, of whom the caller's thread is one, share a long batch; only its sort goes to as many threads as there
-/// are processors. One worker starts no thread. The tree is a proper one, and no page of it is away. It is refused only for lack of memory,
-/// with `Fault::NoMemory`.
+/// Returns, for each leaf that a command of the batch goes to, its page id and the places of these commands, from left
+/// to right. Leaves out scans and wipes that find nothing: if a wipe deletes all of a leaf and the batch puts nothing
+/// into it, later scans and wipes do not visit it again. A scan with a closer end goes to no leaf at or after that end.
+///
+/// Sorts the commands once and visits each index page on their way once. `workers` threads, including the caller's,
+/// share a long batch; the sort uses as many threads as there are processors. With one worker no thread is started. The
+/// tree must be proper, with no page checked out. Fails only with `Fault::NoMemory`.
 pub fn route(
     rt: &(impl Threads + Sync),
     workers: usize,
@@ -55,7 +56,7 @@ pub fn route(
     Ok(runs)
 }
 
-// The same of a batch whose places have been sorted: from the root down.
+// `route` of a batch whose places are sorted: descends from the root.
 fn route_sorted(
     rt: &(impl Threads + Sync),
     workers: usize,
@@ -78,9 +79,9 @@ fn route_sorted(
     runs_below(rt, workers, alloc, tree, batch, ranged, levels, &shares)
 }
 
-// The runs of the leaves `levels` levels below these shares' pages. Where the pages of a level are many, workers share them. It calls
-// itself once a level, 64 times at most, and once for each halving of the workers: what else it calls stays out of its frame, which is on
-// the stack so often.
+// The runs of the leaves `levels` levels below the pages of these shares. Workers share a level with many pages. The
+// recursion is at most 64 levels deep, and one deeper for each halving of the workers; all other work is in separate
+// functions, to keep its stack frame small.
 #[cycle(below)]
 fn runs_below<R: Threads + Sync>(
     rt: &R,
@@ -111,7 +112,7 @@ fn runs_below<R: Threads + Sync>(
     runs_below(rt, workers, alloc, tree, batch, ranged, levels - 1, &below)
 }
 
-// The runs below the shares of the first list, and then those below the shares of the other. Two threads find them at once.
+// The runs below the first list of shares, followed by those below the second list, computed by two threads.
 #[inline(never)]
 #[cycle(below)]
 fn runs_of_both<R: Threads + Sync>(
@@ -158,7 +159,6 @@ fn runs_of_both<R: Threads + Sync>(
     Ok(runs)
 }
 
-// The root with all places, if there are any.
 fn root_share<'a, 'k>(
     alloc: Global,
     root: Pid,
@@ -176,7 +176,7 @@ fn root_share<'a, 'k>(
     Ok(shares)
 }
 
-// Each share's page hands it down: the shares of the next level, in the order of the keys.
+// Distributes each share among the children of its page: the shares of the next level, in key order.
 #[inline(never)]
 fn one_level_down<'a, 'k>(
     alloc: Global,
@@ -202,7 +202,8 @@ fn one_level_down<'a, 'k>(
     Ok(below)
 }
 
-// Hands a page's share down to its children. Only in a batch with scans or wipes it checks whether one meets the page.
+// Distributes a page's share among its children. In a batch with scans or wipes, first checks whether one of them meets
+// the page.
 fn hand_down<'a, 'k>(
     alloc: Global,
     batch: &BatchWithEnds<'_>,
@@ -233,7 +234,7 @@ fn is_met(batch: &BatchWithEnds<'_>, share: &Share<'_, '_>) -> bool
     !share.reaching().is_empty() || has_range_at(batch, share.keyed())
 }
 
-// The same of a page that no scan and no wipe meets: each child gets the places of its range, if there are any.
+// `hand_down` for a page that no scan and no wipe meets: each child gets the places in its range, if there are any.
 fn hand_down_points<'a, 'k>(
     alloc: Global,
     page: &Page<Global>,
@@ -258,8 +259,8 @@ fn hand_down_points<'a, 'k>(
     Ok(())
 }
 
-// The child that the first of these places goes to, and how many of them go there. Where it is the only one left, the end of
-// the child's range needn't be searched for.
+// The child that the first of these places goes to, and how many places go there. If it is the only place, the end of
+// the child's range is not computed.
 fn first_child(page: &Page<Global>, keyed: &[Keyed<'_>]) -> (Pid, usize)
     requires some { 0 < length keyed.now }
     requires ready { (cs : List (Command Global)) × CanHandDownKeyed cs page.now keyed.now }
@@ -282,8 +283,8 @@ fn first_child(page: &Page<Global>, keyed: &[Keyed<'_>]) -> (Pid, usize)
     }
 }
 
-// The same with scans and wipes: child by child, from left to right, each with what begins in it and with those that reach it. A
-// child that gets neither is passed over.
+// `hand_down` with scans and wipes: from left to right, each child gets the commands that begin in it and those that
+// reach it. Children without commands are skipped.
 fn hand_down_with_ranges<'a, 'k>(
     alloc: Global,
     batch: &BatchWithEnds<'_>,
@@ -326,8 +327,8 @@ fn hand_down_with_ranges<'a, 'k>(
     Ok(())
 }
 
-// A key of the next child that gets anything: the next child's low key where scans or wipes reach it, else the first key, if there is
-// one.
+// A key of the next child with commands: the child's low key if scans or wipes reach it, else the first remaining key,
+// if there is one.
 fn next_key<'a, 'k>(keyed: &'a [Keyed<'k>], reaching: &[usize], low: &'a [u8]) -> Option<&'a [u8]>
     ensures { option_copied result ≡ next_key low.now reaching.now keyed.now }
 {
@@ -340,7 +341,6 @@ fn next_key<'a, 'k>(keyed: &'a [Keyed<'k>], reaching: &[usize], low: &'a [u8]) -
     }
 }
 
-// Each share with its places in the order of the batch.
 #[inline(never)]
 fn each_in_batch_order(alloc: Global, shares: &[Share<'_, '_>]) -> Result<Vec<PageRun>, AllocError>
     requires { AllByRecursion HasEachPlaceOnce (lent_shares shares.now) }
@@ -354,7 +354,7 @@ fn each_in_batch_order(alloc: Global, shares: &[Share<'_, '_>]) -> Result<Vec<Pa
     Ok(runs)
 }
 
-// The share with its places in the order of the batch. A single place is in order, and needs no list.
+// Sorts the share's places into batch order. A single place is in order, and needs no list.
 fn page_run_of(alloc: Global, share: &Share<'_, '_>) -> Result<PageRun, AllocError>
     requires { HasEachPlaceOnce (share_of_lent share.now) }
     ensures { IfOk result (λ run. IsInBatchOrder (share_of_lent share.now) run) }

@@ -1,4 +1,4 @@
-//! What the definitions of `specs/` mean. Each law is the contract of a function with an empty body.
+//! Laws about the definitions of `specs/`. Each law is the contract of a function with an empty body.
 ghost use Rattle.std.specs.Prelude.{◌≡◌, ◌<◌, ◌==◌, ◌++◌, ℕ, true, false, List, [], length, take, drop, flat_map, count_by, slice_get, Option, None, Some};
 ghost use Rattle.std.specs.declared.cmp.Ordering.TheVariants.{Less};
 ghost use Rattle.std.specs.List.{AllByRecursion, filter};
@@ -22,8 +22,8 @@ ghost use Rattle.routing.specs.SortedPlaces.{reaches_at, AreSortedPlaces, AreSor
 
 use std::alloc::Allocator;
 
-/// The places of the routes, joined, are places of the batch. Of pages that tile all keys, each place of the batch is among
-/// them, and it is there just once where its command is on one key.
+/// The routes contain only places of the batch. If the pages tile all keys, each place of the batch occurs in a route,
+/// and exactly once if its command has a single key.
 pub fn each_command_goes_to_its_pages<V, A: Allocator>()
     ensures within { (level : List (Placed V)) (cs : List (Command A)) →
         AllByRecursion (λ place. place < length cs) (flat_map (λ r. r.places) (routes level cs)) }
@@ -36,9 +36,9 @@ pub fn each_command_goes_to_its_pages<V, A: Allocator>()
         count_by (λ other. other == place) (flat_map (λ r. r.places) (routes level cs)) ≡ 1 }
 {}
 
-/// The runs of a level's pages are to its pages, from left to right, and each has some places of the batch, which rise, each of a
-/// command that goes to the page. Of pages that tile all keys, each place of the batch is in a run, and it is there just once
-/// where its command is on one key.
+/// The runs of a level are for its pages, from left to right. Each has places of the batch, in rising order, of
+/// commands that go to its page. If the pages tile all keys, each place of the batch occurs in a run, and exactly once
+/// if its command has a single key.
 pub fn each_command_is_in_the_runs_of_its_pages<V, A: Allocator>()
     ensures order { (level : List (Placed V)) (cs : List (Command A)) (rs : List Route) →
         AreRunsOf cs (ranges level) rs → AreRoutesTo cs (ranges level) rs }
@@ -51,8 +51,8 @@ pub fn each_command_is_in_the_runs_of_its_pages<V, A: Allocator>()
         count_by (λ other. other == place) (flat_map (λ r. r.places) rs) ≡ 1 }
 {}
 
-/// A page's run lacks a command that goes to the page only where it reaches the page from the left, a wipe at a lower place,
-/// which the run has, takes all keys of the page, and no command of the batch gives a key of the page a value.
+/// A page's run lacks a command that goes to the page only if the command reaches the page from the left, the run has
+/// an earlier wipe that deletes all keys of the page, and no command of the batch sets a value in the page.
 pub fn only_what_finds_nothing_is_left_out<A: Allocator>()
     ensures reaches { (cs : List (Command A)) (at : Place) (r : Route) (place : ℕ) →
         IsRunOf cs at r → goes_at cs at.low at.end place ≡ true → is_among place r.places ≡ false →
@@ -68,35 +68,35 @@ pub fn only_what_finds_nothing_is_left_out<A: Allocator>()
         slice_get cs other ≡ Some c → gives c ≡ true → is_within at.low at.end (key_of c) ≡ false }
 {}
 
-/// A scan goes to just those pages whose ranges meet its bounds: from the lower one on, and before the upper one.
+/// A scan goes to exactly those pages whose ranges meet its bounds (at or above the lower one, below the upper one).
 pub fn a_scan_goes_to_the_pages_that_it_meets<A: Allocator>()
     ensures { (lo : Bytes) (hi : Option Bytes) (limit : ℕ) (at : Place) →
         goes_to {A = A} at.low at.end (Scan lo hi limit) ≡ meets lo hi at }
 {}
 
-/// A wipe goes to just those pages too: it is cut by page like a scan.
+/// A wipe goes to exactly those pages too.
 pub fn a_wipe_goes_to_the_pages_that_it_meets<A: Allocator>()
     ensures { (lo : Bytes) (hi : Option Bytes) (at : Place) →
         goes_to {A = A} at.low at.end (Wipe lo hi) ≡ meets lo hi at }
 {}
 
-/// The routes of a level are to its pages, from left to right, and each has what goes to its page: some places of the
-/// batch, which rise, each of a command that goes to the page.
+/// The routes of a level are to its pages, from left to right. Each has the places, in rising order, of commands that
+/// go to its page.
 pub fn routes_are_in_the_order_of_the_pages<V, A: Allocator>()
     ensures { (level : List (Placed V)) (cs : List (Command A)) →
         AreRoutesTo cs (ranges level) (routes level cs) }
 {}
 
-/// The sorted places of a batch are one list and no other.
+/// A batch has only one list of sorted places.
 pub fn sorted_places_are_determined<A: Allocator>()
     ensures { (cs : List (Command A)) (ps qs : List ℕ) → AreSortedPlaces cs ps →
         AreSortedPlaces cs qs → ps ≡ qs }
 {}
 
-/// How sorted places are handed down the tree: those of the batch are those of the range of all keys; those that begin in a
-/// range, parted at a key within it, are those that begin in the ranges on either side; of those that reach a range and
-/// those that begin in it, some reach the next one, and no others do; and those that reach a page and those that begin in
-/// it, in the order of the batch, are the places of the commands that go to the page.
+/// Distributing sorted places down the tree: the places of the batch are those of the range of all keys; places in a
+/// range, split at a key within it, are the places in the two parts; the commands that reach the next range are exactly
+/// those of the ones that reach or begin in a range and extend past it; and the places that reach a page and those that
+/// begin in it, sorted into batch order, are the places of the commands that go to the page.
 pub fn sorted_places_are_handed_down<A: Allocator>()
     ensures all { (cs : List (Command A)) (ps : List ℕ) → AreSortedPlaces cs ps →
         AreSortedWithin [] None cs ps }

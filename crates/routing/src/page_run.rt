@@ -1,4 +1,4 @@
-//! The commands of a batch that one page has to work.
+//! The commands of a batch for one page.
 ghost use Rattle.std.specs.Prelude.{◌≡◌, ◌∷◌, []};
 ghost use Rattle.std.specs.List.Sorted.{IsStrictlyIncreasing};
 
@@ -6,9 +6,9 @@ use keys::Pid;
 use std::marker::Model;
 use std::slice;
 
-/// The commands of a batch that one page has to work: the page's id, and the places of these commands in the batch,
-/// counted from 0, in strictly rising order. Contracts see it as a `Route`. A single place is kept without a list: in a batch
-/// of keys that lie far apart, most pages have just one.
+/// The commands of a batch that must be applied to one page: the page id, and the commands' places in the batch,
+/// counted from 0, in strictly rising order. Contracts see it as a `Route`. A single place is stored without a list,
+/// because in a batch of scattered keys most pages have one command.
 #[derive(Drop)]
 pub struct PageRun {
     pid: Pid,
@@ -35,7 +35,7 @@ impl Model for PageRun {
 }
 
 impl PageRun {
-    /// The run of the page with this id, which has to work the commands at these places. They rise strictly.
+    /// Makes the run of the page with this id and these places, which must be strictly rising.
     pub fn new(pid: Pid, places: Vec<usize>) -> PageRun
         requires { IsStrictlyIncreasing places.items }
         ensures { result ≡ record { pid = pid; places = places.items } }
@@ -46,7 +46,7 @@ impl PageRun {
         }
     }
 
-    /// The run of the page with this id, which has to work the command at this place alone. It takes no memory.
+    /// Makes the run of the page with this id and this single place. Does not allocate.
     pub fn of_one(pid: Pid, place: usize) -> PageRun
         ensures { result ≡ record { pid = pid; places = place ∷ [] } }
     {
@@ -56,14 +56,14 @@ impl PageRun {
         }
     }
 
-    /// The page's id.
+    /// Returns the page id.
     pub fn pid(&self) -> Pid
         ensures { result ≡ self.now.pid }
     {
         self.pid
     }
 
-    /// The places, in strictly rising order.
+    /// Returns the places, in strictly rising order.
     pub fn places(&self) -> &[usize]
         ensures value { result.now ≡ self.now.places }
         ensures rising { IsStrictlyIncreasing self.now.places }

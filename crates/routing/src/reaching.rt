@@ -1,4 +1,4 @@
-//! The scans and wipes that reach a page from the left: they began in a page before it.
+//! The scans and wipes that reach a page from the left: they begin in an earlier page.
 ghost use Rattle.std.specs.Prelude.{◌≡◌, ◌++◌, Some, IfOk};
 ghost use Rattle.std.specs.List.{filter, list_any};
 ghost use Rattle.std.specs.Option.{option_copied, option_or};
@@ -15,15 +15,15 @@ use crate::sort::Keyed;
 use keys::{Command, Key, compare, is_before};
 use std::alloc::{AllocError, Global};
 
-/// Whether a command on a range of keys stands at the place of one of these entries.
+/// Whether one of these entries is the place of a command on a range of keys.
 pub(crate) fn has_range_at(batch: &BatchWithEnds<'_>, keyed: &[Keyed<'_>]) -> bool
     ensures { result ≡ list_any (λ entry. is_ranged_at batch.now entry.1) keyed.now }
 {
     keyed.iter().any(|entry| batch.is_ranged_at(entry.1))
 }
 
-/// The scans and wipes that go on to the page with this low key: of those that reach the page before it, and of the commands
-/// that begin there. It takes no memory where none goes on.
+/// The scans and wipes that continue into the page with low key `low`, from those that reach the page before it and
+/// from the commands that begin there. Does not allocate if there are none.
 pub(crate) fn going_on(
     alloc: Global,
     batch: &BatchWithEnds<'_>,
@@ -42,8 +42,8 @@ pub(crate) fn going_on(
         .collect(alloc)
 }
 
-/// Of the scans and wipes that reach a page from the left those that may find something there: up to the first that wipes all of the
-/// page, and all of them where a command that begins in the page gives a key a value.
+/// Those of the scans and wipes reaching a page from the left that may find something there: all of them if a command
+/// that begins in the page sets a value, else those up to the first wipe of the whole page.
 pub(crate) fn without_idle(
     alloc: Global,
     batch: &BatchWithEnds<'_>,
@@ -63,7 +63,7 @@ pub(crate) fn without_idle(
     upto(alloc, &reaching, last)
 }
 
-// The first of these places at which a wipe takes all of the page that ends here.
+// The first of these places whose command wipes the whole page that ends at `end`.
 fn first_emptying(
     batch: &BatchWithEnds<'_>,
     end: Option<&[u8]>,
@@ -78,14 +78,13 @@ fn first_emptying(
         .min()
 }
 
-// Whether one of these commands gives a key a value.
+// Whether one of these commands sets the value of a key.
 fn gives_any(batch: &BatchWithEnds<'_>, keyed: &[Keyed<'_>]) -> bool
     ensures { result ≡ list_any (λ entry. gives_at batch.now entry.1) keyed.now }
 {
     keyed.iter().any(|entry| batch.gives_at(entry.1))
 }
 
-// The places that aren't after this one.
 fn upto(alloc: Global, places: &[usize], last: usize) -> Result<Vec<usize>, AllocError>
     ensures { IfOk result (λ kept. kept.items ≡ upto (Some last) places.now) }
 {
@@ -96,7 +95,7 @@ fn upto(alloc: Global, places: &[usize], last: usize) -> Result<Vec<usize>, Allo
         .collect(alloc)
 }
 
-/// Whether the command is a wipe that takes all from its lower bound up to this end.
+/// Whether the command is a wipe that covers all keys from its lower bound up to `end`.
 pub(crate) fn empties(command: &Command<Global>, end: Option<&[u8]>) -> bool
     ensures { result ≡ empties (option_copied end.entry) command.now }
 {
@@ -106,14 +105,13 @@ pub(crate) fn empties(command: &Command<Global>, end: Option<&[u8]>) -> bool
     }
 }
 
-/// Whether the command gives a key a value.
 pub(crate) fn gives(command: &Command<Global>) -> bool
     ensures { result ≡ gives command.now }
 {
     matches!(command, Command::Put(_, _) | Command::Add(_, _))
 }
 
-// Whether what lies below the upper bound is all that lies before this end.
+// Whether all keys before `end` are below the upper bound.
 fn covers(end: Option<&[u8]>, hi: &Option<Key<Global>>) -> bool
     ensures { result ≡ covers (option_copied end.entry) hi.now }
 {
@@ -126,8 +124,8 @@ fn covers(end: Option<&[u8]>, hi: &Option<Key<Global>>) -> bool
     }
 }
 
-/// Whether the command is a scan or a wipe that begins before this low key, and ends after it: a scan at the nearer end where
-/// it has one, and else at its own upper bound.
+/// Whether the command is a scan or a wipe that begins below `low` and ends above it. A scan ends at its closer end, if
+/// it has one, else at its upper bound.
 pub(crate) fn reaches(command: &Command<Global>, end: Option<&[u8]>, low: &[u8]) -> bool
     ensures { result ≡ reaches low.now (with_end (option_copied end.entry) command.now) }
 {
@@ -143,7 +141,7 @@ pub(crate) fn reaches(command: &Command<Global>, end: Option<&[u8]>, low: &[u8])
     }
 }
 
-// Whether the key is below the nearer end, and where there is none below the upper bound.
+// Whether `key` is below the closer end, or if there is none, below the upper bound.
 fn is_before_end(end: Option<&[u8]>, hi: &Option<Key<Global>>, key: &[u8]) -> bool
     ensures { result ≡ is_before (option_or (option_copied end.entry) hi.now) key.now }
 {

@@ -1,4 +1,4 @@
-//! A page's part of a batch, on the way down the tree.
+//! A page's share of a batch during routing.
 ghost use Rattle.std.specs.Prelude.{◌≡◌, IfOk};
 
 use crate::sort::Keyed;
@@ -6,9 +6,9 @@ use keys::Pid;
 use std::alloc::{AllocError, Global};
 use std::marker::Model;
 
-/// A page's part of a batch, on the way down the tree: what begins in the page, as a part of the sorted places, and the
-/// places of the scans and wipes that began in pages further left and reach this one, in the order of their keys. Contracts see it
-/// as a `Lent`.
+/// A page's share of a batch during routing: the commands that begin in the page, as a slice of the sorted places, and
+/// the places of the scans and wipes that begin further left and reach the page, in key order. Contracts see it as a
+/// `Lent`.
 #[derive(Drop)]
 pub(crate) struct Share<'a, 'k> {
     pid: Pid,
@@ -25,7 +25,6 @@ impl<'a, 'k> Model for Share<'a, 'k> {
 }
 
 impl<'a, 'k> Share<'a, 'k> {
-    /// The share of the page with this id.
     pub(crate) fn new(pid: Pid, keyed: &'a [Keyed<'k>], reaching: Vec<usize>) -> Share<'a, 'k>
         ensures { result
             ≡ record { pid = pid; keyed = keyed.entry.now; reaching = reaching.items } }
@@ -37,14 +36,13 @@ impl<'a, 'k> Share<'a, 'k> {
         }
     }
 
-    /// The page's id.
     pub(crate) fn pid(&self) -> Pid
         ensures { result ≡ self.now.pid }
     {
         self.pid
     }
 
-    /// What begins in the page.
+    /// The commands that begin in the page.
     pub(crate) fn keyed(&self) -> &'a [Keyed<'k>]
         ensures { result.now ≡ self.now.keyed }
     {

@@ -1,4 +1,4 @@
-//! The order in which the tree is walked for a batch: the places of its commands, sorted by their keys.
+//! The places of a batch's commands, sorted by their keys.
 ghost use Rattle.std.specs.Prelude.{◌≡◌, ◌+◌, ◌^◌, ◌<◌, ◌≤◌, ◌++◌, length, true, false, take, drop, IfOk};
 ghost use Rattle.std.specs.List.{AllByRecursion, range_with_len};
 ghost use Rattle.std.specs.Thread.{IsSync};
@@ -14,15 +14,14 @@ use rayon::prelude::*;
 use std::alloc::{AllocError, Global};
 use std::thread::{Threads, join};
 
-// For fewer commands no thread is started: that, or to ask how many processors there are, would take longer.
+// No thread is started for fewer commands than this: starting it, or even counting the processors, would take longer.
 const LEAST_SHARED: usize = 4096;
 
-/// A command's key, and the command's place in its batch. The key stands beside the place so that a comparison needn't fetch
-/// the command.
+/// A command's key, and its place in the batch. With the key beside the place, a comparison need not load the command.
 pub(crate) type Keyed<'a> = (KeyRef<'a>, usize);
 
-/// The places of a batch's commands, counted from 0, in the order of their keys, and where keys are equal in the order of
-/// the batch, each beside its key. Several workers share the list, and threads the sort.
+/// Returns the places of a batch's commands, counted from 0, sorted by key and then by place, each beside its key. The
+/// workers share making the list; the sort uses a thread for each processor.
 pub(crate) fn sorted_places<'a>(
     rt: &(impl Threads + Sync),
     workers: usize,
@@ -42,7 +41,7 @@ pub(crate) fn sharing(workers: usize, count: usize) -> usize {
     workers.min(count.div_ceil(LEAST_SHARED))
 }
 
-// Sorts by key, and where keys are equal by place.
+// Sorts by key, and equal keys by place.
 fn sort_keyed(rt: &(impl Threads + Sync), workers: usize, keyed: &mut [Keyed<'_>])
     ensures permutation { IsPermutation keyed.old keyed.new }
     ensures len { length keyed.new ≡ length keyed.old }
@@ -55,8 +54,8 @@ fn sort_keyed(rt: &(impl Threads + Sync), workers: usize, keyed: &mut [Keyed<'_>
     }
 }
 
-// The keys of `count` commands from this place on, each with its place, in the order of the batch. The workers share them: it calls
-// itself once for each halving of these.
+// The keys of `count` commands from place `from` on, each with its place, in batch order. The workers share them: the
+// function recurses once for each halving of the workers.
 #[cycle(keyed)]
 fn keyed_places<'a, R: Threads + Sync>(
     rt: &R,
@@ -95,7 +94,7 @@ fn keyed_places<'a, R: Threads + Sync>(
     Ok(keyed)
 }
 
-// The same, one after the other.
+// `keyed_places` on one thread.
 fn keyed_in_turn<'a>(
     alloc: Global,
     batch: &BatchWithEnds<'a>,
@@ -114,8 +113,9 @@ fn keyed_in_turn<'a>(
     Ok(keyed)
 }
 
-/// How many of these entries have a key below this one. Those that have one stand first. It is found by steps that double and then
-/// by halves, since of a long list mostly few are below. A descent gives a child those that stand before the end of its range.
+/// Returns how many of these entries have keys below `key`; they must come first. Uses galloping and then binary
+/// search, because mostly few entries of a long list are below. A descent gives a child the entries before the end of
+/// its range.
 pub(crate) fn count_below(keyed: &[Keyed<'_>], key: &[u8]) -> usize
     requires { IsPartitionedBy (has_key_below key.now) keyed.now }
     ensures most { result ≤ length keyed.now }
@@ -134,8 +134,7 @@ pub(crate) fn count_below(keyed: &[Keyed<'_>], key: &[u8]) -> usize
     )
 }
 
-// Two numbers between which the count of those below the key lies: the entries before the first are below the key, and
-// those from the second on aren't.
+// Bounds of the count: the entries before the first bound are below the key, and those from the second on are not.
 fn bounds_of_count(keyed: &[Keyed<'_>], key: &KeyRef<'_>) -> (usize, usize)
     requires { IsPartitionedBy (has_key_below key.now) keyed.now }
     ensures order { result.0 ≤ result.1 }
@@ -154,15 +153,14 @@ fn bounds_of_count(keyed: &[Keyed<'_>], key: &KeyRef<'_>) -> (usize, usize)
     (low, high.min(keyed.len()))
 }
 
-// Whether the entry's key is below this one.
 fn has_key_below(entry: &Keyed<'_>, key: &KeyRef<'_>) -> bool
     ensures { result ≡ has_key_below key.now entry.now }
 {
     entry.0.compare(key).is_lt()
 }
 
-/// The places of these entries, and these other places, in the order of the batch: a page's sorted places, and those of the
-/// scans and wipes that reach it, become the places of its run.
+/// Returns the places of `keyed` and the places `reaching`, merged into batch order: together they are the places of a
+/// page's run.
 pub(crate) fn in_batch_order(
     alloc: Global,
     keyed: &[Keyed<'_>],

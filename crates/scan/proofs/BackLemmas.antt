@@ -1,4 +1,4 @@
--- Lemmas on lists in key order of which the last pair comes first.
+-- Lemmas on lists in key order that are consumed from the last pair.
 use Rattle.std.specs.Prelude.{◌≡◌, ℕ, zero, suc, ◌+◌, Bool, true, false, not, cond, min, max, List, [], ◌∷◌, ◌++◌, length, take, slice_get, Option, Some, None}
 use Rattle.std.proofs.Common.{refl, sym, ap, ◌∙◌, subst, arith, append-nil, Ordering, Less, Equal, Greater}
 use Rattle.std.specs.Ordering.{is_lt}
@@ -117,7 +117,7 @@ module _ {V : Type 0} where
   pub from_last : (xs : List (List ℕ × V)) (k : List ℕ) (v : V) → IsRising (xs ++ (k, v) ∷ []) → from k (xs ++ (k, v) ∷ []) ≡ (k, v) ∷ []
   from_last xs k v r = from_greatest k v (xs ++ (k, v) ∷ []) r (value_at_last xs k v r) (none_above_last xs k v r)
 
-  -- ---- what stands before an end
+  -- ---- the pairs before an end
 
   pub none_before : (hi : Option (List ℕ)) (e : List ℕ) (es : List (List ℕ × V)) → is_before hi e ≡ false → IsBelowAll e (keys_of es) → AllByRecursion (λ f. is_before hi f.0 ≡ false) es
   none_before hi e [] n a = tt

@@ -1,4 +1,4 @@
--- Lemmas on the merge of a leaf's lists from their ends: a key parts each list and their merge alike.
+-- Lemmas on the merge of a leaf's lists from their ends: splitting each list at a key splits their merge at that key.
 use Rattle.std.specs.Prelude.{◌≡◌, ◌<◌, ◌≤◌, ◌+◌, ◌-◌, ℕ, zero, suc, Bool, true, false, not, cond, min, List, [], ◌∷◌, ◌++◌, length, take, drop, map, slice_get, slice_index_or, Option, Some, None, MatchOption}
 use Rattle.std.proofs.Common.{refl, sym, ap, ◌∙◌, arith, subst, append-nil, length-append, Ordering, Less, Equal, Greater}
 use Rattle.std.specs.Ordering.{is_lt, is_eq}
@@ -68,7 +68,7 @@ module _ {V : Type 0} where
       absurd (let none : value_at j es ≡ None = sym (ap (λ (c : Bool). cond c (value_at j es) None) b) ∙ sym (value_at-passing (λ i. is_below k i) es j) ∙ ap (λ (x : List (List ℕ × V)). value_at j x) n in let wrong : ◌≡◌ {A = Option V} (Some v) None = sym h ∙ none in cc)
   not_above_by false k j v es b n h = refl
 
-  -- a pair that is there isn't above k, where none is
+  -- a pair that is there isn't above k, if none is
   pub not_above : (k j : List ℕ) (v : V) (es : List (List ℕ × V)) → pairs_after k es ≡ [] → value_at j es ≡ Some v → is_below k j ≡ false
   not_above k j v es n h = not_above_by (is_below k j) k j v es refl n h
 
@@ -104,7 +104,7 @@ module _ {V : Type 0} where
       on_own None = rw (order_itself k) refl
       on_own (Some v) = rw (order_itself k) refl
 
-  -- a last change comes last, where no pair is above it, and the pair that has its key goes
+  -- the last change comes last, if no pair is above it, and the pair with its key is skipped
   pub change_last : (k : List ℕ) (c : Option V) (es : List (List ℕ × V)) (cs : Changes V) → IsRising es → IsRising (cs ++ (k, c) ∷ []) → pairs_after k es ≡ [] → with_run es (cs ++ (k, c) ∷ []) ≡ with_run (before (Some k) es) cs ++ pair_if k c
   change_last k c es cs r s n =
       parted-merge k es (cs ++ (k, c) ∷ []) r s
@@ -112,7 +112,7 @@ module _ {V : Type 0} where
       ∙ ap (λ (x : Changes V). with_run (before (Some k) es) cs ++ with_run (from k es) x) (from_last cs k c s)
       ∙ ap (λ (x : List (List ℕ × V)). with_run (before (Some k) es) cs ++ x) (alone_by (value_at k es) k c es refl r n)
 
-  -- a last pair comes last, where no change is at its key or above it
+  -- a last pair comes last, if no change is at its key or above it
   pub pair_last : (k : List ℕ) (v : V) (rest es : List (List ℕ × V)) (cs : Changes V) → rest ++ (k, v) ∷ [] ≡ es → IsRising es → IsRising cs → from k cs ≡ [] → with_run es cs ≡ with_run rest cs ++ (k, v) ∷ []
   pair_last k v rest es cs h r s f =
       let rises : IsRising (rest ++ (k, v) ∷ []) = subst (λ (x : List (List ℕ × V)). IsRising x) (sym h) r in
@@ -214,7 +214,7 @@ module _ {V : Type 0} where
   pub runs_rise_back : (hi : Option (List ℕ)) (p : Layers V) (items : List (Changes V)) → IsInOrder p → items ≡ map (before hi) p.runs → AllByRecursion IsRising items
   runs_rise_back hi p items a m = subst (λ (x : List (Changes V)). AllByRecursion IsRising x) (sym m) (rising-passing_all (λ j. is_before hi j) p a)
 
-  -- where the walk begins, what is left of all lists is what is left of the leaf
+  -- at the beginning of the walk, the rest of all lists is the rest of the leaf
   pub merge_starts_back : (hi : Option (List ℕ)) (p : Layers V) (base : List (List ℕ × V)) (left : ℕ) (items : List (Changes V)) (changes : Changes V) → IsInOrder p → base ≡ p.base → left ≡ count_before hi (keys_of base) → items ≡ map (before hi) p.runs → joined_changes items ≡ changes
       → with_run (take left base) changes ≡ before hi (entries_of p)
   merge_starts_back hi p base left items changes a b n m h =
@@ -244,7 +244,7 @@ module _ {V : Type 0} where
   pub nothing_taken_back : (es : List (List ℕ × V)) (left : ℕ) (cs : Changes V) → min left (length es) ≡ 0 → ArePairsLast cs (take left es) → with_run (take left es) cs ≡ []
   nothing_taken_back es left cs e n = let none = no_place es left e in ap (λ (x : List (List ℕ × V)). with_run x cs) none ∙ ap (λ (x : Changes V). with_run [] x) (n.none none)
 
-  -- where nothing is left, all of it is below a key, and nothing above
+  -- if nothing remains, everything is below a key, and nothing above
   pub nothing_there : (es : List (List ℕ × V)) (left : ℕ) (k : List ℕ) → min left (length es) ≡ 0 → (pairs_after k (take left es) ≡ []) × (take 0 es ≡ before (Some k) (take left es))
   nothing_there es left k e =
       let none = no_place es left e in (
@@ -301,12 +301,12 @@ module _ {V : Type 0} where
 
 -- ---- the next of all changes, as an option
 
--- what runs say is the last change, where there is one, and what they say before it
+-- the merged changes of runs are the last change, if there is one, and those before it
 pub said_before : {V X : Type 0} (f : X → List ℕ × Option V) (x : Option X) (runs later : List (Changes V)) → MatchOption x (joined_changes runs ≡ []) (λ c. joined_changes runs ≡ joined_changes later ++ f c ∷ []) → joined_changes runs ≡ changes_before (option_map f x) (joined_changes later)
 said_before f None runs later h = h
 said_before f (Some c) runs later h = h
 
--- where a pair stands above the last change, no change stands at the last pair or after it
+-- if a pair is above the last change, all changes are below the last pair
 module _ {V : Type 0} (k : List ℕ) (cs : Changes V) (es : List (List ℕ × V)) where
   pub pairs_are_last : IsRising es → pairs_after k cs ≡ [] → HasAfter k es → ArePairsLast cs es
   pairs_are_last r n b = record {

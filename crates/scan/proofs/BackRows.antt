@@ -1,4 +1,4 @@
--- Lemmas on the rows that a walk from the greatest key down gives.
+-- Lemmas on the rows of an iteration from the greatest key down.
 use Rattle.std.specs.Prelude.{◌≡◌, ℕ, zero, suc, ◌-◌, ◌<◌, Bool, true, false, not, cond, ◌&&◌, List, [], ◌∷◌, ◌++◌, take, length, reverse, slice_get, Option, Some, None}
 use Rattle.std.proofs.Common.{refl, sym, ap, ◌∙◌, subst, arith, append-nil}
 use Rattle.std.specs.List.{AllByRecursion, filter, take_while}
@@ -177,7 +177,7 @@ none_left_back limit start all h = none_left (Some limit) (is_from start) (rever
 pub late_before : (hi : Option (List ℕ)) (c : Late (List ℕ)) (chain : Layers (List ℕ)) (left : Pairs) → chain ≡ c.chain → left ≡ before hi (entries_of chain) → left ≡ before hi (entries_of (seen c))
 late_before hi c chain left e l = l ∙ ap (λ (p : Layers (List ℕ)). before hi (entries_of p)) e ∙ ap (λ (es : Pairs). before hi es) (sym (entries-seen c))
 
--- a leaf that has nothing left makes room for the one before it
+-- a leaf without remaining pairs is replaced by the one before it
 pub last_leaf_left : (leaf : Pairs) (leaves others : List (Page (List ℕ))) (low : List ℕ) (next : Layers (List ℕ)) (new whole : Pairs) → leaf ≡ [] → leaves ≡ others ++ leaf_with low next ∷ [] → new ≡ before None (entries_of next) → pairs_before leaves leaf ≡ whole → pairs_before others new ≡ whole
 last_leaf_left leaf leaves others low next new whole e l n h =
     ap (λ (x : Pairs). pairs others ++ x) (n ∙ before_none (entries_of next))
@@ -190,7 +190,7 @@ last_leaf_left leaf leaves others low next new whole e l n h =
 -- ---- the start
 
 module _ (t : TreeInMemory) (held : HoldsLevels (tree_of t).pages (levels_of (tree_of t))) (levels : AreLevels (levels_of (tree_of t))) where
-  -- what is left when a walk begins are the pairs before its end
+  -- at the beginning of a walk, the remaining pairs are those before its end
   pub pairs_at_end : (hi : Option (List ℕ)) (low : List ℕ) (last : Layers (List ℕ)) (leaves : List (Page (List ℕ))) (leaf : Pairs) → walk_back t 0 hi t.root ≡ leaves ++ leaf_with low last ∷ [] → leaf ≡ before hi (entries_of last)
       → pairs_before leaves leaf ≡ before hi (contents (tree_of t))
   pairs_at_end hi low last leaves leaf w e =

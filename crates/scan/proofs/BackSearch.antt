@@ -1,4 +1,4 @@
--- Lemmas on a walk over a leaf that searches from key to key, from its end.
+-- Lemmas on the iteration over a leaf from its end that searches for each next key.
 use Rattle.std.specs.Prelude.{◌≡◌, ℕ, suc, ◌+◌, Bool, true, false, not, cond, ◌&&◌, List, [], ◌∷◌, ◌++◌, map, take, slice_get, Option, Some, None, MatchOption}
 use Rattle.std.proofs.Common.{refl, sym, ap, ◌∙◌, subst, arith, Ordering, Less}
 use Rattle.std.specs.Ordering.{is_lt}
@@ -51,7 +51,7 @@ alike_by false hi k e h o n = before_lower hi k e o h
 module _ {V : Type 0} where
   -- ---- what a leaf's lists name
 
-  -- where no list has a pair that passes, the leaf has none
+  -- if no list has a pair that passes, the leaf has none
   none_of_lists : (test : List ℕ → Bool) (p : Layers V) → IsInOrder p → AllByRecursion (λ run. passing test run ≡ []) p.runs → passing test p.base ≡ [] → passing test (entries_of p) ≡ []
   none_of_lists test p a r b =
       sym (passing-entries test p a)

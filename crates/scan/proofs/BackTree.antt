@@ -1,4 +1,4 @@
--- Lemmas on a walk over the leaves of a tree from right to left.
+-- Lemmas on the iteration over the leaves of a tree from right to left.
 use Rattle.std.specs.Prelude.{◌≡◌, ◌⊎◌, ℕ, zero, suc, pred, ◌+◌, ◌-◌, ◌<◌, Bool, true, false, not, cond, List, [], ◌∷◌, ◌++◌, map, length, Option, Some, None}
 use Rattle.std.proofs.Common.{refl, sym, ap, ◌∙◌, subst, arith, append_assoc, append-nil, length-append, inl, inr}
 use Rattle.std.specs.List.{AllByRecursion}
@@ -92,7 +92,7 @@ module _ (ps : List (ℕ × PageOfKind)) where
 
   -- ---- a page on the way
 
-  -- at an index page, the way goes on to the last of the children that are kept, of which there is one
+  -- at an index page, the descent continues at the last of the children that are retained; there is at least one
   pub record IsStepBack (n : ℕ) (hi : Option (List ℕ)) (pid : ℕ) (kept : List ℕ) : Type 0 where
     pub level : ℕ
     pub height : suc level ≡ n
@@ -130,7 +130,7 @@ module _ (ps : List (ℕ × PageOfKind)) where
       (subst (λ (es : Names). IsStepBack (suc x.level) hi pid (values_of (children_before hi es))) (sym x.entries)
       (step_by x.level pid hi (entries_at ps pid) x.known.2 x.known.3 refl))
 
-  -- ---- without an end, a way down comes to all leaves
+  -- ---- without an end, a descent reaches all leaves
 
   to_last-all : (n : ℕ) (last : List ℕ × ℕ → List ℕ) (es : Names) → ((e : List ℕ × ℕ) → IsKnown ps n e.1 → last e ≡ leaves_under ps n (e.1 ∷ [])) → AllByRecursion (IsKnown ps n) (values_of es)
       → leaves_to_last last (leaves_under ps n) es ≡ leaves_under ps n (values_of es)
@@ -152,7 +152,7 @@ module _ (ps : List (ℕ × PageOfKind)) where
 
 -- ---- a step of the walk
 
--- a path with children pushed, where the walk goes on at this page
+-- a path with children pushed, if the walk continues at this page
 pub record IsPushedBack (t : TreeInMemory) (path : SmallVec (List ℕ)) (hi : Option (List ℕ)) (child : ℕ) (whole : List (Page (List ℕ))) : Type 0 where
   pub walk : IsWalk t path
   pub known : IsAt t (length path.items) child
@@ -165,7 +165,7 @@ module _ (t : TreeInMemory) where
   abbrev Top : ℕ
   Top = pred t.height
 
-  -- children at this level are pushed, and the walk goes on after them
+  -- children at this level are pushed, and the walk continues after them
   pushed_back : (path new : SmallVec (List ℕ)) (m : ℕ) (hi : Option (List ℕ)) (child : ℕ) (rest : List ℕ) → length path.items + suc m ≡ Top → IsWalk t path → new.items ≡ path.items ++ rest ∷ [] → new.capacity ≡ path.capacity
       → IsKnown Pages m child → AllByRecursion (IsKnown Pages m) rest → IsPushedBack t new hi child (leaf_pages Pages ((leaves_before Pages Top path.items ++ leaves_under Pages m rest) ++ leaves_back Pages m hi child))
   pushed_back path new m hi child rest h w i c k a =
@@ -183,7 +183,7 @@ module _ (t : TreeInMemory) where
             ∙ sym (leaf_pages-append Pages (leaves_before Pages Top path.items ++ leaves_under Pages m rest) (leaves_back Pages m hi child));
       }
 
-  -- below an index page, the walk goes on at the last child that is kept, and those before it are pushed
+  -- below an index page, the walk continues at the last child that is kept, and those before it are pushed
   pub step_down_back : (path new : SmallVec (List ℕ)) (hi : Option (List ℕ)) (pid child : ℕ) (page : PageOfKind) (rest : List ℕ) (whole : List (Page (List ℕ))) → IsWalk t path → IsAt t (length path.items) pid
       → Some page ≡ page_at Pages pid → IsIndex page → values_of (children_before hi (child_entries page)) ≡ rest ++ child ∷ []
       → new.items ≡ path.items ++ rest ∷ [] → new.capacity ≡ path.capacity → walk_before t path.items ++ walk_back t (length path.items) hi pid ≡ whole → IsPushedBack t new hi child whole
@@ -209,7 +209,7 @@ module _ (t : TreeInMemory) where
       let s = at_index_back Pages (Top - length path.items) pid hi page at.known h x in
       never s.rest s.last (sym e ∙ s.parts)
 
-  -- the last page of the path is taken off, and what it has left put back without the last: there the walk goes on
+  -- the last page of the path is taken off, and what it has left put back without the last: there the walk continues
   pub step_along_back : (path popped new : SmallVec (List ℕ)) (step rest : List ℕ) (child : ℕ) → IsWalk t path → path.items ≡ popped.items ++ step ∷ [] → popped.capacity ≡ path.capacity → step ≡ rest ++ child ∷ []
       → new.items ≡ popped.items ++ rest ∷ [] → new.capacity ≡ popped.capacity → IsPushedBack t new None child (walk_before t path.items)
   step_along_back path popped new step rest child w i c e j d =
@@ -226,7 +226,7 @@ module _ (t : TreeInMemory) where
       ∙ sym (ap (λ (x : List (List ℕ)). leaves_before Pages Top x) i ∙ before-push Pages Top top.level popped.items step top.height) in
       record { walk = p.walk; known = p.known; leaves = p.leaves ∙ ap (λ (x : List ℕ). leaf_pages Pages x) same }
 
-  -- where it has none left, the walk goes on above it
+  -- if it has none left, the walk continues above it
   pub step_up_back : (path popped : SmallVec (List ℕ)) (step : List ℕ) (whole : List (Page (List ℕ))) → IsWalk t path → path.items ≡ popped.items ++ step ∷ [] → popped.capacity ≡ path.capacity → step ≡ [] → walk_before t path.items ≡ whole
       → IsWalk t popped × (walk_before t popped.items ≡ whole)
   step_up_back path popped step whole w i c e l =
@@ -387,7 +387,7 @@ module _ (ps : List (ℕ × PageOfKind)) where
       (three_parts_back hi (under c.front) (leaves_under ps n (c.last.1 ∷ [])) (under c.rest) (leaves_under ps (suc n) (at.pid ∷ [])) (leaves_back ps n hi c.last.1) whole front
       (dropped_rest n hi c.rest at.end others.1 c.pairs_after) (way_back n hi (place_of c.last (next_key c.rest at.end)) others.0))
 
--- of a tree whose levels are in order, the pairs before an end are those of the leaf that a way down comes to, and all those of the leaves before it
+-- in a tree whose levels are in order, the pairs before an end are those of the leaf that a descent reaches, and all pairs of the leaves before it
 pub contents-before : (t : Tree) → HoldsLevels t.pages (levels_of t) → AreLevels (levels_of t) → (hi : Option (List ℕ)) (leaf : Page (List ℕ)) (others : List (Page (List ℕ)))
     → leaf_pages t.pages (leaves_back t.pages (pred t.height) hi t.root) ≡ others ++ leaf ∷ [] → before hi (contents t) ≡ pairs others ++ before hi (page.entries leaf)
 contents-before t held levels hi leaf others h =

@@ -1,4 +1,4 @@
--- The place of the child for a key among children, as a search by halves finds it.
+-- The place of the child for a key among children, as a binary search finds it.
 use Rattle.std.specs.Prelude.{◌≡◌, ℕ, zero, suc, ◌+◌, ◌-◌, ◌<◌, ◌≤◌, true, false, List, [], ◌∷◌, drop, length, slice_get, Some, None}
 use Rattle.std.proofs.Common.{refl, sym, ap, ◌∙◌, subst, arith, inl, inr, Less}
 use Rattle.std.proofs.lemmas.Option.{slice_get_within}

@@ -1,4 +1,4 @@
--- Lemmas on counts of places, and of keys that come one by one.
+-- Lemmas on counters of places, and on keys that are recorded one by one.
 use Rattle.std.specs.Prelude.{◌≡◌, ◌≢◌, ◌⊎◌, ℕ, zero, suc, ◌+◌, ◌-◌, ◌*◌, ◌/◌, ◌^◌, ◌<◌, ◌≤◌, Bool, true, false, not, cond, List, [], ◌∷◌, ◌++◌, length, min, replicate, Contains}
 use Rattle.std.proofs.Common.{refl, sym, ap, ◌∙◌, subst, arith, inl, inr, get_or, ⊎_elim, length-append}
 use Rattle.std.specs.List.{AllByRecursion, filter}
@@ -19,7 +19,7 @@ use Rattle.scan.specs.Tally.{Tally, passing, below, PassesLower, counted, AreWid
 same_group : (n : ℕ) → n * 16 / 16 ≡ n
 same_group n = omega arith
 
--- what a level and those above it say of a place, with another place noted on them
+-- the counters of a level and of those above it for a place, after another place was recorded
 more_on : (place at here new_here above new_above : ℕ) → (place < at → at / 16 ≡ place / 16 → new_here ≡ here + 1) → ((at ≤ place) ⊎ (at / 16 ≢ place / 16) → new_here ≡ here) → IsOneMore (place / 16) (at / 16) above new_above
     → IsOneMore place at (here + above) (new_here + new_above)
 more_on place at here new_here above new_above a o m = record {
@@ -142,7 +142,7 @@ module _ (p q : List ℕ → Bool) (narrower : (j : List ℕ) → p j ≡ true �
   less_by false true k xs ys i h = omega (arith, h)
   less_by false false k xs ys i h = h
 
-  -- and less, where one of the keys passes the other alone
+  -- and less, if one of the keys passes the other alone
   pub less : (ks : List (List ℕ)) (k : List ℕ) (at : ℕ) → at < length ks → get_or ks at k ≡ k → p k ≡ false → q k ≡ true → passing p ks < passing q ks
   less [] k at l e n y = absurd (omega (arith, l))
   less (j ∷ ks) k zero l e n y =
@@ -152,7 +152,7 @@ module _ (p q : List ℕ → Bool) (narrower : (j : List ℕ) → p j ≡ true �
       rw (out, in_it) (omega (arith, rest))
   less (j ∷ ks) k (suc at) l e n y = less_by (p j) (q j) j (filter p ks) (filter q ks) (narrower j) (less ks k at (omega (arith, l)) e n y)
 
--- of keys in order, one among them stands before where a test ends, where it passes
+-- among sorted keys, the place of a key is before the end of those that pass a test if and only if the key passes
 module _ (test : List ℕ → Bool) (lower : PassesLower test) (key : List ℕ) where
   pub place_passes : (keys : List (List ℕ)) → Contains keys key → test key ≡ true → below key keys < passing test keys
   place_passes keys c h = less (λ k. is_below k key) test (λ j b. lower j key h (not_both_below j key b)) keys key c.0 c.1 c.2 (not_below_itself key) h
@@ -175,7 +175,7 @@ up_to_by false key j k e h n = refl
 pub passes_up_to : (key : List ℕ) → PassesLower (λ k. not (is_below key k))
 passes_up_to key = λ j k h n. up_to_by (is_below key j) key j k refl h n
 
--- of keys in order, those that pass such a test stand first
+-- among sorted keys, those that pass such a test come first
 pub parted_keys : (test : List ℕ → Bool) (keys : List (List ℕ)) → PassesLower test → IsSorted order keys → IsPartitionedBy test keys
 parted_keys test keys lower s = λ i j d l w h.
     lower (get_or keys i d) (get_or keys j d) h (sorted_far (λ x y. is_lt (order x y)) (ranks_by total (λ k. k)) keys s i j d l w)
@@ -251,7 +251,7 @@ module _ (came keys : List (List ℕ)) (levels new : List (List ℕ)) (key : Lis
     counts = λ test lower. counts_by (test key) test lower refl;
   }
 
--- a key that is noted at its place, where lists and key are lent
+-- a key that is recorded at its place, for borrowed lists and keys
 pub tally_with : (came : List (List ℕ)) (old : Tally) (keys lent_keys : List (List ℕ)) (levels lent_levels new made : List (List ℕ)) (key lent_key : List ℕ) (place : ℕ) → old ≡ (keys, levels) → lent_keys ≡ keys → lent_levels ≡ levels → lent_key ≡ key
     → (IsSorted order lent_keys → place ≡ below lent_key lent_keys) → IsNotedOn place lent_levels new → ((n : ℕ) → AreWide n lent_levels → AreWide n new) → made ≡ new → IsTally came old → Contains old.0 key → length came < 2 ^ 64 - 1
     → IsTally (came ++ key ∷ []) (keys, made)

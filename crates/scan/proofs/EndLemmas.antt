@@ -85,7 +85,7 @@ leaf_upto level leaf next pairs_after t p =
     let here = leaf_upto_by a.xs a.ys a.at next.low (subst (λ (x : Level). Tiled x None) a.whole t) (begins_with a.ys next pairs_after a.rest) in
     subst (λ (x : Page (List ℕ)). IsLeafUpto (joined level) x next.low) a.page (subst (λ (x : Level). IsLeafUpto (joined x) a.at.page next.low) (sym a.whole) here)
 
--- the walk goes on to the next leaf
+-- the walk continues to the next leaf
 pub pass_on : (level : Level) (leaf next : Page (List ℕ)) (pairs_after : Leaves) → IsPassing level leaf (next ∷ pairs_after) → IsPassing level next pairs_after
 pass_on level leaf next pairs_after p = record {
   passed = p.passed ++ leaf ∷ [];
@@ -178,7 +178,7 @@ module _ {A : Type 0} where
   pub none_end : (keys : List (List ℕ)) (m : List (List ℕ × List ℕ)) (cs : List (Command A)) (ends : List (Option (Bor (List ℕ)))) → ends ≡ [] → MayEndAtAll keys m cs (map option_copied ends)
   none_end keys m cs ends e = subst (λ (x : List (Option (Bor (List ℕ)))). MayEndAtAll keys m cs (map option_copied x)) (sym e) (no_ends keys m cs)
 
-  -- so it goes on from place to place
+  -- so it continues from place to place
   pub ends_on : (keys : List (List ℕ)) (m : List (List ℕ × List ℕ)) (cs : List (Command A)) (place : ℕ) (c : Command A) (ends new : List (Option (Bor (List ℕ)))) (end : Option (Bor (List ℕ))) (t : Tallies)
       → place < length cs → c ≡ get_or cs place c → length ends ≡ place → new ≡ ends ++ end ∷ [] → IsTaken (deleted (take place cs), wiped (take place cs)) t
       → ((gone : Taken) (n : List (List ℕ × List ℕ)) → IsTaken gone t → LacksAtMost gone m n → MayEndAt keys n c (option_copied end)) → MayEndAtAll keys m (take place cs) (map option_copied ends) → MayEndAtAll keys m (take (place + 1) cs) (map option_copied new)

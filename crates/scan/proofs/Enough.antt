@@ -1,4 +1,4 @@
--- Lemmas on how many pairs a range has at least, after commands where some delete.
+-- Lemmas on lower bounds on the number of pairs in a range, after commands that may delete.
 use Rattle.std.specs.Prelude.{◌≡◌, ℕ, zero, suc, ◌+◌, ◌-◌, ◌<◌, ◌≤◌, Bool, true, false, not, ◌&&◌, cond, List, [], ◌∷◌, ◌++◌, length, min, take, drop, Option, Some, None, is_some, if◌then◌else◌}
 use Rattle.std.proofs.Common.{refl, sym, ap, ◌∙◌, subst, arith, Ordering, Less, Equal, Greater, length-append, length-drop}
 use Rattle.std.specs.List.{AllByRecursion, filter}
@@ -70,7 +70,7 @@ module _ {X : Type 0} where
   between f g h (x ∷ xs) i j =
       between_by (f x) (g x) (h x) x (filter (λ x. not (f x) && g x) xs) (filter (λ x. not (g x) && h x) xs) (filter (λ x. not (f x) && h x) xs) (i x) (j x) (between f g h xs i j)
 
-  -- where those that pass stand first, they are as many as stand there
+  -- if the items that pass come first, their number is the number of these first items
   pub parted : (f : X → Bool) (n : ℕ) (xs : List X) → n ≤ length xs → AllByRecursion (λ x. f x ≡ true) (take n xs) → AllByRecursion (λ x. f x ≡ false) (drop n xs) → length (filter f xs) ≡ n
   parted f zero [] l a b = refl
   parted f (suc n) [] l a b = absurd (omega (arith, l))
@@ -102,7 +102,7 @@ below_through i j k h l = less_is_below i k (total.trans i j k (below_is_less i 
 below_higher : (i j k : List ℕ) → is_below k j ≡ false → is_below i j ≡ true → is_below i k ≡ true
 below_higher i j k n h = less_is_below i k (less_through i k j h n)
 
--- those within a range are those below its end, but for those below its start
+-- the keys within a range are those below its end, without those below its start
 pub count_between : (low end : List ℕ) (keys : List (List ℕ)) → is_below low end ≡ true → count_within low end keys + below low keys ≡ below end keys
 count_between low end keys h = apart (λ k. is_below k low) (λ k. is_below k end) keys (λ k b. below_through k low end b h)
 
@@ -120,7 +120,7 @@ module _ (t : List ℕ → Bool) where
   put_by Equal k v e es rest h = same_by (t e.0) e (e.0, v) (Passing es) (Passing es) (omega arith)
   put_by Greater k v e es rest h = same_by (t e.0) e e (Passing es) (Passing rest) h
 
-  -- a pair that is put takes none away
+  -- a pair that is put deletes no pair
   most_put : (m : Pairs) (k v : List ℕ) → length (Passing m) ≤ length (Passing (with_pair m k v))
   most_put [] k v = more_by (t k) (k, v) []
   most_put (e ∷ es) k v = put_by (order k e.0) k v e es (with_pair es k v) (most_put es k v)
@@ -135,7 +135,7 @@ module _ (t : List ℕ → Bool) where
       subst (λ (c : Bool). length (Passing (e ∷ es)) ≤ length (Passing es) + length (cond c (k ∷ []) [])) (ap t (sym (passes_same k e.0 q))) (one_by (t e.0) e (Passing es) k)
   del_by false k e es rest q h = plus_by (t e.0) (length (filter t (k ∷ []))) e (Passing es) (Passing rest) h
 
-  -- a key that is deleted takes one away at most, where it passes
+  -- a deleted key removes at most one pair that passes, if the key passes
   most_del : (m : Pairs) (k : List ℕ) → length (Passing m) ≤ length (Passing (without m k)) + length (filter t (k ∷ []))
   most_del [] k = omega arith
   most_del (e ∷ es) k = del_by (is_eq (order k e.0)) k e es (without es k) refl (most_del es k)
@@ -151,7 +151,7 @@ module _ (t : List ℕ → Bool) where
   spared_by true e es rest f h = gone_by (t e.0) e (Passing es) (Passing rest) f h
   spared_by false e es rest f h = same_by (t e.0) e e (Passing es) (Passing rest) h
 
-  -- a range none of whose keys passes takes none away
+  -- a range in which no key passes removes no pair that passes
   abbrev IsSpared : List ℕ × Option (List ℕ) → Type 0
   IsSpared range = (k : List ℕ) → t k ≡ true → is_within range.0 range.1 k ≡ false
 

@@ -1,4 +1,4 @@
--- Lemmas on leaves some of whose runs count as merged with their base.
+-- Lemmas on leaves some of whose runs count as merged into their base.
 use Rattle.std.specs.Prelude.{◌≡◌, ℕ, List}
 use Rattle.std.proofs.Common.{sym, ap, ◌∙◌}
 use Rattle.delta_chain.specs.Late.{Late, seen}

@@ -82,7 +82,7 @@ module _ {V : Type 0} where
   none_by true e o h = absurd (cc)
   none_by false e o h = (refl, h)
 
-  -- where the key isn't there, the pairs from it on are those after it
+  -- if the key isn't there, the pairs from it on are those after it
   pub from-none : (k : List ℕ) (es : List (List ℕ × V)) → value_at k es ≡ None → from k es ≡ pairs_after k es
   from-none k [] h = refl
   from-none k (e ∷ es) h =
@@ -102,7 +102,7 @@ module _ {V : Type 0} where
       let l : order e.0 k ≡ Less = all_below k es v e.0 r.0 h in
       rw (l, above_not_below e.0 k l) (ih h)
 
-  -- where it is there, they are its pair and those after it
+  -- if it is there, they are its pair and those after it
   pub from-there : (k : List ℕ) (v : V) (es : List (List ℕ × V)) → IsRising es → value_at k es ≡ Some v → from k es ≡ (k, v) ∷ pairs_after k es
   unfolding IsStrictlySortedBy
   from-there k v [] r h = absurd (cc)
@@ -113,7 +113,7 @@ module _ {V : Type 0} where
       floor-nearest k es (Some (k, v)) r (record { on = rw (order_itself k) refl; has = h; none_nearer = λ i o n. absurd (let wrong : not (is_lt Less) ≡ true = rw n at o in cc) })
 
   module _ (k : List ℕ) (p : Layers V) (r : IsInOrder p) where
-    -- where the key is there, its pair is the last one up to it
+    -- if the key is there, its pair is the last one up to it
     pub start-some : (v : V) (o : Option (List ℕ × V)) → Some v ≡ holds p k → o ≡ floor k (entries_of p) → left_after o (entries_of p) ≡ from k (entries_of p)
     start-some v o h f =
         let there : value_at k (entries_of p) ≡ Some v = value_at-entries_of p k r ∙ sym h in

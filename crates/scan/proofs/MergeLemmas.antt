@@ -46,7 +46,7 @@ module _ {V : Type 0} where
   above_by Equal k e es h n a = rw (sym (same_key e.0 k h)) a
   above_by Greater k e es h n a = below_all k e.0 (keys_of es) (flipped_greater e.0 k h) a
 
-  -- where the first key is not below k, no key after it is
+  -- if the first key is not below k, no key after it is
   pub from-starts : (k : List ℕ) (e : List ℕ × V) (es : List (List ℕ × V)) → IsRising (e ∷ es) → is_below e.0 k ≡ false → from k (e ∷ es) ≡ e ∷ es
   unfolding IsStrictlySortedBy
   from-starts k e es r h = rw h (ap (λ (x : List (List ℕ × V)). e ∷ x) (from-all k es (above_by (order e.0 k) k e es refl h r.0)))
@@ -68,11 +68,11 @@ module _ {V : Type 0} where
   drop-count_below k [] r = refl
   drop-count_below k (e ∷ es) r = ap (λ (n : ℕ). drop n (e ∷ es)) (count_below-cons k e.0 (keys_of es)) ∙ from_by (is_below e.0 k) k e es refl r (drop-count_below k es r.1)
 
-  -- a place in a list, with what stands there
+  -- the change at a place of a list
   pub change_at : (es : List (List ℕ × V)) (at : ℕ) (k : List ℕ) (v : V) → slice_get (keys_of es) at ≡ Some k → slice_get (values_of es) at ≡ Some v → (k, v) ∷ drop (at + 1) es ≡ drop at es
   change_at es at k v h i = rw add-one (sym (drop_pair es at k v h i))
 
-  -- ---- past a key that is the first, or stands before it
+  -- ---- past a key that is the first, or comes before it
 
   pub past_first : (k : List ℕ) (e : List ℕ × V) (es : List (List ℕ × V)) → IsRising (e ∷ es) → order e.0 k ≡ Equal → pairs_after k (e ∷ es) ≡ es
   unfolding IsStrictlySortedBy
@@ -103,7 +103,7 @@ module _ {V : Type 0} where
   next_by Greater e es c cs h n r s =
       change_stays (e ∷ es) c cs r s h ∙ ap (λ (x : List (List ℕ × V)). pair_if c.0 c.1 ++ with_run x cs) (sym (before_first c.0 e es r h))
 
-  -- a change before which no pair stands comes next, and the pair that has its key goes
+  -- a change before which there is no pair comes next, and the pair with its key is skipped
   pub change_next : (es : List (List ℕ × V)) (c : List ℕ × Option V) (cs : List (List ℕ × Option V)) → IsRising es → IsRising (c ∷ cs) → StartsFrom c.0 es → with_run es (c ∷ cs) ≡ pair_if c.0 c.1 ++ with_run (pairs_after c.0 es) cs
   change_next [] c cs r s n = change_stays [] c cs r s refl
   change_next (e ∷ es) c cs r s n = next_by (order e.0 c.0) e es c cs refl n r s
@@ -111,12 +111,12 @@ module _ {V : Type 0} where
 module _ {V : Type 0} where
   -- ---- what runs say together begins with the least of their first keys
 
-  -- a newer run's first change, where no older one stands before it
+  -- a newer run's first change comes first if no older change is below it
   pub newest_first : (c : List ℕ × Option V) (cs : List (List ℕ × Option V)) (ls : List (List (List ℕ × Option V))) → IsRising (c ∷ cs) → AllByRecursion IsRising ls → StartsFrom c.0 (joined_changes ls) → slice_get (joined_changes ((c ∷ cs) ∷ ls)) 0 ≡ Some c
   newest_first c cs ls r a n =
       ap (λ (x : List (List ℕ × Option V)). slice_get x 0) (change_next (joined_changes ls) (c.0, Some c.1) (asserted cs) (joined_changes-rises ls a) (rising-asserted (c ∷ cs) r) n)
 
-  -- an older one that stands before it
+  -- an older change that is below it comes first
   pub older_first : (c d : List ℕ × Option V) (cs ds : List (List ℕ × Option V)) (ls : List (List (List ℕ × Option V))) → IsRising (c ∷ cs) → joined_changes ls ≡ d ∷ ds → order d.0 c.0 ≡ Less → slice_get (joined_changes ((c ∷ cs) ∷ ls)) 0 ≡ Some d
   older_first c d cs ds ls r h l =
       ap (λ (x : List (List ℕ × Option V)). slice_get (with_run x (asserted (c ∷ cs))) 0) h

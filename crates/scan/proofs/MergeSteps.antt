@@ -77,7 +77,7 @@ module _ {V : Type 0} where
   all_after P (suc n) [] a = tt
   all_after P (suc n) (l ∷ ls) a = all_after P n ls a.1
 
-  -- a run with nothing left
+  -- a run without remaining changes
   said_empty : (o : Option (List ℕ × Option V)) (l : Changes V) (ls : List (Changes V)) → None ≡ slice_get l 0 → o ≡ slice_get (joined_changes ls) 0 → o ≡ slice_get (joined_changes (l ∷ ls)) 0
   said_empty o [] ls n h = h
   said_empty o (c ∷ cs) ls n h = absurd (cc)
@@ -89,7 +89,7 @@ module _ {V : Type 0} where
   begins_with [] c h = absurd (cc)
   begins_with (e ∷ es) c h = let first : c ≡ e = cc in rw first (order_itself e.0)
 
-  -- a run begins with its first change, wherever it stands among the runs
+  -- a run begins with its first change, whatever its place among the runs
   pub begins_at : (runs : List (Changes V)) (at : ℕ) (l : Changes V) (c : List ℕ × Option V) → l ≡ slice_index_or runs at l → Some c ≡ slice_get l 0 → at < length runs → StartsAt c.0 (slice_index_or runs at [])
   begins_at [] at l c i h n = absurd (omega arith)
   begins_at (r ∷ runs) zero l c i h n = rw (sym i) (begins_with l c h)
@@ -179,7 +179,7 @@ module _ {V : Type 0} where
   pub runs_rise : (k : List ℕ) (p : Layers V) (items : List (Changes V)) → IsInOrder p → items ≡ map (from k) p.runs → AllByRecursion IsRising items
   runs_rise k p items a m = subst (λ (x : List (Changes V)). AllByRecursion IsRising x) (sym m) (rising-from_all k p a)
 
-  -- where the walk begins, what is left of all lists is what is left of the leaf
+  -- at the beginning of the walk, the rest of all lists is the rest of the leaf
   pub merge_starts : (k : List ℕ) (p : Layers V) (base : List (List ℕ × V)) (at : ℕ) (items : List (Changes V)) (changes : Changes V) → IsInOrder p → base ≡ p.base → at ≡ count_below k (keys_of base) → items ≡ map (from k) p.runs → joined_changes items ≡ changes
       → with_run (drop at base) changes ≡ from k (entries_of p)
   merge_starts k p base at items changes a b n m h =
@@ -210,7 +210,7 @@ module _ {V : Type 0} where
 
 -- ---- the next of all changes, as an option
 
--- what runs say is the next change, where there is one, and what they say after it
+-- the merged changes of runs are the next change, if there is one, and those after it
 pub said_next : {V X : Type 0} (f : X → List ℕ × Option V) (x : Option X) (runs later : List (Changes V)) → MatchOption x (joined_changes runs ≡ []) (λ c. joined_changes runs ≡ f c ∷ joined_changes later) → joined_changes runs ≡ changes_after (option_map f x) (joined_changes later)
 said_next f None runs later h = h
 said_next f (Some c) runs later h = h
@@ -225,7 +225,7 @@ merge_of_none base r = record { changes = tt; runs = tt; base = r }
 -- ---- lists that are gone over from the front
 
 module _ {X : Type 0} where
-  -- what is ahead stands as it stood
+  -- the items from the current place on are unchanged
   pub item_ahead : (f : X → X) (xs rs : List X) (at : ℕ) (x : X) → at < length xs → rs ≡ map f (take at xs) ++ drop at xs → slice_index_or rs at x ≡ slice_index_or xs at x
   item_ahead f xs rs at x l h = ap (λ (r : List X). slice_index_or r at x) h ∙ ahead xs at l
     where

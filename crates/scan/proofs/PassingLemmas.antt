@@ -1,4 +1,4 @@
--- What passes a test on its key: a merge of what passes is what passes of the merge.
+-- Filtering by a test on the keys commutes with merging.
 use Rattle.std.specs.Prelude.{◌≡◌, ℕ, Bool, true, false, cond, not, List, [], ◌∷◌, map, Option, Some, None}
 use Rattle.std.proofs.Common.{refl, sym, ap, ◌∙◌}
 use Rattle.std.specs.Ordering.{is_eq}

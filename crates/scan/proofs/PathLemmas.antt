@@ -62,7 +62,7 @@ module _ (ps : List (ℕ × PageOfKind)) where
 
   -- ---- a page on the way
 
-  -- at an index page, the way goes on to the first of the children that are kept; there is one
+  -- at an index page, the way continues to the first of the children that are kept; there is one
   pub record IsStep (n : ℕ) (key : List ℕ) (pid : ℕ) (kept : List ℕ) : Type 0 where
     pub level : ℕ
     pub height : suc level ≡ n
@@ -112,7 +112,7 @@ module _ (ps : List (ℕ × PageOfKind)) where
       let x = index_page_at n pid page k h i in
       subst (λ (m : ℕ). IsStep m key pid (values_of (children_within key None (child_entries page)))) x.height (at_index_by x.level pid key page x.known x.entries)
 
-  -- ---- a way down for the empty key comes to all leaves
+  -- ---- a descent for the empty key reaches all leaves
 
   pub under-none : (n : ℕ) → leaves_under ps n [] ≡ []
   under-none zero = refl

@@ -1,4 +1,4 @@
--- Keys that begin with a prefix stand together, from the prefix on.
+-- Keys that begin with a prefix are contiguous, and the first of them is at or above the prefix.
 use Rattle.std.specs.Prelude.{◌≡◌, ℕ, ◌<◌, Bool, true, false, not, cond, List, [], ◌∷◌, ◌++◌, drop, length}
 use Rattle.std.proofs.Common.{refl, sym, ap, ◌∙◌, subst, Ordering, Less, Equal, Greater}
 use Rattle.std.specs.Cmp.{ranks, nat_cmp_is}
@@ -44,7 +44,7 @@ between [] e rest n l = (e, refl)
 between (x ∷ p) [] rest n l = absurd (cc)
 between (x ∷ p) (z ∷ e) rest n l = between_by (nat_cmp z x) x z p e rest (ranks z x) n l (λ a b. between p e rest a b)
 
--- ---- so they stand together
+-- ---- so they are contiguous
 
 lower_begins_not : (b : Bool) (p k : List ℕ) → begins_with p k ≡ b → is_below k p ≡ true → b ≡ false
 lower_begins_not true p k b h = absurd (let same = begun p k b in let not_below : is_below k p ≡ false = ap (λ (j : List ℕ). is_below j p) same ∙ not_below_start p (drop (length p) k) in let wrong : true ≡ false = sym h ∙ not_below in cc)

@@ -70,7 +70,7 @@ module _ {V : Type 0} (lo : List ℕ) (hi : Option (List ℕ)) where
 abbrev Pairs : Type 0
 Pairs = List (List ℕ × List ℕ)
 
--- the rows up to the end go on after one that is before it
+-- the rows up to the end continue after one that is before it
 going_on : (left later : Option ℕ) (test : List ℕ → Bool) (e : List ℕ × List ℕ) (es : Pairs) → ((x : Pairs) → limited left (e ∷ x) ≡ e ∷ limited later x) → true ≡ test e.0 → rows_left left test (e ∷ es) ≡ e ∷ rows_left later test es
 going_on left later test e es step b =
     ap (λ (x : Pairs). limited left x) (take_while-cons (λ (f : List ℕ × List ℕ). test f.0) e es ∙ ap (λ (c : Bool). cond c (e ∷ take_while (λ f. test f.0) es) []) (sym b))
@@ -94,7 +94,7 @@ take_none : (es : Pairs) → take 0 es ≡ []
 take_none [] = refl
 take_none (e ∷ es) = refl
 
--- the rows go on where none are limited, or some are left
+-- the rows continue if there is no limit, or if the limit is not reached
 pub goes_on_none : (left : Option ℕ) → left ≡ None → GoesOn left None
 goes_on_none left h = subst (λ (o : Option ℕ). GoesOn o None) (sym h) (λ e es. refl)
 
@@ -127,7 +127,7 @@ from-nothing [] = refl
 from-nothing (([], v) ∷ es) = ap (λ (x : Pairs). ([], v) ∷ x) (from-nothing es)
 from-nothing ((x ∷ xs, v) ∷ es) = ap (λ (y : Pairs). (x ∷ xs, v) ∷ y) (from-nothing es)
 
--- a leaf that has nothing left makes room for the next
+-- a leaf without remaining pairs is replaced by the next one
 pub next_leaf_left : (leaf : Pairs) (leaves others : List (Page (List ℕ))) (low : List ℕ) (next : Layers (List ℕ)) (new whole : Pairs) → leaf ≡ [] → leaves ≡ leaf_with low next ∷ others → new ≡ from [] (entries_of next) → pairs_left leaf leaves ≡ whole → pairs_left new others ≡ whole
 next_leaf_left leaf leaves others low next new whole e l n h =
     ap (λ (x : Pairs). x ++ pairs others) (n ∙ from-nothing (entries_of next))
@@ -148,7 +148,7 @@ all_open : (es : Pairs) → AllByRecursion (λ (e : List ℕ × List ℕ). true 
 all_open [] = tt
 all_open (e ∷ es) = (refl, all_open es)
 
--- where none stands from a key on, all are below it
+-- if there is no pair at or above a key, all are below it
 none_from_by : (b : Bool) (hi : List ℕ) (e : List ℕ × List ℕ) (es : Pairs) → is_below e.0 hi ≡ b → None ≡ slice_get (cond (not b) (e ∷ from hi es) (from hi es)) 0
     → (None ≡ slice_get (from hi es) 0 → AllByRecursion (λ (f : List ℕ × List ℕ). true ≡ is_below f.0 hi) es) → AllByRecursion (λ (f : List ℕ × List ℕ). true ≡ is_below f.0 hi) (e ∷ es)
 none_from_by true hi e es b h ih = (sym b, ih h)
@@ -158,7 +158,7 @@ all_below_end : (hi : List ℕ) (es : Pairs) → None ≡ slice_get (from hi es)
 all_below_end hi [] h = tt
 all_below_end hi (e ∷ es) h = none_from_by (is_below e.0 hi) hi e es refl h (λ g. all_below_end hi es g)
 
--- what stands after a key that isn't below hi isn't below hi either
+-- the pairs after a key that isn't below hi aren't below hi either
 neither_below : (hi k : List ℕ) (es : Pairs) → is_below k hi ≡ false → IsBelowAll k (keys_of es) → AllByRecursion (λ (e : List ℕ × List ℕ). is_below e.0 k ≡ is_below e.0 hi) es
 neither_below hi k [] n a = tt
 neither_below hi k (e ∷ es) n a = (above_not_below k e.0 a.0 ∙ sym (after_by (is_below e.0 hi) k e.0 hi refl n a.0), neither_below hi k es n a.1)
@@ -212,14 +212,14 @@ module _ (t : TreeInMemory) (held : HoldsLevels (tree_of t).pages (levels_of (tr
   pub root_is_there : IsAt t 0 t.root
   root_is_there = record { within = omega arith; known = subst (λ (n : ℕ). IsKnown (tree_of t).pages n t.root) (sym at_top) (root_is_known (tree_of t) held levels) }
 
-  -- what is left where a walk begins are the pairs from its key on
+  -- at the beginning of a walk, the remaining pairs are those at or above its key
   pub pairs_at_start : (lo low : List ℕ) (first : Layers (List ℕ)) (leaves : List (Page (List ℕ))) (leaf : Pairs) → walk_from t 0 lo t.root ≡ leaf_with low first ∷ leaves → leaf ≡ from lo (entries_of first)
       → pairs_left leaf leaves ≡ from lo (contents (tree_of t))
   pairs_at_start lo low first leaves leaf w e =
       ap (λ (x : Pairs). x ++ pairs leaves) e
       ∙ sym (contents-from (tree_of t) held levels lo (leaf_with low first) leaves (sym (ap (λ (n : ℕ). leaf_pages (tree_of t).pages (leaves_from (tree_of t).pages n lo t.root)) at_top) ∙ w))
 
-  -- of these the rows are left, where the end is as good as the upper bound
+  -- these pairs are the remaining rows, if the end is equivalent to the upper bound
   pub rows_at_start : (lo : List ℕ) (hi : Option (List ℕ)) (limit : ℕ) (test : List ℕ → Bool) (all : Pairs) → AllByRecursion (λ (e : List ℕ × List ℕ). test e.0 ≡ is_before hi e.0) (contents (tree_of t)) → all ≡ from lo (contents (tree_of t))
       → rows_left (Some limit) test all ≡ rows lo hi limit (contents (tree_of t))
   rows_at_start lo hi limit test all same h =
@@ -238,7 +238,7 @@ module _ (t : TreeInMemory) (held : HoldsLevels (tree_of t).pages (levels_of (tr
   end_by_first o hi k v s h =
       subst (λ (x : Option (List ℕ)). AllByRecursion (λ (e : List ℕ × List ℕ). is_below e.0 k ≡ is_before x e.0) (contents (tree_of t))) (sym s) (same_end hi k v (contents (tree_of t)) (contents-rise (tree_of t) held levels) h)
 
-  -- where there is none, no bound is as good, nor where none is given
+  -- if there is no such key, no bound is equally good, except the absent one
   pub end_by_none : (o : Option (List ℕ)) (hi : List ℕ) → o ≡ Some hi → None ≡ slice_get (from hi (contents (tree_of t))) 0 → AllByRecursion (λ (e : List ℕ × List ℕ). true ≡ is_before o e.0) (contents (tree_of t))
   end_by_none o hi s h = subst (λ (x : Option (List ℕ)). AllByRecursion (λ (e : List ℕ × List ℕ). true ≡ is_before x e.0) (contents (tree_of t))) (sym s) (all_below_end hi (contents (tree_of t)) h)
 
@@ -258,6 +258,6 @@ module _ (t : TreeInMemory) (held : HoldsLevels (tree_of t).pages (levels_of (tr
   decided_by_first None read prefix k v h m = no_beginning prefix k v h m
   decided_by_first (Some x) read prefix k v h m = m
 
-  -- and where none begins so there are no rows
+  -- and if none begins so there are no rows
   pub none_at_start : (prefix : List ℕ) (test : List ℕ → Bool) (all : Pairs) → with_prefix prefix (contents (tree_of t)) ≡ [] → rows_left (Some 0) test all ≡ with_prefix prefix (contents (tree_of t))
   none_at_start prefix test all h = take_none (take_while (λ (e : List ℕ × List ℕ). test e.0) all) ∙ sym h

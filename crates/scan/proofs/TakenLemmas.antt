@@ -1,4 +1,4 @@
--- Lemmas on the counts of what commands take away.
+-- Lemmas on the counts of what commands delete.
 use Rattle.std.specs.Prelude.{◌≡◌, ℕ, zero, suc, ◌+◌, ◌-◌, ◌^◌, ◌<◌, ◌≤◌, Bool, true, false, not, ◌&&◌, cond, List, [], ◌∷◌, ◌++◌, flat_map, length, take, Option, Some, None, IfSome, option_to_list, Contains}
 use Rattle.std.proofs.Common.{refl, sym, ap, ◌∙◌, subst, arith, get_or, length-append}
 use Rattle.std.specs.List.{AllByRecursion, filter}
@@ -91,7 +91,7 @@ module _ (low end : Key) (apart : is_below low end ≡ true) where
       let here = missed_by (is_before range.1 range.0) range.0 range.1 (filled ranges) k refl n w in
       (here.0, none_meets ranges k here.1 w)
 
-  -- where no more begin below the end than are over at the low key, no key between lies in one
+  -- if no more ranges begin below the end than have ended at the low key, no key between lies in a range
   untouched : (ranges : List Bounds) → below end (lower_bounds (filled ranges)) ≤ up_to low (upper_bounds (filled ranges)) → IsUntouched low end ranges
   untouched ranges h = λ k w.
       let all = all_counted ranges in
@@ -184,7 +184,7 @@ wiped_nothing ranges lo hi old b w s = record {
   few = longer ranges (lo, Some hi) s;
 }
 
--- the same where tallies and keys are lent
+-- the same for borrowed tallies and keys
 pub wiped_above_lent : (ranges : List Bounds) (lo lent_lo : Key) (hi : Option Key) (old : Tallies) (deleted lower upper new : Tally) → old ≡ (deleted, lower, upper) → lent_lo ≡ lo → hi ≡ None → IsNotedIn lent_lo lower new → AreWiped ranges old → Contains old.1.0 lo
     → length ranges < 2 ^ 64 - 1 → AreWiped (ranges ++ (lo, hi) ∷ []) (deleted, new, upper)
 wiped_above_lent ranges lo lent_lo hi old deleted lower upper new e l h n w k s =
@@ -198,7 +198,7 @@ wiped_between_lent ranges lo lent_lo hi lent_hi end old deleted lower upper new_
     (wiped_between ranges lo hi (deleted, lower, upper) new_lower new_upper b (subst (λ (x : Key). IsNotedIn x lower new_lower) l n) (subst (λ (x : Key). IsNotedIn x upper new_upper) m u) (subst (λ (x : Tallies). AreWiped ranges x) e w)
     (subst (λ (x : Tallies). Contains x.1.0 lo) e k) (subst (λ (x : Tallies). Contains x.2.0 hi) e (subst (λ (x : Option Key). IfSome x (λ k. Contains old.2.0 k)) h i)) s)
 
--- ---- what is taken away below a key
+-- ---- what is deleted below a key
 
 abbrev pub IsCountedIn : (Key → List Key → ℕ) → Key → Tally → ℕ → Type 0
 IsCountedIn count key t n = (came : List Key) → IsTally came t → length came ≤ 2 ^ 64 - 1 → n ≡ count key came
@@ -235,7 +235,7 @@ module _ {A : Type 0} where
   taken_by_del_lent gone old deleted lower upper new c key lent e is l n t r s =
       taken_by_del gone (deleted, lower, upper) new c key is (subst (λ (x : Key). IsNotedIn x deleted new) l n) (subst (λ (x : Tallies). IsTaken gone x) e t) (subst (λ (x : Tallies). IsReadyFor c x) e r) s
 
-  -- ---- what a command takes away is among what all do
+  -- ---- what a command deletes is among what all commands delete
 
   module _ (f : Command A → List Key) where
     found_among : (cs : List (Command A)) (place : ℕ) (c : Command A) (k : Key) → place < length cs → c ≡ get_or cs place c → Contains (f c) k → Contains (flat_map f cs) k

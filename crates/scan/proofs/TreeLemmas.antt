@@ -201,7 +201,7 @@ module _ (ps : List (ℕ × PageOfKind)) where
   leaves-below zero level above = refl
   leaves-below (suc n) level above = let here : List (Placed ℕ) = map (index_at ps) level in leaves-below n (values_of (joined here)) (here ∷ above)
 
-  -- ---- a way down leaves out only pairs below its key
+  -- ---- a descent skips only pairs below its key
 
   pub record IsFrom (key : List ℕ) (all found : List ℕ) : Type 0 where
     pub before : List ℕ
@@ -214,7 +214,7 @@ module _ (ps : List (ℕ × PageOfKind)) where
   pub pairs-append : (xs ys : List ℕ) → pairs (leaf_pages ps (xs ++ ys)) ≡ pairs (leaf_pages ps xs) ++ pairs (leaf_pages ps ys)
   pairs-append xs ys = ap (λ (x : List (Page (List ℕ))). pairs x) (leaf_pages-append ps xs ys) ∙ flat_map-append page.entries (leaf_pages ps xs) (leaf_pages ps ys)
 
-  -- where the leaves of the first part lie below the key, and those of the last from it on
+  -- if the leaves of the first part lie below the key, and those of the last from it on
   three_parts : (key : List ℕ) (before here rest all found : List ℕ) → all ≡ before ++ (here ++ rest) → from key (pairs (leaf_pages ps before)) ≡ [] → from key (pairs (leaf_pages ps rest)) ≡ pairs (leaf_pages ps rest)
       → IsFrom key here found → IsFrom key all (found ++ rest)
   three_parts key before here rest all found e b r f =
@@ -320,7 +320,7 @@ module _ (t : Tree) (held : HoldsLevels t.pages (levels_of t)) (levels : AreLeve
   contents-leaves =
       ap (λ (ls : List (Placed (List ℕ))). joined ls) (leaves-below t.pages (pred t.height) (t.root ∷ []) []) ∙ joined-leaves t.pages (leaves_under t.pages (pred t.height) (t.root ∷ []))
 
-  -- the pairs from a key on are those of the leaf that a way down comes to first, and all those of the others
+  -- the pairs at or above a key are those of the first leaf that a descent reaches, and all pairs of the other leaves
   pub contents-from : (key : List ℕ) (leaf : Page (List ℕ)) (others : List (Page (List ℕ))) → leaf_pages t.pages (leaves_from t.pages (pred t.height) key t.root) ≡ leaf ∷ others
       → from key (contents t) ≡ from key (page.entries leaf) ++ pairs others
   contents-from key leaf others h =
@@ -333,7 +333,7 @@ module _ (t : Tree) (held : HoldsLevels t.pages (levels_of t)) (levels : AreLeve
       ∙ ap (λ (x : Page (List ℕ)). from key (page.entries x) ++ pairs (leaf_pages t.pages w.rest)) first
       ∙ ap (λ (x : List (Page (List ℕ))). from key (page.entries leaf) ++ pairs x) rest
 
-  -- a way down comes to the last leaves of the level, in their order
+  -- a descent reaches the last leaves of the level, in their order
   pub record AreLast (found : List ℕ) : Type 0 where
     pub before : List (Page (List ℕ))
     pub whole : map (λ p. p.page) (levels_of t).level ≡ before ++ leaf_pages t.pages found

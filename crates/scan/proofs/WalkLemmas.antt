@@ -12,7 +12,7 @@ use Rattle.scan.specs.Path.{leaves_under, leaves_from, leaves_left, leaf_pages, 
 use Rattle.scan.specs.Walk.{IsWalk, IsAt, walk_from, walk_left}
 use Rattle.scan.proofs.PathLemmas.{leaves_under-append, leaf_pages-append, left-push, path-push, path_pop, at_index, under-none, from-nothing}
 
--- a path with children pushed, where the walk goes on at this page
+-- a path with children pushed, if the walk continues at this page
 pub record IsPushed (t : TreeInMemory) (path : SmallVec (List ℕ)) (key : List ℕ) (child : ℕ) (whole : List (Page (List ℕ))) : Type 0 where
   pub walk : IsWalk t path
   pub known : IsAt t (length path.items) child
@@ -32,7 +32,7 @@ module _ (t : TreeInMemory) where
       by zero h e = omega arith
       by (suc n) h e = omega arith
 
-  -- children at this level are pushed, and the walk goes on at the first
+  -- children at this level are pushed, and the walk continues at the first
   pub pushed : (path new : SmallVec (List ℕ)) (m : ℕ) (key : List ℕ) (child : ℕ) (rest : List ℕ) → length path.items + suc m ≡ Top → IsWalk t path → new.items ≡ path.items ++ rest ∷ [] → new.capacity ≡ path.capacity
       → IsKnown Pages m child → AllByRecursion (IsKnown Pages m) rest → IsPushed t new key child (leaf_pages Pages (leaves_from Pages m key child ++ (leaves_under Pages m rest ++ leaves_left Pages Top path.items)))
   pushed path new m key child rest h w i c k a =
@@ -56,7 +56,7 @@ module _ (t : TreeInMemory) where
 
   -- ---- down
 
-  -- below an index page, the walk goes on at the first child that is kept, and those after it are pushed
+  -- below an index page, the walk continues at the first child that is kept, and those after it are pushed
   pub step_down : (path new : SmallVec (List ℕ)) (key : List ℕ) (pid child : ℕ) (page : PageOfKind) (rest : List ℕ) (whole : List (Page (List ℕ))) → IsWalk t path → IsAt t (length path.items) pid
       → Some page ≡ page_at Pages pid → IsIndex page → values_of (children_within key None (child_entries page)) ≡ child ∷ rest
       → new.items ≡ path.items ++ rest ∷ [] → new.capacity ≡ path.capacity → walk_from t (length path.items) key pid ++ walk_left t path.items ≡ whole → IsPushed t new key child whole
@@ -87,7 +87,7 @@ module _ (t : TreeInMemory) where
 
   -- ---- along
 
-  -- the last page of the path is taken off, and what it has left put back without the first: there the walk goes on
+  -- the last page of the path is taken off, and what it has left put back without the first: there the walk continues
   pub step_along : (path popped new : SmallVec (List ℕ)) (step rest : List ℕ) (child : ℕ) → IsWalk t path → path.items ≡ popped.items ++ step ∷ [] → popped.capacity ≡ path.capacity → step ≡ child ∷ rest
       → new.items ≡ popped.items ++ rest ∷ [] → new.capacity ≡ popped.capacity → IsPushed t new [] child (walk_left t path.items)
   step_along path popped new step rest child w i c e j d =
@@ -104,7 +104,7 @@ module _ (t : TreeInMemory) where
       ∙ sym (ap (λ (x : List (List ℕ)). leaves_left Pages Top x) i ∙ left-push Pages Top top.level popped.items step top.height) in
       record { walk = p.walk; known = p.known; leaves = p.leaves ∙ ap (λ (x : List ℕ). leaf_pages Pages x) same }
 
-  -- where it has none left, the walk goes on above it
+  -- if it has none left, the walk continues above it
   pub step_up : (path popped : SmallVec (List ℕ)) (step : List ℕ) (whole : List (Page (List ℕ))) → IsWalk t path → path.items ≡ popped.items ++ step ∷ [] → popped.capacity ≡ path.capacity → step ≡ [] → walk_left t path.items ≡ whole
       → IsWalk t popped × (walk_left t popped.items ≡ whole)
   step_up path popped step whole w i c e l =

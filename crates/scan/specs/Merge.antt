@@ -1,4 +1,4 @@
--- What a merge of a leaf's runs and its base has left.
+-- The remaining entries of a merge of a leaf's runs and its base.
 use Rattle.std.specs.Prelude.{◌≡◌, false, List, [], ◌∷◌, Option, Some, None, ⊤}
 use Rattle.std.specs.declared.cmp.Ordering.TheVariants.{Less, Equal}
 use Rattle.std.specs.List.{AllByRecursion}
@@ -8,21 +8,21 @@ use Rattle.keys.specs.Range.{is_below}
 use Rattle.delta_chain.specs.Layers.{with_run}
 use Rattle.delta_chain.specs.Merging.{first_order}
 
--- changes after a first one, where there is one
+-- a first change, if there is one, followed by others
 abbrev pub changes_after : {V : Type 0} → Option (Bytes × Option V) → Changes V → Changes V
 changes_after None cs = []
 changes_after (Some c) cs = c ∷ cs
 
--- changes, and the pairs under them
+-- changes, and the pairs that they apply to
 pub record Merged : Type 0 where
   pub changes : Changes Bytes
   pub pairs : Pairs Bytes
 
--- the pairs with the changes to them
+-- the pairs with the changes applied
 abbrev pub merged : Merged → Pairs Bytes
 merged m = with_run m.pairs m.changes
 
--- no change stands before the first of the pairs
+-- no change comes before the first of the pairs
 abbrev pub ArePairsNext : {V : Type 0} → Changes V → Pairs V → Type 0
 ArePairsNext [] es = ⊤
 ArePairsNext (c ∷ cs) es = first_order es c.0 ≡ Less
@@ -36,7 +36,7 @@ StartsFrom k (e ∷ es) = is_below e.0 k ≡ false
 abbrev pub StartsAt : {V : Type 0} → Bytes → Pairs V → Type 0
 StartsAt k es = first_order es k ≡ Equal
 
--- what a merge keeps in order: its changes, each of its runs, and its base
+-- the invariant of a merge: its changes, each of its runs, and its base rise
 pub record IsMerge (cs : Changes Bytes) (rs : List (Changes Bytes)) (es : Pairs Bytes) : Type 0 where
   pub changes : IsRising cs
   pub runs : AllByRecursion IsRising rs

@@ -1,4 +1,4 @@
--- Counts of the keys and of the bounds of ranges that commands take away.
+-- Tallies of the keys and the bounds of ranges that commands delete.
 use Rattle.std.specs.Prelude.{◌≡◌, ◌-◌, ◌^◌, ◌≤◌, List, flat_map, map, length, Contains, Option, option_to_list}
 use Rattle.std.specs.List.{AllByRecursion, filter}
 use Rattle.std.specs.List.Sorted.{IsPermutation}
@@ -13,11 +13,11 @@ use Rattle.scan.specs.declared.taken.TakenBelow.{TakenBelow}
 abbrev pub lower_bounds : List (Bytes × Option Bytes) → List Bytes
 lower_bounds ranges = map (λ range. range.0) ranges
 
--- the upper bounds of those that have one
+-- the upper bounds of the ranges that have one
 abbrev pub upper_bounds : List (Bytes × Option Bytes) → List Bytes
 upper_bounds ranges = flat_map (λ range. option_to_list range.1) ranges
 
--- the bounds that a command takes away, and those of all commands
+-- the lower and the upper bound of the range that a command deletes, and the bounds for all commands
 abbrev pub lower_by : {A : Type 0} → Command A → List Bytes
 lower_by c = lower_bounds (wiped_by c)
 
@@ -34,41 +34,41 @@ all_upper cs = flat_map upper_by cs
 abbrev pub filled : List (Bytes × Option Bytes) → List (Bytes × Option Bytes)
 filled ranges = filter (λ range. is_before range.1 range.0) ranges
 
--- a tally each of deleted keys, of lower bounds and of upper bounds
+-- a tally of deleted keys, one of lower bounds, and one of upper bounds
 abbrev pub Tallies : Type 0
 Tallies = Tally × Tally × Tally
 
--- the bounds of just these ranges have come, where they aren't empty
+-- exactly the bounds of these ranges are recorded, without those of empty ranges
 pub record AreWiped (ranges : List (Bytes × Option Bytes)) (t : Tallies) : Type 0 where
   pub lower : IsTally (lower_bounds (filled ranges)) t.1
   pub upper : IsTally (upper_bounds (filled ranges)) t.2
   pub few : length ranges ≤ 2 ^ 64 - 1
 
--- just this has been taken away
+-- exactly these deletions are recorded
 pub record IsTaken (gone : Taken) (t : Tallies) : Type 0 where
   pub deleted : IsTally gone.0 t.0
   pub few : length gone.0 ≤ 2 ^ 64 - 1
   pub wiped : AreWiped gone.1 t
 
--- what is taken away below a key
+-- what is deleted below a key
 pub record IsTakenBelow (gone : Taken) (key : Bytes) (t : TakenBelow) : Type 0 where
   pub deleted : t.deleted ≡ below key gone.0
   pub begun : t.begun ≡ below key (lower_bounds (filled gone.1))
   pub ended : t.ended ≡ up_to key (upper_bounds (filled gone.1))
 
--- what a command takes away is among what may come
+-- what a command deletes is among the known keys
 pub record IsReadyFor {A : Type 0} (c : Command A) (t : Tallies) : Type 0 where
   pub deleted : AllByRecursion (λ k. Contains t.0.0 k) (deleted_by c)
   pub lower : AllByRecursion (λ k. Contains t.1.0 k) (lower_by c)
   pub upper : AllByRecursion (λ k. Contains t.2.0 k) (upper_by c)
 
--- what all these commands take away may come
+-- what all these commands delete is among the known keys
 pub record AreReady {A : Type 0} (cs : List (Command A)) (t : Tallies) : Type 0 where
   pub deleted : IsPermutation (deleted cs) t.0.0
   pub lower : IsPermutation (all_lower cs) t.1.0
   pub upper : IsPermutation (all_upper cs) t.2.0
 
--- the same may come
+-- both have the same known keys
 pub record HasKeysOf (t u : Tallies) : Type 0 where
   pub deleted : u.0.0 ≡ t.0.0
   pub lower : u.1.0 ≡ t.1.0

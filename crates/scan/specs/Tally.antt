@@ -1,4 +1,4 @@
--- How many of the keys that came so far pass a test, where all that may come stand in order: each has a place, and what comes is noted there.
+-- How many of the recorded keys pass a test. All keys that may be recorded are known and sorted, so each has a place, whose counter is updated.
 use Rattle.std.specs.Prelude.{◌≡◌, ℕ, ◌+◌, ◌-◌, ◌/◌, ◌<◌, ◌≤◌, Bool, true, false, not, List, [], ◌∷◌, length, slice_index}
 use Rattle.std.specs.List.{filter}
 use Rattle.std.specs.List.Sorted.{IsSorted}
@@ -14,34 +14,34 @@ passing test keys = length (filter test keys)
 abbrev pub below : Bytes → List Bytes → ℕ
 below key keys = passing (λ k. is_below k key) keys
 
--- how many of them are not above one
+-- how many of the keys are not above one
 abbrev pub up_to : Bytes → List Bytes → ℕ
 up_to key keys = passing (λ k. not (is_below key k)) keys
 
--- a test that with a key passes all that aren't above it
+-- if the test passes a key, it passes all keys that aren't above it
 abbrev pub PassesLower : (Bytes → Bool) → Type 0
 PassesLower test = (j k : Bytes) → test k ≡ true → is_below k j ≡ false → test j ≡ true
 
--- how many noted places stand before one: those in its group of 16, and those in the groups before that one
+-- how many recorded places precede a place: those in its group of 16, and those in the groups before that group
 abbrev pub counted : List (List ℕ) → ℕ → ℕ
 counted [] at = 0
 counted (level ∷ levels) at = slice_index level at + counted levels (at / 16)
 
--- levels that have room for `places` places: each level for the groups of the one below
+-- the levels have room for `places` places; each level counts the groups of the one below
 abbrev pub AreWide : ℕ → List (List ℕ) → Type 0
 AreWide places [] = places ≤ 1
 AreWide places (level ∷ levels) = (places ≤ length level) × AreWide ((places - 1) / 16 + 1) levels
 
--- with a place noted, one more stands before those that are after it
+-- after recording a place, one more recorded place precedes each later one
 pub record IsOneMore (place at old new : ℕ) : Type 0 where
   pub after : place < at → new ≡ old + 1
   pub others : at ≤ place → new ≡ old
 
--- keys in order, with the levels over their places
+-- sorted keys, with the levels over their places
 abbrev pub Tally : Type 0
 Tally = List Bytes × List (List ℕ)
 
--- of those keys just these have come
+-- exactly these keys are recorded
 pub record IsTally (came : List Bytes) (t : Tally) : Type 0 where
   pub sorted : IsSorted order t.0
   pub wide : AreWide (length t.0 + 1) t.1

@@ -13,10 +13,10 @@ use page_search::{Probes, place};
 use std::alloc::Global;
 use std::marker::Model;
 
-/// A change: a key, and the value that it has from now on, or none where it is absent from now on.
+/// A change: a key with its new value, or with `None` if it is deleted.
 pub(crate) type Change<'a> = (KeyRef<'a>, Option<&'a Value<Global>>);
 
-// A change of a run, and the place of the next.
+// A change of a run, and the place of the next one.
 #[derive(Drop)]
 struct Head<'a> {
     key: KeyRef<'a>,
@@ -25,8 +25,8 @@ struct Head<'a> {
     next: usize,
 }
 
-/// The changes of one run that are still to come, with the first of them at hand. Contracts see it as their list. The
-/// default has none.
+/// The remaining changes of one run, with the first of them loaded. Contracts see it as their list. The default is
+/// empty.
 #[derive(Default, Drop)]
 pub(crate) struct Ahead<'a> {
     head: Option<Head<'a>>,
@@ -42,7 +42,6 @@ impl<'a> Model for Ahead<'a> {
 }
 
 impl<'a> Ahead<'a> {
-    // The run's changes from the key on.
     pub(crate) fn new(run: &'a Run<Value<Global>, Global>, key: &[u8]) -> Self
         ensures changes { result ≡ from key.now run.now }
         ensures rising { IsRising run.now }
@@ -52,7 +51,6 @@ impl<'a> Ahead<'a> {
         }
     }
 
-    // The first change, if there is one.
     pub(crate) fn first(&self) -> Option<Change<'a>>
         ensures { option_map (λ c. (c.0, option_copied c.1)) result ≡ slice_get self.now 0 }
     {
@@ -62,7 +60,6 @@ impl<'a> Ahead<'a> {
         }
     }
 
-    // Goes past the first change, if there is one.
     pub(crate) fn advance(&mut self)
         ensures { self.new ≡ drop 1 self.old }
     {
@@ -71,7 +68,6 @@ impl<'a> Ahead<'a> {
         }
     }
 
-    // Goes past the first change where it has this key.
     pub(crate) fn pass(&mut self, key: &KeyRef<'_>)
         requires starts { StartsFrom key.now self.old }
         requires rising { IsRising self.old }
@@ -85,7 +81,7 @@ impl<'a> Ahead<'a> {
     }
 }
 
-// The run's change at this place, with those after it; none at the run's end.
+// The run's change at place `at`, with those after it, or `None` at the run's end.
 fn head_at<'a>(run: &'a Run<Value<Global>, Global>, at: usize) -> Option<Head<'a>>
     ensures { changes_of result ≡ drop at run.now }
 {
@@ -101,7 +97,8 @@ fn head_at<'a>(run: &'a Run<Value<Global>, Global>, at: usize) -> Option<Head<'a
     }
 }
 
-// The place of the first key that isn't below this one. It is found by halves; no key is below the empty one.
+// The place of the first key that is not below `key`. Takes a binary search, or nothing for the empty key, which is the
+// least.
 pub(crate) fn place_from<L: KeyList>(list: &L, key: &[u8]) -> usize
     ensures place { result ≡ count_below key.now (L.keys list.now) }
     ensures rising { AreRisingKeys (L.keys list.now) }

@@ -1,5 +1,5 @@
-//! A walk over a tree's pairs from the greatest key down. What it has left is seen as a list in key order, of which the last
-//! comes first.
+//! Iteration over a tree's pairs from the greatest key down. Contracts see the remaining pairs as a list in key order,
+//! whose last pair comes next.
 ghost use Rattle.std.specs.Prelude.{◌≡◌};
 ghost use Rattle.std.specs.Option.{option_copied};
 ghost use Rattle.keys.specs.Order.{AreRisingKeys};
@@ -17,7 +17,7 @@ use crate::ahead::place_from;
 pub use crate::back::rows::RowsBack;
 use delta_chain::KeyList;
 
-// How many keys of the list are before the end: all, where there is none. They are found by halves.
+// How many keys of the list are before `hi`, or the number of keys if there is no end. Takes a binary search.
 fn count_before<L: KeyList>(list: &L, hi: Option<&[u8]>) -> usize
     ensures count { result ≡ count_before (option_copied hi.entry) (L.keys list.now) }
     ensures rising { AreRisingKeys (L.keys list.now) }

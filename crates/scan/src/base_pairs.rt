@@ -9,7 +9,7 @@ use keys::Value;
 use std::alloc::Global;
 use std::marker::Model;
 
-/// The pairs of a base, from a place on: a leaf without runs. Contracts see it as their list.
+/// An iterator over the pairs of a base, for a leaf without runs. Contracts see it as the list of the remaining pairs.
 #[derive(Drop)]
 pub(crate) struct BasePairs<'a> {
     base: &'a Base<Value<Global>, Global>,
@@ -26,7 +26,6 @@ impl<'a> Model for BasePairs<'a> {
 }
 
 impl<'a> BasePairs<'a> {
-    // The pairs from the key on.
     pub(crate) fn new(base: &'a Base<Value<Global>, Global>, key: &[u8]) -> Self
         ensures { result ≡ from key.now base.now }
     {

@@ -1,4 +1,4 @@
-//! What a leaf's runs say together, in key order: a merge that keeps a place in each run.
+//! The merged changes of a leaf's runs in key order, by a merge that keeps a place in each run.
 ghost use Rattle.std.specs.Prelude.{◌≡◌, ◌∷◌, ◌≤◌, [], length, map, slice_get, slice_index_or, IfSome, MatchOption};
 ghost use Rattle.std.specs.List.{AllByRecursion};
 ghost use Rattle.std.specs.Option.{option_copied, option_map};
@@ -14,15 +14,14 @@ use keys::{KeyRef, Value};
 use smallvec::SmallVec;
 use std::alloc::Global;
 
-/// The runs of a leaf, newest first, each from a place on. They need no memory.
+/// The runs of a leaf, newest first, each from some place on. They need no allocation.
 pub(crate) type Runs<'a> = SmallVec<Ahead<'a>, 16>;
 
-// Makes these the leaf's runs from the key on.
 pub(crate) fn fill<'a>(runs: &mut Runs<'a>, chain: &'a Chain<Value<Global>, Global>, key: &[u8])
     requires { depth_of chain.now ≤ 16 }
     ensures { runs.new.items ≡ map (from key.now) chain.now.runs }
 {
-    // The capacity is looked up for what it says: there is room for 16 in any case.
+    // The capacity is read for the proof: there is always room for 16.
     let _room = runs.capacity();
     runs.clear();
     let mut rest = chain.lent();
@@ -32,7 +31,7 @@ pub(crate) fn fill<'a>(runs: &mut Runs<'a>, chain: &'a Chain<Value<Global>, Glob
     }
 }
 
-// The next of all changes, if there is one. Each run that has its key goes past it.
+// Removes the next of all changes from the runs and returns it. All runs that contain its key skip it.
 pub(crate) fn next_change<'a>(runs: &mut Runs<'a>) -> Option<Change<'a>>
     requires { AllByRecursion IsRising runs.old.items }
     ensures rising { AllByRecursion IsRising runs.new.items }
@@ -45,7 +44,8 @@ pub(crate) fn next_change<'a>(runs: &mut Runs<'a>) -> Option<Change<'a>>
     Some((key, said))
 }
 
-// The change with the least key, and the place of its run; where runs share that key, it is the newest one's.
+// The change with the least key, and the place of its run; if several runs contain that key, the change of the newest
+// one.
 fn least<'a>(runs: &[Ahead<'a>]) -> Option<(usize, Change<'a>)>
     requires { AllByRecursion IsRising runs.now }
     ensures change { option_map (λ f. (f.1.0, option_copied f.1.1)) result
@@ -79,8 +79,8 @@ fn least<'a>(runs: &[Ahead<'a>]) -> Option<(usize, Change<'a>)>
     }
 }
 
-// Each run goes past this key, and none begins before it. The run at the place begins with it, so that the key's bytes
-// needn't be looked at there.
+// All runs skip `key`, below which no run has a key. The run at `place` begins with it, so its key need not be
+// compared.
 fn pass_all<'a>(runs: &mut [Ahead<'a>], place: usize, key: &KeyRef<'_>)
     requires place { StartsAt key.now (slice_index_or runs.old place []) }
     requires starts { AllByRecursion (StartsFrom key.now) runs.old }

@@ -143,8 +143,8 @@ fn has_few_ranges(commands: &[Command<Global>]) -> bool {
     count <= FEW_RANGES
 }
 
-// Returns the key at which each command may end, if it is a scan, or `None` if the scans visit more than `room` leaves in vain. Nothing has
-// been taken away before the first.
+// Returns the key at which each command may end, if it is a scan, or `None` if the scans visit more than `room` leaves
+// in vain. Before the first command nothing is deleted.
 fn all_ends<'a>(
     alloc: Global,
     tree: &'a Tree<Global>,
@@ -174,7 +174,7 @@ fn all_ends<'a>(
     Ok(Some(ends))
 }
 
-// Whether there is a scan among the commands. Only what is spent depends on it.
+// Returns whether one of the commands is a scan. Affects cost only, never the result.
 fn has_scan(commands: &[Command<Global>]) -> bool {
     for command in commands {
         if command.is_scan() {
@@ -184,8 +184,8 @@ fn has_scan(commands: &[Command<Global>]) -> bool {
     false
 }
 
-// Returns the key at which the command may end, if it is a scan, and takes its visits in vain off `room`. The commands before it have taken
-// away no more than `taken`.
+// Returns the key at which the command may end, if it is a scan, and subtracts its visits in vain from `room`. The
+// commands before it delete at most `taken`.
 fn end_of<'a>(
     alloc: Global,
     tree: &'a Tree<Global>,
@@ -219,8 +219,8 @@ fn end_of<'a>(
     }
 }
 
-// The key at which such a scan may end. The walk counts what is certain before the leaf that it has come to. The first leaf
-// holds the scan's lower bound, and so ends above it.
+// Returns the key at which a scan with these bounds may end. The walk sums the pairs that certainly remain in the
+// leaves that it passes. The first leaf contains `lo`, so its end is above `lo`.
 fn end_of_scan<'a>(
     alloc: Global,
     tree: &'a Tree<Global>,
@@ -262,14 +262,15 @@ fn end_of_scan<'a>(
     None
 }
 
-// Whether a leaf that begins at this key begins within a scan's range, and not at its lower bound.
+// Returns whether a leaf with this low key begins inside a scan's range and not at its lower bound.
 fn is_inside(lo: &[u8], hi: Option<&[u8]>, low: &[u8]) -> bool
     ensures { result ≡ (is_before (option_copied hi.entry) low.now && is_below lo.now low.now) }
 {
     is_before(hi, low) && compare(lo, low).is_lt()
 }
 
-// Returns whether a scan may go on after a leaf of which `more` pairs are certain. If none is, takes this visit off `room`.
+// Returns whether a scan may continue after a leaf with `more` certain pairs. If there are none, subtracts this visit
+// from `room`.
 fn may_go_on(more: usize, room: &mut usize) -> bool {
     if more > 0 {
         return true;
@@ -278,16 +279,16 @@ fn may_go_on(more: usize, room: &mut usize) -> bool {
     *room > 0
 }
 
-// The greater one of a leaf's low key and a scan's.
+// Returns the greater of a leaf's low key and a scan's lower bound.
 fn later<'k>(low: &'k [u8], lo: &'k [u8]) -> &'k [u8]
     ensures { result.now ≡ later low.entry.now lo.entry.now }
 {
     if compare(low, lo).is_lt() { lo } else { low }
 }
 
-// How many of the pairs of a leaf, which begins at the low key, a scan from a key on certainly has before the leaf's end,
-// whatever the commands before it do that take away no more than what is said of where its share of the leaf begins and ends. Of
-// a leaf in which a wiped range has keys nothing is certain.
+// Returns how many pairs at or above `lo` certainly remain in a leaf with low key `low`. `before` and `here` count the
+// deletions below the start of the scan's part of the leaf and below the leaf's end, and earlier commands delete no
+// more than that. If a wiped range may have keys in that part, no pair is certain.
 fn certain_pairs(
     chain: &Chain<Value<Global>, Global>,
     low: &[u8],
@@ -307,7 +308,7 @@ fn certain_pairs(
     };
     let fewest = chain.fewest_entries();
     if compare(low, lo).is_lt() {
-        // The leaf in which the scan begins names keys below the scan's own.
+        // The scan begins in this leaf, which also contains keys below `lo`.
         fewest
             .saturating_sub(named_below(chain, lo))
             .saturating_sub(most)
@@ -316,8 +317,8 @@ fn certain_pairs(
     }
 }
 
-// How many keys the leaf's lists name below this one, each list by itself: no more of its entries are below it. Each list is
-// searched by halves.
+// Returns how many keys below `key` the leaf's lists contain, counted separately in each list: an upper bound on its
+// entries below `key`. Takes a binary search in each list.
 fn named_below(chain: &Chain<Value<Global>, Global>, key: &[u8]) -> usize
     ensures { result ≡ min (named_below key.now chain.now) usize.MAX }
 {

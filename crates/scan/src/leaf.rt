@@ -13,15 +13,15 @@ use keys::Value;
 use std::alloc::Global;
 use std::marker::Model;
 
-/// The pairs of one leaf in key order, from a key on: of each the key and the value, lent out of the leaf. It takes no
-/// memory. Contracts see it as the list of those that are left.
+/// An iterator over the pairs of one leaf in key order, from a key on, as keys and values borrowed from the leaf. Does
+/// not allocate. Contracts see it as the list of the remaining pairs.
 #[derive(Drop)]
 pub struct LeafPairs<'a> {
     way: Way<'a>,
 }
 
-// How a leaf is walked: without runs along its base, and with up to 16 by a merge. With more, for which there are no places,
-// it is searched from key to key.
+// A leaf without runs is iterated along its base, and one with at most 16 runs is merged. With more runs, for which a
+// merge has no slots, each next key is searched for.
 #[derive(Drop)]
 enum Way<'a> {
     Plain(BasePairs<'a>),
@@ -39,7 +39,7 @@ impl<'a> Model for LeafPairs<'a> {
 }
 
 impl<'a> LeafPairs<'a> {
-    /// The leaf's pairs from the key on.
+    /// Returns the leaf's pairs at or above `key`.
     pub fn new(alloc: Global, chain: &'a Chain<Value<Global>, Global>, key: &[u8]) -> Self
         ensures { result ≡ from key.now (entries_of chain.now) }
     {
@@ -54,8 +54,8 @@ impl<'a> LeafPairs<'a> {
         }
     }
 
-    // Walks this leaf from its first pair on, in place of the one before, which has none left: in the same places, so that nothing large
-    // is moved. A leaf that is known to be empty is stepped over at one look.
+    // Starts again at the first pair of another leaf, after the previous leaf is exhausted. Reuses the iterator's state
+    // in place, because moving it is expensive, and skips a leaf that its bounds show to be empty.
     pub(crate) fn restart(&mut self, alloc: Global, chain: &'a Chain<Value<Global>, Global>)
         requires { self.old ≡ [] }
         ensures { self.new ≡ from [] (entries_of chain.now) }
@@ -73,7 +73,7 @@ impl<'a> LeafPairs<'a> {
     }
 }
 
-// A leaf with runs. The places of a merge are large, so this is kept apart from the walk along a base.
+// For a leaf with runs. The state of a merge is large, so this function is kept out of the path for a base alone.
 #[inline(never)]
 fn among_runs<'a>(alloc: Global, chain: &'a Chain<Value<Global>, Global>, key: &[u8]) -> Way<'a>
     ensures { pairs_of_way result ≡ from key.now (entries_of chain.now) }

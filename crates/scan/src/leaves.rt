@@ -15,15 +15,15 @@ use smallvec::SmallVec;
 use std::alloc::Global;
 use std::marker::Model;
 
-/// A leaf: its low key, and its values.
+/// A leaf: its low key and its values.
 pub(crate) type Leaf<'a> = (&'a [u8], &'a LateChain<Value<Global>, Global>);
 
-// The index pages on the way to a leaf, from the root down, each with its children after that way. A tree has at most 64
-// levels, so it needs no memory.
+// The index pages from the root down to a leaf, each with its children to the right of the path. A tree has at most 64
+// levels, so the path needs no allocation.
 type Path<'a> = SmallVec<PathStep<'a>, 64>;
 
-/// The leaves of a tree after one that was come to, from left to right. From one to the next it goes up only as far as
-/// there are no more children, and takes no memory. Contracts see it as these pages.
+/// An iterator over the leaves to the right of a first leaf, from left to right. A step ascends only as far as pages
+/// have no more children. Does not allocate. Contracts see it as these leaves.
 #[derive(Drop)]
 pub(crate) struct Leaves<'a> {
     tree: &'a Tree<Global>,
@@ -44,7 +44,7 @@ impl<'a> Model for Leaves<'a> {
 }
 
 impl<'a> Leaves<'a> {
-    // The leaf for the key, and those after it.
+    // The leaf for `key`, and an iterator over the leaves to its right.
     pub(crate) fn new(alloc: Global, tree: &'a Tree<Global>, key: &[u8]) -> (Leaf<'a>, Self)
         requires home { AreAllHome tree.now }
         requires height { tree.now.height ≤ most_levels }
@@ -71,7 +71,7 @@ impl<'a> Iterator for Leaves<'a> {
     }
 }
 
-// Goes down from this page to the leaf for the key, the children after the way onto the path.
+// Descends from page `from` to the leaf for `key`, and pushes the children to the right onto the path.
 fn descend<'a>(tree: &'a Tree<Global>, path: &mut Path<'a>, from: Pid, key: &[u8]) -> Leaf<'a>
     requires walk { IsWalk tree.now path.old }
     requires known { IsAt tree.now (length path.old.items) from }
@@ -100,7 +100,7 @@ fn descend<'a>(tree: &'a Tree<Global>, path: &mut Path<'a>, from: Pid, key: &[u8
     }
 }
 
-// The next leaf on the path, which leads to those after it afterwards.
+// Removes the next leaf from the path and returns it.
 fn next_leaf<'a>(tree: &'a Tree<Global>, path: &mut Path<'a>) -> Option<Leaf<'a>>
     requires { IsWalk tree.now path.old }
     ensures walk { IsWalk tree.now path.new }

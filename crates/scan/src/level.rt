@@ -1,14 +1,14 @@
-//! Counts of places, by groups of places.
+//! Counters for places, summed by groups of places.
 ghost use Rattle.std.specs.Prelude.{◌≡◌, ◌≢◌, ◌⊎◌, ℕ, ◌+◌, ◌-◌, ◌/◌, ◌^◌, ◌<◌, ◌≤◌, length, min, replicate, slice_index, IfOk};
 ghost use Rattle.scan.specs.Tally.{IsOneMore, AreWide, counted};
 
 use std::alloc::{AllocError, Global};
 use std::marker::Model;
 
-// How many places have one sum on the level above.
+// The number of places in a group, which has one counter on the level above.
 const WIDTH: usize = 16;
 
-/// For each place of a row, how many noted ones stand before it in its group of 16. Contracts see it as the list of these
+/// For each place, how many recorded places precede it in its group of 16. Contracts see it as the list of these
 /// numbers.
 #[derive(Drop)]
 pub(crate) struct Level {
@@ -24,7 +24,6 @@ impl Model for Level {
 }
 
 impl Level {
-    // A row without noted places.
     fn new(alloc: Global, places: usize) -> Result<Self, AllocError>
         ensures { IfOk result (λ level. level ≡ replicate places 0) }
     {
@@ -33,14 +32,13 @@ impl Level {
         })
     }
 
-    // What stands at the place.
     fn at(&self, place: usize) -> usize
         ensures { result ≡ slice_index self.now place }
     {
         self.counts.get(place).copied().unwrap_or(0)
     }
 
-    // Notes a place: each one after it in its group has one more before it.
+    // Records `place`: increments the counters of all later places in its group.
     fn note(&mut self, place: usize)
         ensures length { length self.new ≡ length self.old }
         ensures after { (at : ℕ) → place < at → at < length self.old → at / 16 ≡ place / 16
@@ -56,7 +54,6 @@ impl Level {
     }
 }
 
-// Makes the numbers from the first place on, and before the end, greater by one.
 fn raise(counts: &mut [usize], from: usize, end: usize)
     requires { end ≤ length counts.old }
     ensures length { length counts.new ≡ length counts.old }
@@ -70,8 +67,8 @@ fn raise(counts: &mut [usize], from: usize, end: usize)
     }
 }
 
-/// The levels over this many places, none of them noted: the places, their groups, the groups of these, and so on up to
-/// one.
+/// Returns the levels over this many places, with no place recorded: one for the places, one for their groups, one for
+/// the groups of these, and so on, up to a single counter.
 pub(crate) fn levels_over(alloc: Global, places: usize) -> Result<Vec<Level>, AllocError>
     ensures wide { IfOk result (λ levels. AreWide places levels.items) }
     ensures none { IfOk result (λ levels. (at : ℕ) → counted levels.items at ≡ 0) }
@@ -85,8 +82,8 @@ pub(crate) fn levels_over(alloc: Global, places: usize) -> Result<Vec<Level>, Al
     Ok(levels)
 }
 
-/// Notes a place on each level: its group is a place of the next one. A level has a sixteenth of the places below it, so the
-/// recursion is not deep.
+/// Records `place` on each level; its group is a place of the next level. Each level has a sixteenth of the places of
+/// the one below, so the recursion is shallow.
 pub(crate) fn note_on(levels: &mut [Level], place: usize)
     ensures length { length levels.new ≡ length levels.old }
     ensures wide { (places : ℕ) → AreWide places levels.old → AreWide places levels.new }
@@ -101,7 +98,7 @@ pub(crate) fn note_on(levels: &mut [Level], place: usize)
     }
 }
 
-/// How many of the noted places stand before this one.
+/// Returns how many recorded places precede `place`.
 pub(crate) fn count_before(levels: &[Level], place: usize) -> usize
     ensures { result ≡ min (counted levels.now place) (2 ^ 64 - 1) }
 {

@@ -1,5 +1,6 @@
-//! Rows of a range of keys, lent out of a tree's pages in key order, or from the greatest key down. A scan goes along the leaves, from
-//! one to the next, and takes no memory. And for a batch, the keys at which its scans may end.
+//! Iterators over the rows of a range of keys, borrowed from a tree's pages, in key order or from the greatest key
+//! down. A scan moves from leaf to leaf and does not allocate. For a batch, the crate also computes keys at which its
+//! scans may end early.
 #![tactic(auto)]
 
 mod ahead;

@@ -1,4 +1,4 @@
-//! Iterates over a leaf with few runs: merges them with the base.
+//! Iterates over a leaf with few runs: merges the runs with the base.
 ghost use Rattle.std.specs.Prelude.{◌≡◌, ◌<◌, ◌≤◌, ◌∷◌, ◌++◌, [], drop, length, MatchOption};
 ghost use Rattle.std.specs.Option.{option_copied};
 ghost use Rattle.std.specs.declared.cmp.Ordering.TheVariants.{Less};
@@ -17,8 +17,8 @@ use std::cmp::Ordering;
 use std::marker::Model;
 use std::mem;
 
-/// A walk over a leaf that keeps a place in the base and in each run: a key is compared once with the next change, and a
-/// key of a run with those of the other runs. Contracts see it as the changes and the base's pairs that are left.
+/// A merge of a leaf's lists, with a place in the base and in each run: each key is compared once with the next change,
+/// and a run's key with those of the other runs. Contracts see it as the remaining changes and base pairs.
 #[derive(Drop)]
 pub(crate) struct Merge<'a> {
     base: &'a Base<Value<Global>, Global>,
@@ -50,7 +50,6 @@ impl<'a> Model for Merge<'a> {
 }
 
 impl<'a> Merge<'a> {
-    // The leaf from the key on.
     pub(crate) fn new(alloc: Global, chain: &'a Chain<Value<Global>, Global>, key: &[u8]) -> Self
         requires { depth_of chain.now ≤ 16 }
         ensures { merged result ≡ from key.now (entries_of chain.now) }
@@ -66,7 +65,7 @@ impl<'a> Merge<'a> {
         merge
     }
 
-    // Walks this leaf from the key on, in place of the one before. Each list is searched once.
+    // Starts again with another leaf, from `key` on. Takes one binary search in each list.
     pub(crate) fn restart(&mut self, chain: &'a Chain<Value<Global>, Global>, key: &[u8])
         requires { depth_of chain.now ≤ 16 }
         ensures { merged self.new ≡ from key.now (entries_of chain.now) }
@@ -78,7 +77,8 @@ impl<'a> Merge<'a> {
         self.change = next_change(&mut self.runs);
     }
 
-    // The next change, unless a pair of the base stands before it. A pair that has its key is passed.
+    // Removes and returns the next change, unless a pair of the base comes before it. Also skips the base pair with the
+    // same key.
     pub(crate) fn take_change(&mut self) -> Option<Change<'a>>
         ensures { MatchOption result
             ((self.new ≡ self.old) × ArePairsNext self.old.changes self.old.pairs)
@@ -110,7 +110,7 @@ impl<'a> Merge<'a> {
     }
 }
 
-// The next pair that is there after the changes.
+// Removes and returns the next pair that is present after the changes.
 pub(crate) fn next_pair<'a>(merge: &mut Merge<'a>) -> Option<(&'a [u8], &'a Value<Global>)>
     ensures { MatchOption result ((merged merge.old ≡ []) × (merged merge.new ≡ []))
         (λ p. merged merge.old ≡ (p.0.now, p.1.now) ∷ merged merge.new) }
@@ -125,7 +125,7 @@ pub(crate) fn next_pair<'a>(merge: &mut Merge<'a>) -> Option<(&'a [u8], &'a Valu
     }
 }
 
-// The place after the key, of pairs from this place on; none where the first of these stands before the key.
+// The place after `key` among the pairs from place `at` on, or `None` if the first of them is below `key`.
 fn past(base: &Base<Value<Global>, Global>, at: usize, key: &KeyRef<'_>) -> Option<usize>
     ensures { MatchOption result (first_order (drop at base.now) key.now ≡ Less)
         (λ next. StartsFrom key.now (drop at base.now)

@@ -9,7 +9,7 @@ use keys::Value;
 use page_search::{Probes, find_lent};
 use std::alloc::Global;
 
-/// The value that a leaf has at a key, if it has one, lent out of the leaf. It takes no memory.
+/// Returns the value that a leaf has at `key`, if it has one, borrowed from the leaf. Does not allocate.
 pub fn value_in<'a>(
     chain: &'a Chain<Value<Global>, Global>,
     key: &[u8],

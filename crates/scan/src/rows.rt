@@ -20,19 +20,19 @@ use mapping::Tree;
 use std::alloc::Global;
 use std::marker::Model;
 
-/// The rows of a range of keys, in key order: of each the key and the value, lent out of the tree's pages. It takes no
-/// memory, and keeps none of the bounds that it was made of. Contracts see it as the list of the rows that are left.
+/// An iterator over the rows of a range of keys in key order, as keys and values borrowed from the tree's pages. Does
+/// not allocate, and does not borrow the bounds. Contracts see it as the list of the remaining rows.
 #[derive(Drop)]
 pub struct Rows<'a> {
     alloc: Global,
     leaf: LeafPairs<'a>,
     leaves: Leaves<'a>,
     end: End<'a>,
-    // How many rows there may still be, where that is limited.
+    // How many rows may still come, if there is a limit.
     left: Option<u32>,
 }
 
-// Where the rows end. The bytes are the tree's own.
+// Where the rows end. The bytes are borrowed from the tree.
 #[derive(Clone, Copy)]
 enum End<'a> {
     Open,
@@ -52,9 +52,9 @@ impl<'a> Model for Rows<'a> {
 }
 
 impl<'a> Rows<'a> {
-    /// The first `limit` pairs of the tree whose keys are `lo` or above, and below `hi` where it is given. The tree is a proper one of at
-    /// most 64 levels, and no page of it is away. Where `hi` is given, it costs one way down more, up to the first key from there on: over
-    /// all leaves that deletes have emptied there.
+    /// Returns the first `limit` pairs of the tree whose keys are at or above `lo` and below `hi` (if given). The tree
+    /// must be proper, with at most 64 levels and no page checked out. With `hi`, takes a second descent, to the first
+    /// key at or above `hi`, past all leaves there that deletes have emptied.
     pub fn new(
         alloc: Global,
         tree: &'a Tree<Global>,
@@ -80,7 +80,7 @@ impl<'a> Rows<'a> {
         }
     }
 
-    /// The pairs of the tree whose keys begin with these bytes. The tree is as for `new`. It costs two ways down.
+    /// Returns the pairs of the tree whose keys begin with `prefix`. The tree must be as for `new`. Takes two descents.
     pub fn with_prefix(alloc: Global, tree: &'a Tree<Global>, prefix: &[u8]) -> Self
         requires home { AreAllHome tree.now }
         requires height { tree.now.height ≤ most_levels }
@@ -124,7 +124,7 @@ impl<'a> Iterator for Rows<'a> {
     }
 }
 
-// The limit after one more row, or none where there may be no more rows.
+// The limit after one more row, or `None` if no more rows may come.
 #[inline]
 #[tactic(auto, using(crate::proofs::RowLemmas::goes_on_none, crate::proofs::RowLemmas::goes_on_some))]
 fn one_less(left: Option<u32>) -> Option<Option<u32>>
@@ -142,7 +142,6 @@ fn one_less(left: Option<u32>) -> Option<Option<u32>>
     }
 }
 
-// Whether the key is before the end.
 #[inline]
 fn is_before_end(end: &End<'_>, key: &[u8]) -> bool
     ensures { result ≡ is_inside end.now key.now }
@@ -154,7 +153,7 @@ fn is_before_end(end: &End<'_>, key: &[u8]) -> bool
     }
 }
 
-// The end of rows before this key. The tree's first key from there on stands for it, since it lives as long as the rows.
+// The end of the rows below `hi`: the tree's first key at or above `hi`, which outlives the bounds.
 fn end_at<'a>(alloc: Global, tree: &'a Tree<Global>, hi: Option<&[u8]>) -> End<'a>
     requires home { AreAllHome tree.now }
     requires height { tree.now.height ≤ most_levels }
@@ -172,7 +171,7 @@ fn end_at<'a>(alloc: Global, tree: &'a Tree<Global>, hi: Option<&[u8]>) -> End<'
     }
 }
 
-// The end of the rows with this prefix, and their limit, which is 0 where no key begins with it.
+// The end of the rows with this prefix, and their limit, which is 0 if no key begins with it.
 fn prefix_end<'a>(alloc: Global, tree: &'a Tree<Global>, prefix: &[u8]) -> (End<'a>, Option<u32>)
     requires home { AreAllHome tree.now }
     requires height { tree.now.height ≤ most_levels }
@@ -188,7 +187,7 @@ fn prefix_end<'a>(alloc: Global, tree: &'a Tree<Global>, prefix: &[u8]) -> (End<
     }
 }
 
-// The prefix as a part of the first key that begins with it, or none where no key does.
+// The prefix as a part of the first key that begins with it, or `None` if no key does.
 fn prefix_of_first<'a>(alloc: Global, tree: &'a Tree<Global>, prefix: &[u8]) -> Option<&'a [u8]>
     requires home { AreAllHome tree.now }
     requires height { tree.now.height ≤ most_levels }
@@ -201,7 +200,7 @@ fn prefix_of_first<'a>(alloc: Global, tree: &'a Tree<Global>, prefix: &[u8]) -> 
     beginning(key, prefix)
 }
 
-// The prefix as a part of the key, or none where the key doesn't begin with it.
+// The prefix as a part of `key`, or `None` if `key` doesn't begin with it.
 fn beginning<'a>(key: &'a [u8], prefix: &[u8]) -> Option<&'a [u8]>
     ensures { MatchOption result (begins_with prefix.now key.now ≡ false)
         (λ own. own.now ≡ prefix.now) }
@@ -213,7 +212,6 @@ fn beginning<'a>(key: &'a [u8], prefix: &[u8]) -> Option<&'a [u8]>
     }
 }
 
-// The first pair from the key on.
 pub(crate) fn first_from<'a>(
     alloc: Global,
     tree: &'a Tree<Global>,
@@ -230,7 +228,6 @@ pub(crate) fn first_from<'a>(
     next_pair(alloc, &mut leaf, &mut leaves)
 }
 
-// A walk over the pairs from the key on.
 fn walk_from<'a>(alloc: Global, tree: &'a Tree<Global>, key: &[u8]) -> (LeafPairs<'a>, Leaves<'a>)
     requires home { AreAllHome tree.now }
     requires height { tree.now.height ≤ most_levels }

@@ -11,7 +11,7 @@ use page_search::{Probes, above, find, floor};
 use std::alloc::Global;
 use std::marker::Model;
 
-/// A walk over a leaf that searches from key to key. Contracts see it as the list of the pairs that are left.
+/// An iterator over a leaf that searches for each next key. Contracts see it as the list of the remaining pairs.
 #[derive(Drop)]
 pub(crate) struct Search<'a> {
     chain: &'a Chain<Value<Global>, Global>,
@@ -31,7 +31,6 @@ impl<'a> Model for Search<'a> {
 }
 
 impl<'a> Search<'a> {
-    // The leaf's pairs from the key on.
     pub(crate) fn new(chain: &'a Chain<Value<Global>, Global>, key: &[u8]) -> Self
         ensures { result ≡ from key.now (entries_of chain.now) }
     {
@@ -67,7 +66,6 @@ impl<'a> Iterator for Search<'a> {
     }
 }
 
-// The first pair after the key: with it those after the key begin.
 fn next_after<'a>(
     chain: &'a Chain<Value<Global>, Global>,
     key: &[u8],

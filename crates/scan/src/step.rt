@@ -1,4 +1,4 @@
-//! Iterates over the children of one index page: a step of a path down the tree.
+//! Iterates over the children of one index page: one level of a path.
 ghost use Rattle.std.specs.Prelude.{◌≡◌, ◌∷◌, [], drop, MatchOption};
 ghost use Rattle.std.specs.Map.{values_of};
 ghost use Rattle.index_page.specs.Children.{children_within};
@@ -9,11 +9,11 @@ use page_search::{Probes, place};
 use std::alloc::Global;
 use std::marker::Model;
 
-/// The children of one index page that are still to come: a step of a path down the tree. Contracts see it as their page
-/// ids, in order. The default has none.
+/// The remaining children of one index page: one level of a path. Contracts see it as their page ids, in order. The
+/// default is empty.
 #[derive(Default, Drop)]
 pub(crate) struct PathStep<'a> {
-    // The page's children, and the place of the next.
+    // The page's children, and the place of the next one.
     children: Option<(&'a Base<Pid, Global>, usize)>,
 }
 
@@ -28,7 +28,7 @@ impl<'a> Model for PathStep<'a> {
 }
 
 impl<'a> PathStep<'a> {
-    // The step that the children from the one for the key on are, of a page with these children.
+    // The children from the one for `key` on.
     pub(crate) fn new(list: &'a Base<Pid, Global>, key: &[u8]) -> Self
         ensures { result ≡ values_of (children_within key.now None list.now) }
     {
@@ -37,7 +37,6 @@ impl<'a> PathStep<'a> {
         }
     }
 
-    // The next child, which is none of those to come afterwards.
     pub(crate) fn next(&mut self) -> Option<Pid>
         ensures { MatchOption result ((self.old ≡ []) × (self.new ≡ []))
             (λ pid. self.old ≡ pid ∷ self.new) }
@@ -52,7 +51,8 @@ impl<'a> PathStep<'a> {
     }
 }
 
-// The place of the child in whose range the key is: the last one whose low key isn't above it, and the first where there is none.
+// The place of the child whose range contains `key`: the last one whose low key isn't above `key`, or the first if
+// there is none.
 fn child_place(list: &Base<Pid, Global>, key: &[u8]) -> usize
     ensures { drop result list.now ≡ children_within key.now None list.now }
 {

@@ -1,4 +1,4 @@
-//! What the commands before a place of a batch take away.
+//! What the commands before a place of a batch delete.
 ghost use Rattle.std.specs.Prelude.{◌≡◌, true, List, [], ◌∷◌, ◌++◌, ◌-◌, ◌^◌, ◌<◌, ◌≤◌, length, Contains, Option, IfOk, IfSome, option_copied};
 ghost use Rattle.keys.specs.Bytes.{Bytes};
 ghost use Rattle.keys.specs.Range.{is_below};
@@ -11,8 +11,8 @@ use keys::{Command, Key, KeyRef, is_before};
 use std::alloc::{AllocError, Global};
 use std::marker::Model;
 
-/// What the commands before a place take away: how often a key was deleted, and where ranges were wiped. Contracts see it as
-/// the three tallies of the keys that were deleted, of the wiped ranges' lower bounds, and of their upper bounds.
+/// What the commands before a place delete: single keys, and ranges that are wiped. Contracts see it as three tallies:
+/// of the deleted keys, of the lower bounds of the wiped ranges, and of their upper bounds.
 #[derive(Drop)]
 pub(crate) struct Taken<'c> {
     deleted: Tally<'c>,
@@ -28,8 +28,8 @@ impl<'c> Model for Taken<'c> {
     ghost view = { λ t. (t.deleted, t.wiped_from, t.wiped_to) };
 }
 
-/// What is taken away below a key: how many keys were deleted, how many ranges that were wiped begin there, and how many end
-/// there, or at the key.
+/// What is deleted below a key: how many keys are deleted, how many wiped ranges begin there, and how many end there or
+/// at the key.
 #[derive(Drop)]
 pub(crate) struct TakenBelow {
     deleted: usize,
@@ -38,7 +38,7 @@ pub(crate) struct TakenBelow {
 }
 
 impl<'c> Taken<'c> {
-    /// Nothing yet, before all these commands.
+    /// Nothing, before the first of these commands.
     pub(crate) fn before_all(
         alloc: Global,
         commands: &'c [Command<Global>],
@@ -56,7 +56,7 @@ impl<'c> Taken<'c> {
         })
     }
 
-    /// What the command, which is one of those, takes away comes to it.
+    /// Records what `command`, one of those commands, deletes.
     pub(crate) fn note(&mut self, command: &Command<Global>)
         ensures keys { HasKeysOf self.old self.new }
         ensures taken { (gone : ends.Taken) → IsTaken gone self.old
@@ -71,7 +71,7 @@ impl<'c> Taken<'c> {
         }
     }
 
-    // Notes the bounds of a range, where it isn't empty.
+    // Records the bounds of a range if it isn't empty.
     fn note_range(&mut self, lo: &Key<Global>, hi: Option<&Key<Global>>)
         ensures keys { HasKeysOf self.old self.new }
         ensures deleted { self.new.0 ≡ self.old.0 }
@@ -92,7 +92,6 @@ impl<'c> Taken<'c> {
         }
     }
 
-    /// What is taken away below the key.
     pub(crate) fn below(&self, key: &[u8]) -> TakenBelow
         ensures { (gone : ends.Taken) → IsTaken gone self.now → IsTakenBelow gone key.now result }
     {
@@ -106,8 +105,8 @@ impl<'c> Taken<'c> {
 }
 
 impl TakenBelow {
-    /// How many keys were deleted, at the most, from the key of this one on and below the key of the other. There is no answer
-    /// where a range was wiped that may have keys between the two.
+    /// The most keys that are deleted at or above this key and below the key of `end`, or `None` if a wiped range may
+    /// have keys between the two.
     pub(crate) fn most_until(&self, end: &TakenBelow) -> Option<usize>
         ensures { (gone : ends.Taken) (low high : Bytes) → is_below low high ≡ true
             → IsTakenBelow gone low self.now → IsTakenBelow gone high end.now
@@ -121,7 +120,6 @@ impl TakenBelow {
     }
 }
 
-// The keys that the commands delete, each as often as a command deletes it.
 fn deleted_keys<'c>(
     alloc: Global,
     commands: &'c [Command<Global>],
@@ -137,7 +135,6 @@ fn deleted_keys<'c>(
     Ok(keys)
 }
 
-// The lower bounds of the ranges that the commands wipe.
 fn lower_bounds<'c>(
     alloc: Global,
     commands: &'c [Command<Global>],
@@ -153,7 +150,6 @@ fn lower_bounds<'c>(
     Ok(keys)
 }
 
-// The upper bounds of those that have one.
 fn upper_bounds<'c>(
     alloc: Global,
     commands: &'c [Command<Global>],

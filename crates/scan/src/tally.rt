@@ -1,4 +1,4 @@
-//! Counting keys that come one by one.
+//! Counts keys that are recorded one by one.
 ghost use Rattle.std.specs.Prelude.{◌≡◌, [], ◌∷◌, ◌++◌, List, ℕ, ◌-◌, ◌^◌, ◌<◌, ◌≤◌, not, length, Contains, IfOk};
 ghost use Rattle.std.specs.List.Sorted.{IsPermutation, IsSorted};
 ghost use Rattle.keys.specs.Bytes.{Bytes};
@@ -11,9 +11,9 @@ use keys::KeyRef;
 use std::alloc::{AllocError, Global};
 use std::marker::Model;
 
-/// How many of the keys that came so far are below a key. All that may come are known before, and stand in order, so each has
-/// a place, and what comes is noted there. To note one and to count those below one each cost a search by halves. Contracts
-/// see it as the keys that may come, and what is noted of their places.
+/// Counts how many of the keys recorded so far are below a key. All keys that may be recorded are known in advance and
+/// sorted, so each has a place. Recording a key and counting the smaller ones take one binary search each. Contracts
+/// see it as the known keys and the counters of their places.
 #[derive(Drop)]
 pub(crate) struct Tally<'c> {
     keys: Vec<KeyRef<'c>>,
@@ -29,7 +29,7 @@ impl<'c> Model for Tally<'c> {
 }
 
 impl<'c> Tally<'c> {
-    /// Of these keys none has come.
+    /// A tally in which no key is recorded.
     pub(crate) fn new(alloc: Global, keys: Vec<KeyRef<'c>>) -> Result<Self, AllocError>
         ensures none { IfOk result (λ t. IsTally [] t) }
         ensures same { IfOk result (λ t. IsPermutation keys.entry.items t.0) }
@@ -40,7 +40,7 @@ impl<'c> Tally<'c> {
         Ok(Tally { keys, levels })
     }
 
-    /// Another one has come, which is one of the keys.
+    /// Records `key`, which must be one of the known keys.
     pub(crate) fn note(&mut self, key: &[u8])
         ensures keys { self.new.0 ≡ self.old.0 }
         ensures came { (came : List Bytes) → IsTally came self.old → Contains self.old.0 key.now
@@ -50,7 +50,6 @@ impl<'c> Tally<'c> {
         note_on(&mut self.levels, place);
     }
 
-    /// How many of those that came are below the key.
     pub(crate) fn below(&self, key: &KeyRef<'_>) -> usize
         ensures { (came : List Bytes) → IsTally came self.now → length came ≤ 2 ^ 64 - 1
             → result ≡ below key.now came }
@@ -58,7 +57,6 @@ impl<'c> Tally<'c> {
         count_before(&self.levels, place_below(&self.keys, key))
     }
 
-    /// How many of those that came are not above the key.
     pub(crate) fn up_to(&self, key: &KeyRef<'_>) -> usize
         ensures { (came : List Bytes) → IsTally came self.now → length came ≤ 2 ^ 64 - 1
             → result ≡ up_to key.now came }
@@ -67,7 +65,6 @@ impl<'c> Tally<'c> {
     }
 }
 
-// How many of the keys are below this one.
 fn place_below(keys: &[KeyRef<'_>], key: &KeyRef<'_>) -> usize
     ensures { IsSorted order keys.now → result ≡ below key.now keys.now }
 {
@@ -78,7 +75,6 @@ fn place_below(keys: &[KeyRef<'_>], key: &KeyRef<'_>) -> usize
     )
 }
 
-// How many of the keys are not above this one.
 fn place_after(keys: &[KeyRef<'_>], key: &KeyRef<'_>) -> usize
     ensures { IsSorted order keys.now → result ≡ up_to key.now keys.now }
 {

@@ -1,4 +1,4 @@
--- What was made of a group may cross threads: its members are lent, and its pieces are pages.
+-- The output for a group may cross threads: its members are borrowed, and its new pages are owned.
 use denote.Ref.{NamedLft}
 use denote.Builtin.{One}
 use denote.RattleType.{RattleType}

@@ -1,4 +1,4 @@
--- Lemmas on the pieces that entries are cut into, for the proofs of this crate and of those above it.
+-- Lemmas on the pieces of a split, for the proofs of this crate and of those above it.
 use Rattle.std.specs.Prelude.{◌≡◌, ℕ, zero, suc, ◌+◌, ◌-◌, ◌*◌, ◌/◌, ◌<◌, ◌≤◌, List, [], ◌∷◌, ◌++◌, take, drop, length, slice_range}
 use Rattle.std.proofs.Common.{refl, sym, ap, ◌∙◌, arith, length-drop, length-take, take-append-drop, drop-drop, drop_of_length-le, div-mul-le_self, le-div_iff_mul-le, div-lt_iff_lt-mul}
 use Rattle.std.proofs.Math.Nat.{div-le_of_le-mul, mul-le-mul_right}
@@ -28,7 +28,7 @@ ends_within n p i h = div-le_of_le-mul p (mul-le-mul_right n h)
 sum_by : (a l p m n : ℕ) → a * p ≤ m → l * p ≤ n → (a + l) * p ≤ m + n
 sum_by a l p m n h k = omega arith
 
--- where each piece could have l entries, the end is at least l greater than the beginning
+-- if each piece could have l entries, the end is at least l greater than the beginning
 at_least : (n p i l : ℕ) → 0 < p → l * p ≤ n → i * n / p + l ≤ suc i * n / p
 at_least n p i l h k =
     let e : suc i * n ≡ i * n + n = omega arith in
@@ -38,7 +38,7 @@ at_least n p i l h k =
 most_by : (a p m n fan : ℕ) → m < suc a * p → n ≤ p * fan → m + n < suc (a + fan) * p
 most_by a p m n fan h k = omega arith
 
--- where p pieces of this size take all entries, the end is greater by at most that size
+-- if p pieces of this size take all entries, the end is greater by at most that size
 at_most : (n p i fan : ℕ) → 0 < p → n ≤ p * fan → suc i * n / p ≤ i * n / p + fan
 at_most n p i fan h k =
     let a : ℕ = i * n / p in

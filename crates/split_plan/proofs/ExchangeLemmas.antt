@@ -1,4 +1,4 @@
--- Lemmas on names that go and names that come, for the proofs of this crate and of those above it.
+-- Lemmas on removed and new entries of a parent, for the proofs of this crate and of those above it.
 use Rattle.std.specs.Prelude.{◌≡◌, ℕ, zero, Bool, true, false, cond, List, [], ◌∷◌, ◌++◌, map, Option, Some, None}
 use Rattle.std.proofs.Common.{option_map, refl, sym, ap, ◌∙◌, Less}
 use Rattle.std.specs.Ordering.{is_eq}

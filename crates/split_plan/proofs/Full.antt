@@ -1,4 +1,4 @@
--- Lists where none is empty.
+-- Lists of nonempty lists.
 use Rattle.std.specs.Prelude.{◌<◌, List, length}
 use Rattle.std.specs.List.{AllByRecursion}
 

@@ -86,7 +86,7 @@ module _ {X : Type 0} (is_thin : X → Bool) where
   one_by xs (x ∷ lead) [] l a n h = absurd (let z = n refl in omega arith)
   one_by xs (x ∷ lead) (g ∷ gs) l a n h = (count_kept-append (x ∷ lead) g ∙ (let one = a.0 in omega arith), a.1)
 
-  -- where some child isn't thin, each group has just one that isn't
+  -- if some child isn't thin, each group has exactly one that isn't
   pub one_in_each_group : (xs : List X) → 0 < count_kept is_thin xs → AllByRecursion (λ h. count_kept is_thin h ≡ 1) (groups is_thin xs)
   one_in_each_group xs h =
       let g = is_gathered xs in
@@ -112,7 +112,7 @@ module _ {X : Type 0} (is_thin : X → Bool) where
   all_thin_by [] [] xs e j h = absurd (let z : [] ≡ xs = j in let n : 0 ≡ length xs = ap (λ (ys : List X). length ys) z in omega arith)
   all_thin_by (x ∷ lead) [] xs e j h = ap (λ (ys : List X). ys ∷ []) (sym (append-nil (x ∷ lead)) ∙ j)
 
-  -- where all children are thin, they are one group
+  -- if all children are thin, they are one group
   pub all_thin_are_one_group : (xs : List X) → count_kept is_thin xs ≡ 0 → 0 < length xs → groups is_thin xs ≡ xs ∷ []
   all_thin_are_one_group xs z h =
       let g = is_gathered xs in

@@ -8,7 +8,7 @@ use Rattle.page_runs.specs.Worked.{Worked, is_thin, is_thin_class}
 use Rattle.split_plan.specs.Groups.{Gathered, with_child, gathered, with_leading, groups, cut_by}
 use Rattle.split_plan.proofs.GroupLemmas.{groups-joined}
 
--- sizes of groups, where the first has this many members more; these are one group where there is none
+-- sizes of groups, if the first has this many members more; these are one group where there is none
 abbrev pub more_in_first : ℕ → List ℕ → List ℕ
 more_in_first zero sizes = sizes
 more_in_first (suc n) [] = suc n ∷ []
@@ -23,7 +23,7 @@ abbrev pub members_with : Bool → ℕ → ℕ
 members_with true members = 1
 members_with false members = suc members
 
--- the sizes that are still to come, where a group has this many members so far; it has begun where one of them isn't thin
+-- the sizes that are still to come, if a group has this many members so far; it has begun where one of them isn't thin
 abbrev pub sizes_from : {X : Type 0} → (X → Bool) → ℕ → Bool → List X → List ℕ
 sizes_from is_thin members has_begun [] = more_in_first members []
 sizes_from is_thin members has_begun (x ∷ xs) =

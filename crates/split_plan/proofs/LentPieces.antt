@@ -1,4 +1,4 @@
--- Entries that are lent, and the pages that pieces of them become, for the proofs of the code that cuts.
+-- Borrowed entries, and the pages that are made of pieces of them, for the proofs of the code that splits.
 use Rattle.std.specs.Prelude.{◌≡◌, ℕ, zero, suc, ◌+◌, ◌-◌, ◌*◌, ◌/◌, ◌<◌, ◌≤◌, List, [], ◌∷◌, ◌++◌, map, take, drop, length, slice_get, get_or, Some, slice_range}
 use Rattle.std.proofs.Common.{refl, sym, ap, ◌∙◌, arith, add-one, append_assoc, append-nil, drop_of_length-le}
 use Rattle.std.specs.Borrow.{Bor}
@@ -98,7 +98,7 @@ module _ {V : Type 0} where
         let u : done ++ map made (pages_at low es p i (suc (p - suc i))) ≡ all = ap (λ (more : ℕ). done ++ map made (pages_at low es p i more)) (sym m) ∙ t in
         append_assoc done (made (bare k b) ∷ []) (map made (pages_at low es p (i + 1) (p - (i + 1)))) ∙ rw (j, h, n) u
 
--- ---- pages that are lent
+-- ---- borrowed pages
 
 -- all of them are of a kind, and the one at a place too
 pub kind_at : (P : PageOfKind → Type 0) (lent : List (Bor InMemory)) (at : ℕ) (page : Bor InMemory) → AllByRecursion P (pages_lent lent) → at < length lent → page ≡ get_or lent at page → P (page_shown page.now)

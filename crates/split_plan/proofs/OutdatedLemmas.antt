@@ -74,7 +74,7 @@ true_right : (a b : Bool) → b ≡ true → (a || b) ≡ true
 true_right a b h = ap (λ (x : Bool). a || x) h ∙ or_true_right a
 
 module _ {V : Type 0} where
-  -- of one change: the members that were replaced, and all where the group is rewritten
+  -- for one change: the members that were replaced, and all members if the group is rewritten
   pub outdated_members : (c : Change V) (pid : ℕ) → (is_among pid (outdated c) ≡ true) ↔ IsOutdatedIn c.members pid
   outdated_members c pid =
       let rewritten : Bool = is_rewritten c.members in

@@ -1,4 +1,4 @@
--- Terms, taken from the fronts of the names of freed members and of new pieces.
+-- Terms, taken from the fronts of the lists of freed and of new entries.
 use Rattle.std.specs.Prelude.{◌≡◌, ℕ, List, [], ◌∷◌, drop, Option, Some, None}
 use Rattle.std.proofs.Common.{refl, sym, ap, ◌∙◌, arith, length, Less, Equal, Greater}
 use Rattle.std.specs.List.Sorted.{IsStrictlySortedBy}
@@ -71,7 +71,7 @@ fresh_replaces (f ∷ fs) (c ∷ cs) ms m r e h = let s : c ≡ m = cc in let t 
 pub front_is : (ns rest : Names) (n m : List ℕ × ℕ) → n ≡ m → ns ≡ m ∷ rest → ns ≡ n ∷ rest
 front_is ns rest n m e h = rw e h
 
--- what is left of names that rise rises
+-- the rest of rising entries rises
 pub rising_left : (ns : Names) → IsRising ns → IsRising (drop 1 ns)
 rising_left [] r = r
 rising_left (n ∷ ns) r = rising_rest n ns r

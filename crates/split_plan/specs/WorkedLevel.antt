@@ -1,4 +1,4 @@
--- What runs make of the pages of a level.
+-- The pages of a level after runs.
 use Rattle.std.specs.Prelude.{not, List, [], ◌∷◌, map}
 use Rattle.std.specs.List.{filter}
 use Rattle.keys.specs.Bytes.{Bytes, Pairs, Changes}
@@ -14,8 +14,8 @@ part_below k run = filter (λ c. is_below c.0 k) run
 abbrev pub part_from : {X : Type 0} → Bytes → Pairs X → Pairs X
 part_from k run = filter (λ c. not (is_below c.0 k)) run
 
--- the pages of a level, each after its part of a run: what is below the next page's low key, and for each page but the
--- first not below its own
+-- the pages of a level, each after its part of a run: the changes below the next page's low key, and for each page except the first those not below
+-- its own
 abbrev pub worked_leaves : {V : Type 0} → Settings → Changes V → List (Placed V) → List (Worked V)
 worked_leaves s run [] = []
 worked_leaves s run (p ∷ []) = worked s p run ∷ []

@@ -1,4 +1,4 @@
-//! Entries that are lent by pages, and the new pages of nearly the same length that they are cut into.
+//! Joins the entries of pages and splits them into new pages of nearly the same length.
 ghost use Rattle.std.specs.Prelude.{◌≡◌, ◌<◌, ◌≤◌, ◌*◌, ◌/◌, ◌++◌, map, length, IfOk, OnOk};
 ghost use Rattle.std.specs.List.{AllByRecursion};
 ghost use Rattle.keys.specs.Order.{IsRising};
@@ -13,7 +13,7 @@ use index_page::{Page, PageInMemory};
 use keys::Key;
 use std::alloc::{AllocError, Global};
 
-/// The entries of these pages of one kind, lent, from the first page to the last.
+/// The entries of these pages of one kind, borrowed, from the first page to the last.
 pub(crate) fn joined<'a, V: Kind>(
     alloc: Global,
     members: &[&'a PageInMemory<Global>],
@@ -30,7 +30,6 @@ pub(crate) fn joined<'a, V: Kind>(
     Ok(entries)
 }
 
-// Appends the pairs.
 fn push_pairs<'a, V>(
     entries: &mut Vec<(&'a [u8], &'a V)>,
     pairs: &Pairs<'a, V, Global>,
@@ -45,7 +44,7 @@ fn push_pairs<'a, V>(
     Ok(())
 }
 
-/// The pages that these entries are cut into: the first has this low key, each other its own first key.
+/// Splits the entries into pages: the first one gets the low key `low`, each other one its own first key.
 pub(crate) fn cut_pages<'a, V: Kind>(
     alloc: Global,
     fan: u32,
@@ -66,7 +65,6 @@ pub(crate) fn cut_pages<'a, V: Kind>(
     Ok(pages)
 }
 
-// How many pieces `entries` entries are cut into.
 fn piece_count(fan: u32, entries: usize) -> usize
     requires { 0 < fan }
     ensures { result ≡ piece_count fan entries }
@@ -74,7 +72,7 @@ fn piece_count(fan: u32, entries: usize) -> usize
     entries.div_ceil(fan as usize).max(1)
 }
 
-// Where the piece at this place begins; the one after the last, where the entries end.
+// The place of the first entry of piece `at`; for `at == pieces`, the number of entries.
 fn begin(at: usize, entries: usize, pieces: usize) -> usize
     requires some { 0 < pieces }
     requires within { at ≤ pieces }
@@ -85,14 +83,14 @@ fn begin(at: usize, entries: usize, pieces: usize) -> usize
     (at as u128 * entries as u128 / pieces as u128) as usize
 }
 
-// The low key of the piece at this place: this one for the first, and else its own first key.
+// The low key of piece `at`: `low` for the first one, else its own first key.
 fn low_at<'a, V>(low: &'a [u8], at: usize, piece: &[(&'a [u8], &'a V)]) -> &'a [u8]
     ensures { result.now ≡ low_at low.now at (pairs_lent piece.now) }
 {
     if at == 0 { low } else { first_key(piece) }
 }
 
-/// The first key, and the empty key where there is none.
+/// The first key, or the empty key if there are no entries.
 pub(crate) fn first_key<'a, V>(entries: &[(&'a [u8], &'a V)]) -> &'a [u8]
     ensures { result.now ≡ first_key (pairs_lent entries.now) }
 {
@@ -102,7 +100,7 @@ pub(crate) fn first_key<'a, V>(entries: &[(&'a [u8], &'a V)]) -> &'a [u8]
     }
 }
 
-// The page with this low key whose base has copies of the entries.
+// A page with this low key and a base of copies of the entries.
 fn bare_page<V: Kind>(
     alloc: Global,
     low: &[u8],

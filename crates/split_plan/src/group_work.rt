@@ -1,4 +1,4 @@
-//! The work on a group of pages: joins their entries and cuts them into new pages.
+//! Rewrites groups of pages: joins their entries and splits them into new pages.
 ghost use Rattle.std.specs.Prelude.{◌≡◌, ◌<◌, map, IfOk};
 ghost use Rattle.std.specs.List.{AllByRecursion};
 ghost use Rattle.keys.specs.Order.{IsRising};
@@ -16,15 +16,15 @@ use keys::{Pid, Settings, Value};
 use std::alloc::{AllocError, Global};
 use std::marker::{Model, PhantomData};
 
-/// The work on a group of pages that is rewritten: the members, which are lent, go in; the pages that their entries,
-/// joined and cut, are put into come out.
+/// The work on groups of pages that are rewritten. The input is the borrowed members of a group; the output is the
+/// pages that their entries are split into.
 #[derive(Drop)]
 pub struct GroupWork<'a> {
-    /// Where the new pages are allocated.
+    /// Allocates the new pages.
     pub alloc: Global,
-    /// The store's settings; `fan` is read.
+    /// The store's settings; only `fan` is read.
     pub settings: Settings,
-    // The members of its jobs are lent.
+    // The members of its jobs are borrowed.
     lent: PhantomData<&'a PageInMemory<Global>>,
 }
 
@@ -34,8 +34,8 @@ pub struct GroupJob<'a> {
     pub members: Vec<&'a PageInMemory<Global>>,
 }
 
-/// The pages that were made of a group, with its members, which give the job back. Contracts see it as what the members
-/// are and what was made of them.
+/// The new pages of a group, with its members, which are needed to undo the work. Contracts see it as the members and
+/// the new pages.
 #[derive(Drop)]
 pub struct GroupDone<'a> {
     members: Vec<&'a PageInMemory<Global>>,
@@ -43,7 +43,7 @@ pub struct GroupDone<'a> {
 }
 
 impl<'a> GroupWork<'a> {
-    /// The work with these settings.
+    /// Makes the work for these settings.
     pub fn new(alloc: Global, settings: Settings) -> Self
         ensures { result.settings ≡ settings }
     {
@@ -64,7 +64,7 @@ impl<'a> Model for GroupDone<'a> {
 }
 
 impl<'a> GroupDone<'a> {
-    /// The pages that were made, for good: the job cannot be given back any more.
+    /// Returns the new pages. The work can no longer be undone.
     pub fn into_pieces(self) -> Vec<Page<Global>>
         ensures { result.items ≡ self.entry.made }
     {
@@ -116,7 +116,7 @@ impl<'a> Work for GroupWork<'a> {
     }
 }
 
-// The pages that are made of the members.
+// The pages that replace the members.
 fn remade<'a>(
     alloc: Global,
     settings: &Settings,
@@ -136,7 +136,7 @@ fn remade<'a>(
     }
 }
 
-// The same of members of one kind.
+// `remade` of members of one kind.
 fn remade_as<'a, V: Kind + 'a>(
     alloc: Global,
     settings: &Settings,
@@ -155,7 +155,7 @@ fn remade_as<'a, V: Kind + 'a>(
     cut_pages::<V>(alloc, settings.fan, first.low(), &entries)
 }
 
-/// The index pages that these names of children are cut into, each with its first child's low key as its own.
+/// Splits the list of children `names` into index pages. The low key of each page is that of its first child.
 pub fn index_pages(
     alloc: Global,
     settings: &Settings,

@@ -1,4 +1,4 @@
-//! Which children of one parent are taken together.
+//! Which children of one parent are merged with each other.
 ghost use Rattle.std.specs.Prelude.{◌≡◌, ◌≤◌, map, length, IfOk, IsOk};
 ghost use Rattle.page_runs.specs.Worked.{is_thin_class};
 ghost use Rattle.split_plan.specs.Groups.{groups};
@@ -7,9 +7,9 @@ use page_runs::Class;
 use smallvec::SmallVec;
 use std::alloc::{AllocError, Global};
 
-/// How many members each group of the children of one parent has, in order, by the children's classes: each child that
-/// isn't thin begins a group, a thin one joins the group on its left, and leading thin ones join the first group.
-/// `AllocError` comes only where memory is refused, for more than the 32 groups that are held inline.
+/// Returns the number of members of each group of one parent's children, in order. `classes` are the classes of the
+/// children: each child that isn't thin begins a group, a thin one joins the group on its left, and leading thin ones
+/// join the first group. Up to 32 groups need no allocation; `Err` means that allocation failed.
 pub fn groups(alloc: Global, classes: &[Class]) -> Result<SmallVec<usize, 32>, AllocError>
     ensures sizes { IfOk result
         (λ sizes. sizes.items ≡ map length (groups is_thin_class classes.now)) }

@@ -1,4 +1,4 @@
-//! The two kinds of pages, by their cells.
+//! The two kinds of pages, distinguished by their cells.
 ghost use Rattle.std.specs.Prelude.{◌≡◌};
 ghost use Rattle.delta_chain.specs.Layers.{entries_of};
 ghost use Rattle.index_page.specs.InMemory.{page_shown};
@@ -9,7 +9,7 @@ use index_page::{Page, PageInMemory};
 use keys::{Cell, Key, Pid, Value};
 use std::alloc::Global;
 
-/// A kind of page, by the cells that its pages have: values for leaves, page ids for index pages.
+/// A kind of page, by the cells of its pages: values for leaves, page ids for index pages.
 pub(crate) trait Kind: Cell<Global> + Drop {
     ghost use Rattle.std.specs.Prelude.{List, ℕ};
     ghost use Rattle.index_page.specs.Page.{Page as PageOf, PageOfKind, low_of};
@@ -17,21 +17,21 @@ pub(crate) trait Kind: Cell<Global> + Drop {
     // Which pages are of this kind.
     ghost is_of: { PageOfKind → Type 0 };
 
-    // The page that one of this kind is, and the page of this kind that it is made into.
+    // A page of this kind as a page with its cells, and back.
     ghost taken: { PageOfKind → PageOf Self };
 
     ghost made: { PageOf Self → PageOfKind };
 
-    /// The chain in memory of a page of this kind, which has the page's entries.
+    /// The chain in memory of a page of this kind. It has the page's entries.
     fn chain(page: &PageInMemory<Global>) -> &Chain<Self, Global>
         requires { is_of (page_shown page.now) }
         ensures { entries_of result.now ≡ entries (taken (page_shown page.now)) };
 
-    /// The page of this low key and this base.
+    /// The page with this low key and this base.
     fn page(low: Key<Global>, base: Base<Self, Global>) -> Page<Global>
         ensures { result ≡ made (bare low base) };
 
-    // It has its low key, taken as one of any kind.
+    // Viewing a page as one of this kind retains its low key.
     ghost keeps_low: { (p : PageOfKind) → (taken p).low ≡ low_of p };
 }
 

@@ -1,4 +1,4 @@
-//! What the definitions of `specs/` mean. Each law is the contract of a function with an empty body.
+//! Laws about the definitions of `specs/`. Each law is the contract of a function with an empty body.
 ghost use Rattle.std.specs.Prelude.{◌≡◌, ◌<◌, ◌/◌, ℕ, ◌⊎◌, ◌↔◌, Bool, true, false, List, [], ◌∷◌, Option, Some, None, length, drop, map, flat_map};
 ghost use Rattle.std.specs.List.{AllByRecursion, Any};
 ghost use Rattle.keys.specs.Bytes.{Bytes, Changes};
@@ -17,8 +17,8 @@ ghost use Rattle.split_plan.specs.WorkedLevel.{worked_leaves, placed_of};
 ghost use Rattle.split_plan.specs.Change.{Change, is_rewritten, changes, family_changes, new_of, fresh_of, outdated, IsOutdatedIn, all_outdated};
 ghost use Rattle.split_plan.specs.Terms.{freed_of, terms, term_at};
 
-/// The pieces of a cut, joined, are the entries; none has more than `fan`, and of more than `fan` entries none has
-/// fewer than half of that.
+/// The concatenated pieces of a split are the entries. No piece has more than `fan` entries, and if there are more than
+/// `fan`, no piece has fewer than half of `fan`.
 pub fn pieces_are_the_entries<X>()
     ensures joined { (fan : ℕ) (es : List X) → flat (cut fan es) ≡ es }
     ensures count { (fan : ℕ) (es : List X) → length (cut fan es) ≡ piece_count fan (length es) }
@@ -27,8 +27,8 @@ pub fn pieces_are_the_entries<X>()
         AllAtLeast (fan / 2) (cut fan es) }
 {}
 
-/// The groups joined are the children. Where some child isn't thin, each group has just one that isn't, and each group
-/// but the first begins with it; where all are thin, they are one group.
+/// The concatenated groups are the children. If some child isn't thin, each group has exactly one such child, and each
+/// group except the first begins with it; if all are thin, they form one group.
 pub fn groups_are_the_children<X>()
     ensures joined { (thin : X → Bool) (xs : List X) → flat (groups thin xs) ≡ xs }
     ensures one { (thin : X → Bool) (xs : List X) → 0 < count_kept thin xs →
@@ -39,7 +39,7 @@ pub fn groups_are_the_children<X>()
         groups thin xs ≡ xs ∷ [] }
 {}
 
-/// The sizes of a family's groups are found by its pages' classes alone, and cut the family into its groups.
+/// The sizes of a family's groups depend only on its pages' classes, and split the family into its groups.
 pub fn groups_are_found_by_classes<V>()
     ensures classes { (f : List (Worked V)) →
         map length (groups is_thin_class (map (λ w. w.class) f)) ≡ map length (groups is_thin f) }
@@ -47,15 +47,15 @@ pub fn groups_are_found_by_classes<V>()
         cut_by (map length (groups is_thin f)) f ≡ groups is_thin f }
 {}
 
-/// A group is rewritten exactly if it has two or more members, or is one fat page.
+/// A group is rewritten if and only if it has two or more members, or is a single fat page.
 pub fn a_group_is_rewritten_for_its_members<V>()
     ensures { (g : List (Worked V)) →
         (is_rewritten g ≡ true)
         ↔ ((1 < length g) ⊎ ((w : Worked V) × (g ≡ w ∷ []) × (is_fat w ≡ true))) }
 {}
 
-/// Which pids are outdated: of a group those of the members that their run replaced, and where the group is rewritten
-/// those of all members; of a family those of its groups, and of a level those of its families.
+/// Which log states become outdated: in a group, those of the members that their run replaced, and those of all members
+/// if the group is rewritten; in a family those of its groups, and in a level those of its families.
 pub fn outdated_pages_were_replaced_or_rewritten<V>()
     ensures members { (c : Change V) (pid : ℕ) →
         (is_among pid (outdated c) ≡ true) ↔ IsOutdatedIn c.members pid }
@@ -68,7 +68,7 @@ pub fn outdated_pages_were_replaced_or_rewritten<V>()
         ↔ Any (λ f. Any (λ g. IsOutdatedIn g pid) (groups is_thin f)) fs }
 {}
 
-/// Leaves after their parts of a run have, joined, all their entries with the run applied.
+/// The leaves after their parts of a run have together all their entries with the run applied.
 pub fn leaves_share_a_run<V>()
     ensures { (s : Settings) (run : Changes V) (p : Placed V)
         (ps : List (Placed V)) (end : Option Bytes) →
@@ -76,7 +76,7 @@ pub fn leaves_share_a_run<V>()
         joined (placed_of (worked_leaves s run (p ∷ ps))) ≡ with_run (joined (p ∷ ps)) run }
 {}
 
-/// The pages that are made of the groups of a family have its entries, and tile its range.
+/// The new pages of a family's groups have its entries and tile its range.
 pub fn what_is_made_of_groups_has_their_entries<V>()
     ensures entries { (s : Settings) (used : List ℕ) (i : ℕ) (f : List (Worked V)) →
         joined (new_of (changes s used i (groups is_thin f))) ≡ joined (placed_of f) }
@@ -89,8 +89,8 @@ pub fn what_is_made_of_groups_has_their_entries<V>()
         next_low (new_of (changes s used i (groups is_thin f))) end ≡ next_low (placed_of f) end }
 {}
 
-/// The terms of a family rise. They name the low keys of freed members and of new pieces, and no other: a new piece's
-/// has its pid, any other is absent. They turn the names of the family into those of the pages that are made of it.
+/// The terms of a family rise. They contain exactly the low keys of freed members and of new pages: with its pid for a
+/// new page, and deleted otherwise. They turn the family's entries in the parent into those of the new pages.
 pub fn terms_name_the_new_pages<V>()
     ensures rising { (s : Settings) (used : List ℕ) (i : ℕ)
         (f : List (Worked V)) (end : Option Bytes) →

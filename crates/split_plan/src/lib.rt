@@ -1,9 +1,8 @@
-//! Splits and merges: which children of a parent are rewritten together, what is made of them, and the run that the
-//! parent gets.
+//! Splits and merges: which children of a parent are rewritten together, the pages that replace them, and the resulting
+//! run for the parent.
 //!
-//! `specs/` says how entries are cut, how children are grouped, what stands in a group's place and which terms its
-//! parent gets.
-//! Other crates name items by this root, and laws by the public module `laws`.
+//! `specs/` defines how entries are split, how children are grouped, which pages replace a group, and the terms for its
+//! parent. Other crates name items by this root, and laws by the public module `laws`.
 #![tactic(auto)]
 
 mod cutting;

@@ -1,9 +1,9 @@
-//! What a parent's entry holds of a child.
+//! The entry of a child in its parent.
 use keys::{Key, Pid};
 use std::alloc::Global;
 use std::marker::Model;
 
-/// What a parent's entry holds of a child: its low key and its page id. Contracts see it as this pair.
+/// The entry of a child in its parent: its low key and its page id. Contracts see it as this pair.
 #[derive(Drop)]
 pub struct Name {
     pub low: Key<Global>,

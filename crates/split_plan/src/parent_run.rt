@@ -1,4 +1,4 @@
-//! The run that a parent gets once its children are rewritten.
+//! The run of a parent whose children were rewritten.
 ghost use Rattle.std.specs.Prelude.{◌≡◌, ◌<◌, ◌+◌, [], ◌∷◌, ⊤, length, IfOk, MatchOption};
 ghost use Rattle.keys.specs.Order.{IsRising};
 ghost use Rattle.delta_chain.specs.Layers.{with_run};
@@ -11,9 +11,10 @@ use std::alloc::{AllocError, Global};
 use std::cmp::Ordering;
 use std::collections::VecDeque;
 
-/// The run of a parent's terms, of the names of the freed members of its groups and of the names of the new pieces, both
-/// in the order of their low keys: a freed member's low key is absent, a new piece's has its page id, and one that is both
-/// is a new piece's. The names' keys are moved into the run. `AllocError` comes only where memory is refused.
+/// Returns the run of a parent's terms. `freed` has the entries of the freed members of its groups, and `fresh` those
+/// of the new pages, both by rising low key. The run deletes the low keys of freed members and sets those of new pages
+/// to their page ids; a key in both lists is a new page's. Keys are moved into the run. `Err` means that allocation
+/// failed.
 pub fn terms(
     alloc: Global,
     freed: Vec<Name>,
@@ -35,8 +36,8 @@ pub fn terms(
     Ok(run)
 }
 
-// Takes the lowest name out of both lists, and gives its term: a new piece's where both have it. `None` where both are
-// empty.
+// Removes the least key from both lists and returns its term: that of the new page if both have it. Returns `None` if
+// both are empty.
 fn next_term(
     freed: &mut VecDeque<Name>,
     fresh: &mut VecDeque<Name>,
@@ -70,7 +71,7 @@ fn next_term(
     }
 }
 
-// How the first freed name compares to the first fresh one; an empty list is as one that begins above every key.
+// Compares the first freed key to the first fresh one; an empty list counts as greater than every key.
 fn front_order(freed: &VecDeque<Name>, fresh: &VecDeque<Name>) -> Ordering
     ensures { result ≡ front_order freed.now.items fresh.now.items }
 {

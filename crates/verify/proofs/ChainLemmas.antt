@@ -1,4 +1,4 @@
--- What the tests of a page's keys and sizes come to, list by list.
+-- The results of the tests of a page's keys and sizes, list by list.
 use Rattle.std.specs.Prelude.{◌≡◌, ⊤, ℕ, zero, suc, ◌+◌, Bool, true, false, ◌&&◌, List, [], ◌∷◌, drop, slice_get, Option, Some, None}
 use Rattle.std.proofs.Common.{refl, sym, ap, ◌∙◌, add-one}
 use Rattle.std.specs.Borrow.{Bor}
@@ -65,7 +65,7 @@ pub both_fail : (a b : Bool) → false ≡ b → false ≡ (a && b)
 both_fail true b h = h
 both_fail false b h = refl
 
--- ---- the runs that are left, where a walk down a page has come to the newest of them, or to the base
+-- ---- the remaining runs, when a walk down a page has reached the newest of them, or the base
 
 module _ {V : Type 0} where
   abbrev pub runs_left : Option (Bor (Changes V) × Layers V) → List (Changes V)

@@ -1,4 +1,4 @@
--- What a look at a level shares among threads may be shared: the closure over the tree, and the places that it goes over.
+-- The captures of the closure that threads share on a level: the tree, and the places that it visits.
 use mathlib.Core.List.{List, [], ◌∷◌}
 use mir.Syntax.{Sym}
 use denote.RattleType.{RattleType}

@@ -1,4 +1,4 @@
--- What is found of a level, by what is seen of its pages.
+-- The findings on a level, from the verdicts on its pages.
 use Rattle.std.specs.Prelude.{◌≡◌, ◌<◌, ℕ, suc, ◌+◌, Bool, true, false, not, List, [], ◌∷◌, ◌++◌, map, drop, length, ◌≤◌, slice_get, get_or, Option, Some, None, Result, Ok, Err, IfOk, IfErr, OnOk, IsErrAnd, MatchResult}
 use Rattle.std.proofs.Common.{refl, sym, ap, ◌∙◌, append_assoc, add-one, arith, subst, inl}
 use Rattle.std.specs.List.{AllZip}
@@ -26,7 +26,7 @@ use Rattle.verify.specs.declared.look.Level.{Level}
 use Rattle.verify.specs.declared.look.Level.TheVariants.{Leaves, Above}
 use Rattle.verify.specs.declared.look.Verdict.{Verdict}
 
--- ---- what is seen of a page by itself, and whether it has been met: together what is found there
+-- ---- the verdict on a page by itself, and whether it has been visited, determine the finding there
 
 module _ (at : Place) (met : List ℕ) (n : ℕ) where
   leaf_by : (a b c d m : Bool) → is_among at.pid met ≡ m
@@ -85,7 +85,7 @@ module _ (s : Settings) (level : Level) (ps : List (ℕ × PageOfKind)) where
   none_later None later h = h
   none_later (Some f) later h = absurd (cc)
 
-  -- where nothing is found, the pairs that are seen are those of the leaves
+  -- if there is no finding, the pairs counted are those of the leaves
   pub pairs_seen : (met : List ℕ) (ats : List Place) → first_found met ats (map (seen_at s level ps) ats) ≡ None
       → all_pairs (map (seen_at s level ps) ats) ≡ length (joined (map (leaf_at ps) (map (λ at. at.pid) ats)))
   pairs_seen met [] h = refl
@@ -151,9 +151,9 @@ module _ {T E : Type 0} where
   ok_then (Ok v) A x y a h f = h ∙ f a
   ok_then (Err e) A x y a h f = tt
 
--- ---- one page more is met
+-- ---- one more page is visited
 
--- what stands from a place on
+-- the elements from a place on
 pub from_here : {X : Type 0} (xs : List X) (at : ℕ) (x : X) → at < length xs → x ≡ get_or xs at x → drop at xs ≡ x ∷ drop (at + 1) xs
 from_here xs at x l e = drop_more xs at x l ∙ ap (λ y. y ∷ drop (at + 1) xs) (sym e)
 

@@ -1,4 +1,4 @@
--- What is found depends only on which pids have been met, and not on their order.
+-- Findings depend only on the set of visited pids, and not on their order.
 use Rattle.std.specs.Prelude.{◌≡◌, ℕ, zero, suc, Bool, true, false, not, cond, ◌||◌, nat_eq, List, [], ◌∷◌, ◌++◌, map, flat_map, Option, Some, None, if◌then◌else◌}
 use Rattle.std.proofs.Common.{refl, sym, ap, ◌∙◌, Ordering, Less, Equal, Greater}
 use Rattle.std.specs.Ordering.{nat_cmp, is_eq, match_ordering}
@@ -47,7 +47,7 @@ among-following : (m n : ℕ) (xs met : List ℕ) → is_among m (xs ++ n ∷ me
 among-following m n [] met = refl
 among-following m n (x ∷ xs) met = ap (λ (b : Bool). nat_eq m x || b) (among-following m n xs met) ∙ or_swapped (nat_eq m x) (nat_eq m n) (is_among m (xs ++ met))
 
--- ---- the same met before and after
+-- ---- the same pids visited before and after
 
 pub same_with : (n : ℕ) (met other : List ℕ) → HaveMetTheSame met other → HaveMetTheSame (n ∷ met) (n ∷ other)
 same_with n met other h = λ m. ap (λ (b : Bool). nat_eq m n || b) (h m)
@@ -124,7 +124,7 @@ pub has_among : (n : ℕ) (ks : List ℕ) → list_any (is_at (nat_cmp n)) ks �
 has_among n [] = refl
 has_among n (k ∷ ks) = ap (λ (b : Bool). b || list_any (is_at (nat_cmp n)) ks) (same_test (is_eq (nat_cmp n k)) (nat_eq n k) n k refl refl) ∙ ap (λ (b : Bool). nat_eq n k || b) (has_among n ks)
 
--- ---- the pages that haven't been met, by their pids
+-- ---- the pages that haven't been visited, by their pids
 
 abbrev pub unmet_of : List ℕ → List ℕ → Option Finding
 unmet_of met [] = None

@@ -1,4 +1,4 @@
--- The rules on every page, in the order in which they are tested.
+-- The rules for all pages, in the order in which they are tested.
 use Rattle.std.specs.Prelude.{◌≡◌, ◌<◌, ◌≤◌, ℕ, Bool, true, false, ◌&&◌, nat_le, min, List, [], ◌∷◌, Option, Some, None}
 use Rattle.std.proofs.Common.{refl, ap, ◌∙◌, arith, le-leb, leb-true}
 use Rattle.std.specs.List.{list_all}
@@ -32,7 +32,7 @@ module _ {V : Type 0} where
   rises p h = first_of (all_rise p.layers.runs p.layers.base) (list_all (is_within [] None) (named p))
       ((decides-keeps_range [] None p).1 (record { rising = h; from = all_from_empty (named p); before = tt }))
 
-  -- where the keys rise, only their range is left to be tested
+  -- if the keys rise, only their range remains to be tested
   pub range_alone : (low : List ℕ) (end : Option (List ℕ)) (p : Page V) → IsInOrder p.layers → keeps_range low end p ≡ list_all (is_within low end) (named p)
   range_alone low end p h = ap (λ (b : Bool). b && list_all (is_within low end) (named p)) (rises p h)
 
@@ -60,7 +60,7 @@ module _ (a b c d : Bool) (h : a ≡ true) (i : b ≡ true) where
   pub none_broken : c ≡ true → d ≡ true → None ≡ first_broken ((4, a) ∷ (5, b) ∷ (6, c) ∷ (7, d) ∷ [])
   none_broken j k = rw (h, i, j, k) refl
 
--- ---- the verdict on a leaf that breaks none of them, and whose pid hasn't been met
+-- ---- the verdict on a leaf that breaks none of the rules, and whose pid hasn't been visited
 
 none_of : (a b c d : Bool) (n m : ℕ) → None ≡ first_broken ((4, a) ∷ (5, b) ∷ (6, c) ∷ (7, d) ∷ []) → n ≡ m → Sound n ≡ seen_as (first_broken ((4, a) ∷ (5, b) ∷ (6, c) ∷ (7, d) ∷ (9, true) ∷ [])) m
 none_of true true true true n m h e = ap Sound e

@@ -1,4 +1,4 @@
--- How a walk goes on from a level, and what it comes to.
+-- How a walk continues from a level, and its result.
 use Rattle.std.specs.Prelude.{◌≡◌, Result, Ok, Err, IsErr, IfOk, ℕ, zero, suc, pred, ◌+◌, ◌-◌, ◌<◌, List, [], ◌∷◌, ◌++◌, map, flat_map, length, Option, Some, None}
 use Rattle.std.proofs.Common.{inl, refl, sym, ap, ◌∙◌, arith, subst}
 use Rattle.std.specs.Map.{values_of}
@@ -109,7 +109,7 @@ pub owes_nothing : {T : Type 0} (r : Result T Fault) (P : T → Type 0) → IsEr
 owes_nothing (Ok x) P is = absurd (false≢true is)
 owes_nothing (Err f) P is = tt
 
--- memory may be refused whatever is found
+-- an allocation may fail whatever the finding is
 pub fault_of_memory : (o : Option Finding) → IsFaultOf o NoMemory
 fault_of_memory None = refl
 fault_of_memory (Some f) = inl refl

@@ -1,7 +1,7 @@
--- Pids that a walk has met, apart from their order.
+-- Visited pids, without their order.
 use Rattle.std.specs.Prelude.{◌≡◌, ℕ, List}
 use Rattle.mapping.specs.FreshPids.{is_among}
 
--- the same have been met
+-- the same pids have been visited
 abbrev pub HaveMetTheSame : List ℕ → List ℕ → Type 0
 HaveMetTheSame met other = (n : ℕ) → is_among n met ≡ is_among n other

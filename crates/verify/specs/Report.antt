@@ -1,4 +1,4 @@
--- The report on a tree, and why there is none.
+-- The report on a tree, or the reason for its absence.
 use Rattle.std.specs.Prelude.{◌≡◌, ◌⊎◌, Option, Some, None, length}
 use Rattle.keys.specs.Finding.{Finding}
 use Rattle.keys.specs.declared.fault.Fault.{Fault}
@@ -13,7 +13,7 @@ report t =
     let l : Levels = levels_of t in
     record { pages = length (all_pids l.level l.above); height = t.height; pairs = length (contents t) }
 
--- why there is no report: what is found, or else, and also then, lack of memory
+-- why there is no report: the finding, or out of memory, which may happen in either case
 abbrev pub IsFaultOf : Option Finding → Fault → Type 0
 IsFaultOf None fault = fault ≡ NoMemory
 IsFaultOf (Some f) fault = (fault ≡ NoMemory) ⊎ (fault ≡ BadStructure f)

@@ -1,4 +1,4 @@
-//! Tests of the runs and the base of a page: the range of the keys, and the sizes.
+//! Checks of the runs and the base of a page: the range of the keys, and the sizes.
 ghost use Rattle.std.specs.Prelude.{◌≡◌, ◌<◌, ◌&&◌, ℕ, Bool, List, Some, nat_le, length, slice_get};
 ghost use Rattle.std.specs.Option.{option_copied};
 ghost use Rattle.std.specs.List.{list_all};
@@ -14,11 +14,11 @@ use delta_chain::{Base, ChainRef, KeyList, Pairs, Run};
 use keys::{Pid, Settings, Value, compare, is_before};
 use std::alloc::Allocator;
 
-/// What a page has at a key, as far as the settings limit it.
+/// A cell whose size the settings may limit.
 pub(crate) trait CellSize {
     ghost is_short: { limits.Settings → Self → Bool };
 
-    /// Whether the cell is within the settings.
+    /// Returns whether the cell is within the settings.
     fn is_short(&self, settings: &Settings) -> bool
         ensures { result ≡ is_short settings.now self.now };
 }
@@ -39,20 +39,20 @@ impl CellSize for Pid {
     }
 }
 
-/// The base of a page, read by place: one that lies in memory, or the pairs of one that is still to be made.
+/// The base of a page with access by place: a base in memory, or the pairs of a base that is not merged yet.
 pub(crate) trait BaseList<V> {
     ghost entries: { Self → List (Bytes × V) };
 
-    /// How many entries there are.
+    /// Returns the number of entries.
     fn count(&self) -> usize
         ensures { result ≡ length (entries self.now) };
 
-    /// The bytes of the key at this place, counted from 0.
+    /// Returns the bytes of the key at place `at`, counted from 0.
     fn key_at(&self, at: usize) -> &[u8]
         requires { at < length (entries self.now) }
         ensures { slice_get (keys_of (entries self.now)) at ≡ Some result.now };
 
-    /// The cell at this place, counted from 0.
+    /// Returns the cell at place `at`, counted from 0.
     fn cell_at(&self, at: usize) -> &V
         requires { at < length (entries self.now) }
         ensures { slice_get (values_of (entries self.now)) at ≡ Some result.now };
@@ -90,7 +90,7 @@ impl<'a, V, A: Allocator + Copy> BaseList<V> for Pairs<'a, V, A> {
     }
 }
 
-// Whether the key lies in the range from `low` on and before `end`.
+// Whether `key` is at or above `low`, and below `end`.
 fn is_within(low: &[u8], end: Option<&[u8]>, key: &[u8]) -> bool
     ensures { result ≡ is_within low.now (option_copied end.entry) key.now }
 {
@@ -112,7 +112,7 @@ fn run_within<V, A: Allocator + Copy>(run: &Run<V, A>, low: &[u8], end: Option<&
     true
 }
 
-// The same of a base.
+// Whether each key of the base lies in the range.
 fn base_within<V, B: BaseList<V>>(base: &B, low: &[u8], end: Option<&[u8]>) -> bool
     ensures { result
         ≡ list_all (is_within low.now (option_copied end.entry)) (keys_of (B.entries base.now)) }
@@ -125,7 +125,7 @@ fn base_within<V, B: BaseList<V>>(base: &B, low: &[u8], end: Option<&[u8]>) -> b
     true
 }
 
-/// Whether each key that the runs and the base name lies in the range. What lies under the lent runs doesn't matter.
+/// Whether each key in the runs and in `base` lies in the range. The base of `runs` itself is not read.
 pub(crate) fn names_within<V, A: Allocator + Copy, B: BaseList<V>>(
     runs: &ChainRef<'_, V, A>,
     base: &B,
@@ -145,8 +145,8 @@ pub(crate) fn names_within<V, A: Allocator + Copy, B: BaseList<V>>(
     base_within(base, low, end)
 }
 
-/// Whether the base and each run are within the settings, in their numbers of entries and in the lengths of keys and cells. What lies
-/// under the lent runs doesn't matter.
+/// Whether `base` and each run are within the settings, in their numbers of entries and in the lengths of keys and
+/// cells. The base of `runs` itself is not read.
 pub(crate) fn fits_sizes<V: CellSize, A: Allocator + Copy, B: BaseList<V>>(
     runs: &ChainRef<'_, V, A>,
     base: &B,
@@ -165,7 +165,6 @@ pub(crate) fn fits_sizes<V: CellSize, A: Allocator + Copy, B: BaseList<V>>(
     fits_base(base, settings)
 }
 
-// The same of a base.
 fn fits_base<V: CellSize, B: BaseList<V>>(base: &B, settings: &Settings) -> bool
     ensures { result ≡ (nat_le (length (B.entries base.now)) settings.now.fan
         && list_all (is_short_change settings.now (V.is_short settings.now))
@@ -183,7 +182,6 @@ fn fits_base<V: CellSize, B: BaseList<V>>(base: &B, settings: &Settings) -> bool
     true
 }
 
-// The same of a run.
 fn fits_run<V: CellSize, A: Allocator + Copy>(run: &Run<V, A>, settings: &Settings) -> bool
     ensures { result ≡ (is_run_sized settings.now run.now
         && list_all (is_short_change settings.now (V.is_short settings.now)) run.now) }
@@ -200,7 +198,7 @@ fn fits_run<V: CellSize, A: Allocator + Copy>(run: &Run<V, A>, settings: &Settin
     true
 }
 
-// Whether the key, and the cell where there is one, is no longer than the settings allow.
+// Whether the key and the cell, if there is one, are no longer than the settings allow.
 fn is_short_entry<V: CellSize>(key: &[u8], cell: Option<&V>, settings: &Settings) -> bool
     ensures { result ≡ (nat_le (length key.now) settings.now.max_key
         && of_cell (V.is_short settings.now) (option_copied cell.entry)) }

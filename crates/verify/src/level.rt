@@ -1,4 +1,5 @@
-//! One level of the walk: all its pages are looked at, then met from left to right, and the places below are listed.
+//! One level of the walk: checks all its pages, then marks them as visited from left to right, and lists the places of
+//! the level below.
 ghost use Rattle.std.specs.Prelude.{◌≡◌, ◌+◌, ◌++◌, ◌∷◌, None, map, flat_map, length, IfOk, IfErr, OnOk};
 ghost use Rattle.std.specs.Option.{option_copied};
 ghost use Rattle.index_page.specs.Children.{children};
@@ -20,8 +21,8 @@ use rayon::prelude::*;
 use std::alloc::{AllocError, Global};
 use std::thread::Threads;
 
-/// Looks for what is wrong at these places of a level, where the pages met so far are known, and meets their pages. It
-/// returns the number of pairs that they hold. It is refused for the first thing that is wrong, or for lack of memory.
+/// Checks the pages at these places of a level, adds them to the visited pages, and returns the number of pairs in
+/// them. Fails with `BadStructure` and the first finding, or with `NoMemory`.
 pub(crate) fn pass_level(
     rt: &(impl Threads + Sync),
     alloc: Global,
@@ -46,7 +47,7 @@ pub(crate) fn pass_level(
     meet_all(places, &seen, met)
 }
 
-// What is seen at each place. Threads share the work.
+// The verdict on the page at each place. Threads share the work.
 fn look_at_all(
     rt: &(impl Threads + Sync),
     alloc: Global,
@@ -71,7 +72,7 @@ fn look_at_all(
         .collect::<Result<Vec<Verdict>, AllocError>>(rt, alloc)?
 }
 
-// Meets the pages from left to right, up to the first at which something is wrong.
+// Visits the pages from left to right, up to the first one with a finding.
 fn meet_all(places: &[Place<'_>], seen: &[Verdict], met: &mut Met) -> Result<u128, Fault>
     requires { length seen.now ≡ length places.now }
     ensures ok { OnOk result (first_found met.old places.now seen.now ≡ None) }
@@ -88,7 +89,7 @@ fn meet_all(places: &[Place<'_>], seen: &[Verdict], met: &mut Met) -> Result<u12
     Ok(pairs)
 }
 
-// Meets a page with this verdict. It returns the number of its pairs.
+// Visits a page with this verdict. Returns the number of its pairs.
 fn meet_page(pid: Pid, seen: Verdict, met: &mut Met) -> Result<usize, Fault>
     ensures ok { OnOk result (found_by met.old pid seen ≡ None) }
     ensures pairs { IfOk result (λ pairs. pairs ≡ pairs_of seen) }
@@ -111,7 +112,7 @@ fn meet_page(pid: Pid, seen: Verdict, met: &mut Met) -> Result<usize, Fault>
     }
 }
 
-/// The places of the children of these places' pages.
+/// Returns the places of the children of these places' pages.
 pub(crate) fn places_below<'a>(
     alloc: Global,
     tree: &'a Tree<Global>,
@@ -149,7 +150,7 @@ fn push_children<'a>(
     push_places(&entries, at.end, below)
 }
 
-// Appends the places of the children that these entries name, the last up to this end.
+// Appends the places of the children in these entries; the last one's range ends at `end`.
 fn push_places<'a>(
     entries: &Pairs<'a, Pid, Global>,
     end: Option<&'a [u8]>,

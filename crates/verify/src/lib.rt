@@ -1,4 +1,5 @@
-//! Whether a tree is proper: a walk from its root, level by level, that gives a report, or the least thing that is wrong.
+//! Checks whether a tree is proper, by a walk from its root, level by level. The result is a report, or the first
+//! violation.
 #![tactic(auto)]
 
 mod chain_tests;

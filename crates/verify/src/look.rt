@@ -1,4 +1,4 @@
-//! Checks one page by itself, as one of its level.
+//! Checks one page by itself, given its level.
 ghost use Rattle.std.specs.Prelude.{◌≡◌, ◌&&◌, nat_le, [], Some, length, IfOk};
 ghost use Rattle.delta_chain.specs.Late.{seen};
 ghost use Rattle.index_page.specs.Page.{entries, first_key};
@@ -16,25 +16,25 @@ use keys::{Pid, Settings, Value, compare};
 use mapping::Tree;
 use std::alloc::{AllocError, Global};
 
-/// Which level a page has to be of.
+/// The level that a page must belong to.
 #[derive(Clone, Copy)]
 pub(crate) enum Level {
-    /// The lowest.
+    /// The lowest level.
     Leaves,
-    /// One above, whose pages have at least this many children.
+    /// A higher level, whose pages have at least this many children.
     Above(usize),
 }
 
-/// What is seen of a page by itself.
+/// The result of checking a page by itself.
 #[derive(Clone, Copy)]
 pub(crate) enum Verdict {
-    /// It breaks this rule, and none before it.
+    /// The page breaks this rule, and no earlier rule.
     Broken(u32),
-    /// Nothing is wrong with it, and it holds this many pairs; an index page holds none.
+    /// The page breaks no rule, and has this many pairs (none in an index page).
     Sound(usize),
 }
 
-/// Looks at the page at a place of the level. It is refused only for lack of memory.
+/// Checks the page at a place of the level. Fails only with `NoMemory`.
 pub(crate) fn look(
     alloc: Global,
     tree: &Tree<Global>,
@@ -60,7 +60,6 @@ pub(crate) fn look(
     }
 }
 
-// A leaf, on the lowest level.
 fn look_at_leaf(
     alloc: Global,
     settings: &Settings,
@@ -80,7 +79,8 @@ fn look_at_leaf(
     Ok(Verdict::Sound(pairs.len()))
 }
 
-// The first of the rules on every page that a leaf breaks. Where runs count as merged with its base, the base that they make is lent.
+// The first of the rules for all pages that a leaf breaks. If runs count as merged into its base, the merged pairs are
+// computed and borrowed.
 fn broken_rule_of_leaf(
     alloc: Global,
     settings: &Settings,
@@ -101,7 +101,6 @@ fn broken_rule_of_leaf(
     Ok(broken_rule(settings, at, low, &runs, &base))
 }
 
-// An index page, on a level above.
 fn look_at_index(
     alloc: Global,
     settings: &Settings,
@@ -125,7 +124,7 @@ fn look_at_index(
     Ok(Verdict::Sound(0))
 }
 
-// Whether there are at least `least` children, and the first is at the low key.
+// Whether there are at least `least` children, and the first one's key is the low key.
 fn is_headed(children: &Pairs<'_, Pid, Global>, least: usize, low: &[u8]) -> bool
     ensures { result
         ≡ (nat_le least (length children.now) && is_same_key (first_key children.now) low.now) }

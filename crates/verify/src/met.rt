@@ -1,4 +1,4 @@
-//! The page ids that a walk has met.
+//! The page ids that a walk has visited.
 ghost use Rattle.std.specs.Prelude.{◌≡◌, ◌+◌, not, [], length, IfOk, OnOk, if◌then◌else◌};
 ghost use Rattle.std.specs.Ordering.{nat_cmp};
 ghost use Rattle.std.specs.BTreeSet.{insert_key};
@@ -9,7 +9,7 @@ use std::alloc::{AllocError, Global};
 use std::collections::BTreeSet;
 use std::marker::Model;
 
-/// The page ids that a walk has met. Contracts see them as a list.
+/// A set of the page ids that a walk has visited. Contracts see it as a list.
 #[derive(Drop)]
 pub(crate) struct Met {
     pids: BTreeSet<u64>,
@@ -24,7 +24,7 @@ impl Model for Met {
 }
 
 impl Met {
-    /// None so far. This takes no memory.
+    /// Returns the empty set. Does not allocate.
     pub(crate) fn none(alloc: Global) -> Met
         ensures { result ≡ [] }
     {
@@ -33,14 +33,13 @@ impl Met {
         }
     }
 
-    /// Whether the page id has been met.
     pub(crate) fn has(&self, pid: Pid) -> bool
         ensures { result ≡ is_among pid self.now }
     {
         self.pids.contains(&pid.0)
     }
 
-    /// Meets the page id, and returns whether that is the first time.
+    /// Adds `pid`, and returns whether it is new.
     pub(crate) fn meet(&mut self, pid: Pid) -> Result<bool, AllocError>
         ensures first { IfOk result (λ first. first ≡ not (is_among pid self.old)) }
         ensures met { OnOk result (self.new ≡ insert_key nat_cmp self.old pid) }
@@ -51,7 +50,6 @@ impl Met {
         Ok(first)
     }
 
-    /// How many there are.
     pub(crate) fn len(&self) -> usize
         ensures { result ≡ length self.now }
     {

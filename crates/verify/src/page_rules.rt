@@ -1,4 +1,4 @@
-//! The rules on every page.
+//! The rules for all pages.
 ghost use Rattle.std.specs.Prelude.{◌≡◌};
 ghost use Rattle.delta_chain.specs.Layers.{IsInOrder};
 ghost use Rattle.mapping.specs.Finding.{common_rules, first_broken};
@@ -10,8 +10,9 @@ use delta_chain::ChainRef;
 use keys::{Settings, compare};
 use std::alloc::Global;
 
-/// The first of the rules on every page that the one of these runs and this base breaks: on its low key, its range, its sizes and its
-/// depth. That the keys of each run and of the base rise, nothing in memory can break. What lies under the lent runs doesn't matter.
+/// Returns the first of the rules for all pages that the page of these runs and this base breaks: on its low key, its
+/// range, its sizes and its depth. The keys of each run and of the base always rise, by the invariants of their types.
+/// The base of `runs` itself is not read.
 pub(crate) fn broken_rule<V: CellSize, B: BaseList<V>>(
     settings: &Settings,
     at: &Place<'_>,

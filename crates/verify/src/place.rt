@@ -1,8 +1,8 @@
-//! Where a page stands in the tree: its page id and its range of keys.
+//! A place in the tree: a page id and a range of keys.
 use keys::Pid;
 use std::marker::Model;
 
-/// Where a page stands in the tree: its page id, and the range of keys that its parent gives it. Contracts see it as a
+/// A page's place in the tree: its page id, and the range of keys that its parent gives it. Contracts see it as a
 /// `Place`.
 #[derive(Drop)]
 pub(crate) struct Place<'a> {

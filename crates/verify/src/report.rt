@@ -1,12 +1,12 @@
 //! The report on a proper tree.
 
-/// The report on a tree in which nothing is wrong.
+/// The report on a proper tree.
 #[derive(Clone, Copy, Debug, PartialEq, Eq)]
 pub struct Report {
-    /// The pages that the walk from the root reaches.
+    /// The number of pages that the walk from the root reaches.
     pub pages: u128,
-    /// The levels.
+    /// The number of levels.
     pub height: u32,
-    /// The pairs that the leaves hold.
+    /// The number of pairs in the leaves.
     pub pairs: u128,
 }

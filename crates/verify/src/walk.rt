@@ -16,10 +16,10 @@ use mapping::Tree;
 use std::alloc::{AllocError, Global};
 use std::thread::Threads;
 
-/// Checks whether the tree, none of whose pages is away, is proper under the settings: it goes down from the root, level by
-/// level, looks at the pages of each level together, and last for pages that it hasn't met. Where nothing is wrong it
-/// returns the report. Else it is refused with `Fault::BadStructure` and the first finding: of the highest level that has
-/// one, from left to right. It is refused besides only for lack of memory, with `Fault::NoMemory`.
+/// Checks whether the tree, with no page checked out, is proper under the settings. Walks down from the root, checks
+/// the pages of each level in parallel, and finally looks for pages that the walk has not visited. Returns a report on
+/// a proper tree. Otherwise fails with `Fault::BadStructure` and the first finding: on the highest level that has one,
+/// from left to right. Any other failure is `Fault::NoMemory`.
 pub fn verify(
     rt: &(impl Threads + Sync),
     alloc: Global,
@@ -44,7 +44,7 @@ pub fn verify(
     }
 }
 
-// The places of the leaves, from the root down through the levels of index pages, whose pages it meets.
+// The places of the leaves. Checks and visits the levels of index pages on the way from the root.
 fn walk_to_leaves<'a>(
     rt: &(impl Threads + Sync),
     alloc: Global,
@@ -59,7 +59,7 @@ fn walk_to_leaves<'a>(
     ensures err { IfErr result (IsFaultOf (finding settings.now (tree_of tree.now))) }
 {
     let mut places = root_place(alloc, tree.root())?;
-    // The root alone has two children at least.
+    // Only the root must have at least two children.
     let mut least = 2;
     for _level in 1..tree.height() {
         pass_level(rt, alloc, tree, settings, Level::Above(least), &places, met)?;
@@ -69,7 +69,6 @@ fn walk_to_leaves<'a>(
     Ok(places)
 }
 
-// The root's place: all keys.
 fn root_place<'a>(alloc: Global, root: Pid) -> Result<Vec<Place<'a>>, AllocError>
     ensures { IfOk result
         (λ places. places.items ≡ record { pid = root; low = []; end = None } ∷ []) }
@@ -83,7 +82,7 @@ fn root_place<'a>(alloc: Global, root: Pid) -> Result<Vec<Place<'a>>, AllocError
     Ok(places)
 }
 
-// The first page of the table that hasn't been met.
+// The first page of the table that has not been visited.
 fn first_unmet(tree: &Tree<Global>, met: &Met) -> Option<Finding>
     ensures { result ≡ unmet met.now (tree_of tree.now).pages }
 {

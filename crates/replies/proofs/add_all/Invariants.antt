@@ -4,7 +4,7 @@ use Rattle.std.specs.Vec.Iter.{into_iter_items}
 use Rattle.replies.specs.ByPlace.{IsPlaceOf, with_pieces}
 use Rattle.replies.proofs.add_all.Given as goal
 
--- the pieces that are left make of the list what all make of the first one; their places are within it
+-- adding the remaining pieces gives the list that adding all pieces to the first one gives; their places are within it
 abbrev pub invariant-loop-place : goal.invariant-loop-place
 invariant-loop-place l = record {
   count : length l.replies ≡ length l.commands;

@@ -5,7 +5,7 @@ use Rattle.keys.specs.Woven.{without_rows}
 use Rattle.replies.specs.ByPlace.{with_pieces}
 use Rattle.replies.proofs.add_rowless.Given as goal
 
--- the pieces that are left make of the list what all make of the first one; their places are within it
+-- adding the remaining pieces gives the list that adding all pieces to the first one gives; their places are within it
 abbrev pub invariant-loop-place : goal.invariant-loop-place
 invariant-loop-place l = record {
   count : length l.replies ≡ length l.commands;

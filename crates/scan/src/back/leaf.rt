@@ -11,14 +11,14 @@ use keys::Value;
 use std::alloc::Global;
 use std::marker::Model;
 
-/// The pairs of one leaf before an end, from the last one down, lent out of the leaf. It takes no memory. Contracts see it as
-/// the list of those that are left, in key order.
+/// An iterator over the pairs of one leaf before an end, from the last pair down, borrowed from the leaf. Does not
+/// allocate. Contracts see it as the list of the remaining pairs, in key order.
 #[derive(Drop)]
 pub(crate) struct LeafBack<'a> {
     way: WayBack<'a>,
 }
 
-// How a leaf is walked: with up to 16 runs by a merge. With more, for which there are no places, it is searched from key to key.
+// A leaf with at most 16 runs is merged. With more runs, for which a merge has no slots, each next key is searched for.
 #[derive(Drop)]
 enum WayBack<'a> {
     Merging(MergeBack<'a>),
@@ -35,7 +35,6 @@ impl<'a> Model for LeafBack<'a> {
 }
 
 impl<'a> LeafBack<'a> {
-    // The leaf's pairs before the end.
     pub(crate) fn new(
         alloc: Global,
         chain: &'a Chain<Value<Global>, Global>,
@@ -54,8 +53,8 @@ impl<'a> LeafBack<'a> {
         }
     }
 
-    // Walks this leaf from its last pair down, in place of the one before, which has none left: in the same places, so that nothing
-    // large is moved. A leaf that is known to be empty is stepped over at one look.
+    // Starts again at the last pair of another leaf, after the previous leaf is exhausted. Reuses the iterator's state
+    // in place, because moving it is expensive, and skips a leaf that its bounds show to be empty.
     pub(crate) fn restart(&mut self, alloc: Global, chain: &'a Chain<Value<Global>, Global>)
         requires { self.old ≡ [] }
         ensures { self.new ≡ before None (entries_of chain.now) }
@@ -71,7 +70,6 @@ impl<'a> LeafBack<'a> {
         }
     }
 
-    // The last pair, which is none of those to come afterwards.
     pub(crate) fn next_back(&mut self) -> Option<(&'a [u8], &'a Value<Global>)>
         ensures { MatchOption result ((self.old ≡ []) × (self.new ≡ []))
             (λ p. self.old ≡ self.new ++ (p.0.now, p.1.now) ∷ []) }

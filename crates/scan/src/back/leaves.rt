@@ -16,12 +16,12 @@ use smallvec::SmallVec;
 use std::alloc::Global;
 use std::marker::Model;
 
-// The index pages on the way to a leaf, from the root down, each with its children before that way. A tree has at most 64
-// levels, so it needs no memory.
+// The index pages from the root down to a leaf, each with its children to the left of the path. A tree has at most 64
+// levels, so the path needs no allocation.
 type PathBack<'a> = SmallVec<StepBack<'a>, 64>;
 
-/// The leaves of a tree before one that was come to, from right to left. From one to the next it goes up only as far as
-/// there are no more children, and takes no memory. Contracts see it as these pages, in key order.
+/// An iterator over the leaves to the left of a first leaf, from right to left. A step ascends only as far as pages
+/// have no more children. Does not allocate. Contracts see it as these leaves, in key order.
 #[derive(Drop)]
 pub(crate) struct LeavesBack<'a> {
     tree: &'a Tree<Global>,
@@ -43,7 +43,7 @@ impl<'a> Model for LeavesBack<'a> {
 }
 
 impl<'a> LeavesBack<'a> {
-    // The last leaf that may have keys before the end, and those before it.
+    // The last leaf that may have keys before `hi`, and an iterator over the leaves to its left.
     pub(crate) fn new(alloc: Global, tree: &'a Tree<Global>, hi: Option<&[u8]>) -> (Leaf<'a>, Self)
         requires home { AreAllHome tree.now }
         requires height { tree.now.height ≤ most_levels }
@@ -56,7 +56,6 @@ impl<'a> LeavesBack<'a> {
         (last, LeavesBack { tree, path })
     }
 
-    // The last leaf, which is none of those to come afterwards.
     pub(crate) fn next_back(&mut self) -> Option<Leaf<'a>>
         ensures { MatchOption result ((self.old ≡ []) × (self.new ≡ []))
             (λ leaf. self.old ≡ self.new ++ leaf_with leaf.0.now (seen leaf.1.now) ∷ []) }
@@ -65,7 +64,8 @@ impl<'a> LeavesBack<'a> {
     }
 }
 
-// Goes down from this page to the last leaf that may have keys before the end, the children before the way onto the path.
+// Descends from page `from` to the last leaf that may have keys before `hi`, and pushes the children to the left onto
+// the path.
 fn descend<'a>(
     tree: &'a Tree<Global>,
     path: &mut PathBack<'a>,
@@ -99,7 +99,7 @@ fn descend<'a>(
     }
 }
 
-// The last leaf before the path, which has those before it afterwards.
+// Removes the last leaf to the left of the path and returns it.
 fn last_leaf<'a>(tree: &'a Tree<Global>, path: &mut PathBack<'a>) -> Option<Leaf<'a>>
     requires { IsWalk tree.now path.old }
     ensures walk { IsWalk tree.now path.new }

@@ -1,4 +1,4 @@
-//! Iterates over a leaf with few runs from its end: merges them with the base.
+//! Iterates over a leaf with few runs from its end: merges the runs with the base.
 ghost use Rattle.std.specs.Prelude.{◌≡◌, ◌<◌, ◌≤◌, ◌∷◌, ◌++◌, [], take, map, length, Some, MatchOption};
 ghost use Rattle.std.specs.List.{AllByRecursion};
 ghost use Rattle.std.specs.Option.{option_copied};
@@ -20,17 +20,17 @@ use std::cmp::Ordering;
 use std::marker::Model;
 use std::mem;
 
-// The runs of a leaf, newest first, each up to a place. They need no memory.
+// The runs of a leaf, newest first, each up to some place. They need no allocation.
 type RunsBack<'a> = SmallVec<RunBack<'a>, 16>;
 
-/// A walk over a leaf from its end, by a place in the base and in each run, as `Merge` is one from the front. Contracts see
-/// it as the changes and the base's pairs that are left, in key order.
+/// A merge of a leaf's lists from the end, with a place in the base and in each run; `Merge` is the same from the
+/// front. Contracts see it as the remaining changes and base pairs, in key order.
 #[derive(Drop)]
 pub(crate) struct MergeBack<'a> {
     base: &'a Base<Value<Global>, Global>,
-    // How many pairs of the base are left.
+    // How many pairs of the base remain.
     left: usize,
-    // The last of all changes, and the runs before it.
+    // The last of all remaining changes, and the runs before it.
     change: Option<Change<'a>>,
     runs: RunsBack<'a>,
 }
@@ -56,7 +56,6 @@ impl<'a> Model for MergeBack<'a> {
 }
 
 impl<'a> MergeBack<'a> {
-    // The leaf before the end.
     pub(crate) fn new(
         alloc: Global,
         chain: &'a Chain<Value<Global>, Global>,
@@ -76,7 +75,7 @@ impl<'a> MergeBack<'a> {
         merge
     }
 
-    // Walks this leaf before the end, in place of the one that was walked. Each list is searched once.
+    // Starts again with another leaf, before `hi`. Takes one binary search in each list.
     pub(crate) fn restart(&mut self, chain: &'a Chain<Value<Global>, Global>, hi: Option<&[u8]>)
         requires { depth_of chain.now ≤ 16 }
         ensures { merged self.new ≡ before (option_copied hi.entry) (entries_of chain.now) }
@@ -88,7 +87,8 @@ impl<'a> MergeBack<'a> {
         self.change = last_change(&mut self.runs);
     }
 
-    // The last change, unless a pair of the base stands after it. A pair that has its key is passed.
+    // Removes and returns the last change, unless a pair of the base comes after it. Also skips the base pair with the
+    // same key.
     pub(crate) fn take_change(&mut self) -> Option<Change<'a>>
         ensures { MatchOption result
             ((self.new ≡ self.old) × ArePairsLast self.old.changes self.old.pairs)
@@ -116,7 +116,7 @@ impl<'a> MergeBack<'a> {
     }
 }
 
-// The last pair that is there after the changes.
+// Removes and returns the last pair that is present after the changes.
 pub(crate) fn last_pair<'a>(merge: &mut MergeBack<'a>) -> Option<(&'a [u8], &'a Value<Global>)>
     ensures { MatchOption result ((merged merge.old ≡ []) × (merged merge.new ≡ []))
         (λ p. merged merge.old ≡ merged merge.new ++ (p.0.now, p.1.now) ∷ []) }
@@ -131,7 +131,7 @@ pub(crate) fn last_pair<'a>(merge: &mut MergeBack<'a>) -> Option<(&'a [u8], &'a 
     }
 }
 
-// How many of the base's first pairs are below the key; none where the last of these stands after the key.
+// How many of the first `count` base pairs are below `key`, or `None` if the last of them is above it.
 fn short_of(base: &Base<Value<Global>, Global>, count: usize, key: &KeyRef<'_>) -> Option<usize>
     ensures { MatchOption result (HasAfter key.now (take count base.now))
         (λ left. (pairs_after key.now (take count base.now) ≡ [])
@@ -148,12 +148,11 @@ fn short_of(base: &Base<Value<Global>, Global>, count: usize, key: &KeyRef<'_>) 
     }
 }
 
-// Makes these the leaf's runs before the end.
 fn fill<'a>(runs: &mut RunsBack<'a>, chain: &'a Chain<Value<Global>, Global>, hi: Option<&[u8]>)
     requires { depth_of chain.now ≤ 16 }
     ensures { runs.new.items ≡ map (before (option_copied hi.entry)) chain.now.runs }
 {
-    // The capacity is looked up for the proof: there is room for 16 in any case.
+    // The capacity is read for the proof: there is always room for 16.
     let _room = runs.capacity();
     runs.clear();
     let mut rest = chain.lent();
@@ -163,7 +162,7 @@ fn fill<'a>(runs: &mut RunsBack<'a>, chain: &'a Chain<Value<Global>, Global>, hi
     }
 }
 
-// The last of all changes, if there is one. Each run that has its key goes past it.
+// Removes the last of all changes from the runs and returns it. All runs that contain its key skip it.
 fn last_change<'a>(runs: &mut RunsBack<'a>) -> Option<Change<'a>>
     requires { AllByRecursion IsRising runs.old.items }
     ensures rising { AllByRecursion IsRising runs.new.items }
@@ -176,7 +175,7 @@ fn last_change<'a>(runs: &mut RunsBack<'a>) -> Option<Change<'a>>
     Some((key, said))
 }
 
-// The change with the greatest key; where runs share that key, it is the newest one's.
+// The change with the greatest key; if several runs contain that key, the change of the newest one.
 fn greatest<'a>(runs: &[RunBack<'a>]) -> Option<Change<'a>>
     requires { AllByRecursion IsRising runs.now }
     ensures { MatchOption result (AllByRecursion (λ run. run ≡ []) runs.now)
@@ -201,7 +200,7 @@ fn greatest<'a>(runs: &[RunBack<'a>]) -> Option<Change<'a>>
     greatest
 }
 
-// Each run goes past this key, above which none has a key.
+// All runs skip `key`, above which no run has a key.
 fn pass_all<'a>(runs: &mut [RunBack<'a>], key: &KeyRef<'_>)
     requires none_above { AllByRecursion (λ run. pairs_after key.now run ≡ []) runs.old }
     requires rising { AllByRecursion IsRising runs.old }

@@ -17,14 +17,14 @@ use mapping::Tree;
 use std::alloc::Global;
 use std::marker::Model;
 
-/// The rows of a range of keys, from the greatest key down: of each the key and the value, lent out of the tree's pages. It
-/// takes no memory, and keeps none of the bounds that it was made of. Contracts see it as the list of the rows that are left.
+/// An iterator over the rows of a range of keys from the greatest key down, as keys and values borrowed from the tree's
+/// pages. Does not allocate, and does not borrow the bounds. Contracts see it as the list of the remaining rows.
 #[derive(Drop)]
 pub struct RowsBack<'a> {
     alloc: Global,
     leaf: LeafBack<'a>,
     leaves: LeavesBack<'a>,
-    // The last row's key is this one, which is the tree's own, or above it.
+    // The least key that a row may have: a key of the tree.
     start: Option<&'a [u8]>,
     left: u32,
 }
@@ -41,8 +41,9 @@ impl<'a> Model for RowsBack<'a> {
 }
 
 impl<'a> RowsBack<'a> {
-    /// The last `limit` pairs of the tree whose keys are `lo` or above, and below `hi` where it is given, the greatest key
-    /// first. The tree is as for `Rows::new`. It costs one way down, and one more where `lo` isn't empty.
+    /// Returns the last `limit` pairs of the tree whose keys are at or above `lo` and below `hi` (if given), the
+    /// greatest key first. The tree must be as for `Rows::new`. Costs one descent, and a second one if `lo` is not
+    /// empty.
     pub fn new(
         alloc: Global,
         tree: &'a Tree<Global>,
@@ -93,7 +94,7 @@ impl<'a> Iterator for RowsBack<'a> {
     }
 }
 
-// Whether the key is the start or above it; each is where there is none.
+// Whether `key` is at or above `start`. Without a start, every key is.
 #[inline]
 fn is_from(start: Option<&[u8]>, key: &[u8]) -> bool
     ensures { result ≡ is_from (option_copied start.entry) key.now }
@@ -104,8 +105,8 @@ fn is_from(start: Option<&[u8]>, key: &[u8]) -> bool
     }
 }
 
-// The start of rows from this key on, and how many there may be: the tree's first key from there on stands for it, since it lives as
-// long as the rows. Where there is no such key, there are no rows.
+// The start and the limit of the rows at or above `lo`. The start is the tree's first key at or above `lo`, which
+// outlives the bounds. If there is no such key, the limit is 0.
 fn start_of<'a>(
     alloc: Global,
     tree: &'a Tree<Global>,

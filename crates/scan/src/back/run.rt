@@ -13,7 +13,7 @@ use keys::{KeyRef, Value};
 use std::alloc::Global;
 use std::marker::Model;
 
-// A change of a run, and how many stand before it.
+// A change of a run, and how many changes come before it.
 #[derive(Drop)]
 struct Tail<'a> {
     key: KeyRef<'a>,
@@ -22,8 +22,8 @@ struct Tail<'a> {
     before: usize,
 }
 
-/// The changes of one run that are still to come, with the last of them at hand. Contracts see it as their list, in key
-/// order. The default has none.
+/// The remaining changes of one run, with the last of them loaded. Contracts see it as their list, in key order. The
+/// default is empty.
 #[derive(Default, Drop)]
 pub(crate) struct RunBack<'a> {
     tail: Option<Tail<'a>>,
@@ -39,7 +39,6 @@ impl<'a> Model for RunBack<'a> {
 }
 
 impl<'a> RunBack<'a> {
-    // The run's changes before the end.
     pub(crate) fn new(run: &'a Run<Value<Global>, Global>, hi: Option<&[u8]>) -> Self
         ensures changes { result ≡ before (option_copied hi.entry) run.now }
         ensures rising { IsRising run.now }
@@ -49,7 +48,6 @@ impl<'a> RunBack<'a> {
         }
     }
 
-    // The last change, if there is one.
     pub(crate) fn last(&self) -> Option<Change<'a>>
         ensures { MatchOption result (self.now ≡ [])
             (λ c. EndsWith (c.0, option_copied c.1) self.now) }
@@ -60,7 +58,7 @@ impl<'a> RunBack<'a> {
         }
     }
 
-    // Goes past the last change where it has this key. No key is above this one.
+    // Skips the last change if its key is `key`, above which there is no key.
     pub(crate) fn pass(&mut self, key: &KeyRef<'_>)
         requires none_above { pairs_after key.now self.old ≡ [] }
         requires rising { IsRising self.old }
@@ -74,7 +72,7 @@ impl<'a> RunBack<'a> {
     }
 }
 
-// The last of this many first changes of the run, with those before it.
+// The last of the run's first `count` changes, with those before it.
 fn tail_at<'a>(run: &'a Run<Value<Global>, Global>, count: usize) -> Option<Tail<'a>>
     ensures { changes_until result ≡ take count run.now }
 {

@@ -12,8 +12,8 @@ use page_search::{Probes, floor};
 use std::alloc::Global;
 use std::marker::Model;
 
-/// A walk over a leaf that searches from key to key, from its end. Contracts see it as the list of the pairs that are left, in
-/// key order.
+/// An iterator over a leaf from its end that searches for each next key. Contracts see it as the list of the remaining
+/// pairs, in key order.
 #[derive(Drop)]
 pub(crate) struct SearchBack<'a> {
     chain: &'a Chain<Value<Global>, Global>,
@@ -33,7 +33,6 @@ impl<'a> Model for SearchBack<'a> {
 }
 
 impl<'a> SearchBack<'a> {
-    // The leaf's pairs before the end.
     pub(crate) fn new(chain: &'a Chain<Value<Global>, Global>, hi: Option<&[u8]>) -> Self
         ensures { result ≡ before (option_copied hi.entry) (entries_of chain.now) }
     {
@@ -43,7 +42,6 @@ impl<'a> SearchBack<'a> {
         }
     }
 
-    // The last pair, which is none of those to come afterwards.
     pub(crate) fn next_back(&mut self) -> Option<(&'a [u8], &'a Value<Global>)>
         ensures { MatchOption result ((self.old ≡ []) × (self.new ≡ []))
             (λ p. self.old ≡ self.new ++ (p.0.now, p.1.now) ∷ []) }
@@ -58,7 +56,8 @@ impl<'a> SearchBack<'a> {
     }
 }
 
-// The last pair before the end: no pair stands between the greatest key before the end that a list names and the end.
+// The last pair before `hi`. No pair lies between the greatest key before `hi` that a list contains and `hi`, so it is
+// the last pair at or below that key.
 fn last_before<'a>(
     chain: &'a Chain<Value<Global>, Global>,
     hi: Option<&[u8]>,
@@ -71,7 +70,7 @@ fn last_before<'a>(
     floor(chain, key.as_bytes(), &mut Probes::new())
 }
 
-// The greatest key before the end that the runs or the base name.
+// The greatest key before `hi` that the runs or the base contain.
 fn greatest_named<'a>(
     lists: &ChainRef<'a, Value<Global>, Global>,
     hi: Option<&[u8]>,

@@ -1,4 +1,4 @@
-//! Iterates over the children of one index page from its end: a step of a path down the tree.
+//! Iterates over the children of one index page from its end: one level of a path.
 ghost use Rattle.std.specs.Prelude.{◌≡◌, ◌∷◌, ◌++◌, [], MatchOption};
 ghost use Rattle.std.specs.Map.{values_of};
 ghost use Rattle.std.specs.Option.{option_copied};
@@ -10,11 +10,11 @@ use keys::Pid;
 use std::alloc::Global;
 use std::marker::Model;
 
-/// The children of one index page that are still to come, from right to left: a step of a path down the tree. Contracts see
-/// it as their page ids, in key order. The default has none.
+/// The remaining children of one index page, from right to left: one level of a path. Contracts see it as their page
+/// ids, in key order. The default is empty.
 #[derive(Default, Drop)]
 pub(crate) struct StepBack<'a> {
-    // The page's children, and how many of them are left.
+    // The page's children, and how many of them remain.
     children: Option<(&'a Base<Pid, Global>, usize)>,
 }
 
@@ -29,7 +29,7 @@ impl<'a> Model for StepBack<'a> {
 }
 
 impl<'a> StepBack<'a> {
-    // The children that may have keys before the end, of a page with these children. The first is one of them in any case.
+    // The children that may have keys before `hi`. The first child is always included.
     pub(crate) fn new(list: &'a Base<Pid, Global>, hi: Option<&[u8]>) -> Self
         ensures { result ≡ values_of (children_before (option_copied hi.entry) list.now) }
     {
@@ -38,7 +38,6 @@ impl<'a> StepBack<'a> {
         }
     }
 
-    // The last child, which is none of those to come afterwards.
     pub(crate) fn next_back(&mut self) -> Option<Pid>
         ensures { MatchOption result ((self.old ≡ []) × (self.new ≡ []))
             (λ pid. self.old ≡ self.new ++ pid ∷ []) }

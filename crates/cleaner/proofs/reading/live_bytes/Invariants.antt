@@ -2,7 +2,7 @@ use Rattle.std.proofs.Common.{◌≡◌, ◌+◌, ◌-◌, ◌^◌, ◌≤◌, m
 use Rattle.cleaner.proofs.LiveLemmas.{sizes}
 use Rattle.cleaner.proofs.reading.live_bytes.Given as goal
 
--- what was added up and what is left is all of it
+-- the sum so far and the remaining sizes add up to the total
 abbrev pub invariant-loop-entry : goal.invariant-loop-entry
 invariant-loop-entry l = record {
   fits : l.live ≤ 2 ^ 64 - 1;

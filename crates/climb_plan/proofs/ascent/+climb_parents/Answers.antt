@@ -9,11 +9,11 @@ use Rattle.climb_plan.proofs.ascent.+climb_parents.Goals as goal
 use Rattle.climb_plan.proofs.ascent.+climb_parents.Goals.{In-Ok}
 use Rattle.climb_plan.proofs.ascent.+climb_parents.Given as given
 
--- the level, once its parents were worked
+-- the level, after its parents got terms
 abbrev working : (g : given.Over) (t : ℕ) (c : In-Ok g t) → Working
 working g t c = record { depth = c.args.depth; before = c.args.tree.now; ready = c.change_level.new.tree; parents = c.in-Ok.changed.parents.items }
 
--- and what is known of it then
+-- and the facts about it then
 here : (g : given.Over) (t : ℕ) (c : In-Ok g t) → IsWorkedOn Index c.args.settings.now (working g t c) (parents_seen c.args.dones.items) c.in-Ok.changed.groups.items
 here g t c = record {
   fan = c.requires.fan;

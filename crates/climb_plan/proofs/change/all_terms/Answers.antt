@@ -7,7 +7,7 @@ use Rattle.keys.specs.Order.{IsRising}
 use Rattle.climb_plan.specs.Rewriting.{Remade, fresh_names, terms_of, terms_by_parent, CanTakeTerms}
 use Rattle.climb_plan.proofs.change.all_terms.Goals as goal
 
--- the next parent, with the groups that are left
+-- the next parent, with the remaining groups
 module _ (p : ℕ × ℕ) (ps left : List (ℕ × ℕ)) (fs : List Names) (rs : List Remade) (next : left ≡ p ∷ ps) (can : CanTakeTerms left fs rs) where
   can_next : CanTakeTerms (p ∷ ps) fs rs
   can_next = subst (λ (xs : List (ℕ × ℕ)). CanTakeTerms xs fs rs) next can

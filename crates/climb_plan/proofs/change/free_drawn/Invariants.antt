@@ -3,7 +3,7 @@ use Rattle.mapping.specs.Table.{freed_all}
 use Rattle.climb_plan.specs.Installing.{AreAway}
 use Rattle.climb_plan.proofs.change.free_drawn.Given as goal
 
--- the places of the later groups are still away, and once they are freed too, all are
+-- the places of the later groups are still empty, and after they are freed too, all are
 abbrev pub invariant-loop-group : goal.invariant-loop-group
 invariant-loop-group l = record {
   away : AreAway l.tree.table (flat_map (λ r. r.fresh) (drop l.group-index l.all));

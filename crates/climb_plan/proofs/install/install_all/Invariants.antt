@@ -4,7 +4,7 @@ use Rattle.climb_plan.specs.Installing.{CanInstallAll}
 use Rattle.climb_plan.proofs.Installing.{tree_installed}
 use Rattle.climb_plan.proofs.install.install_all.Given as goal
 
--- the groups that are left can be replaced, and these in the tree now are all in the tree before
+-- the remaining groups can be replaced, and these in the tree now are all in the tree before
 abbrev pub invariant-loop-group : goal.invariant-loop-group
 invariant-loop-group l = record {
   can : CanInstallAll l.tree.table (into_iter_items l.group-iterator);

@@ -4,7 +4,7 @@ use Rattle.climb_plan.specs.Installing.{AreAway}
 use Rattle.climb_plan.proofs.Installing.{tree_put}
 use Rattle.climb_plan.proofs.install.put_back.Given as goal
 
--- the places of the jobs that are left are away, and these put into the tree now are all put into the tree before
+-- the places of the remaining jobs are empty; putting these into the tree now equals putting all into the tree before
 abbrev pub invariant-loop-job : goal.invariant-loop-job
 invariant-loop-job l = record {
   away : AreAway l.tree.table (map (λ j. j.pid) (into_iter_items l.job-iterator));

@@ -4,7 +4,7 @@ use Rattle.climb_plan.specs.Installing.{AreAway}
 use Rattle.climb_plan.proofs.Installing.{tree_under}
 use Rattle.climb_plan.proofs.install.put_pieces.Given as goal
 
--- the places that are left are away, and what is left, put into the tree now, is all put into the tree before
+-- the remaining places are empty; putting the remaining pages into the tree now equals putting all into the tree before
 abbrev pub invariant-loop-pid : goal.invariant-loop-pid
 invariant-loop-pid l = record {
   away : AreAway l.tree.table (drop l.pid-index l.pids);

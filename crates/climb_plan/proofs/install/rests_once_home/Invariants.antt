@@ -4,7 +4,7 @@ use Rattle.climb_plan.specs.Installing.{AreAway}
 use Rattle.climb_plan.proofs.Installing.{tree_home}
 use Rattle.climb_plan.proofs.install.rests_once_home.Given as goal
 
--- the places of the pages that are left are away, and these home in the tree now are all home in the tree before
+-- the places of the remaining pages are empty; putting these into the tree now equals putting all into the tree before
 abbrev pub invariant-loop-done : goal.invariant-loop-done
 invariant-loop-done g l = record {
   away : AreAway l.tree.table (map (λ d. (g.D.WorkedPage.seen_page d).pid) (into_iter_items l.done-iterator));

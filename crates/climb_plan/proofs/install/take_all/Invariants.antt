@@ -6,7 +6,7 @@ use Rattle.climb_plan.specs.Installing.{AreParentsHome, parent_held}
 use Rattle.climb_plan.proofs.Installing.{tree_taken}
 use Rattle.climb_plan.proofs.install.take_all.Given as goal
 
--- the parents that are left are at home; the jobs so far and what is left hold what all held; what is left, taken from the
+-- the remaining parents are at home; the jobs so far and the rest hold what all held; the rest, taken from the
 -- tree now, is all taken from the tree before; and there is room for the rest
 abbrev pub invariant-loop-pid : goal.invariant-loop-pid
 invariant-loop-pid l = record {

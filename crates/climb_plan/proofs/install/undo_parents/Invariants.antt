@@ -4,7 +4,7 @@ use Rattle.climb_plan.specs.Installing.{AreAway}
 use Rattle.climb_plan.proofs.Installing.{tree_put}
 use Rattle.climb_plan.proofs.install.undo_parents.Given as goal
 
--- the places of the parents that are left are away, and these put into the tree now are all put into the tree before
+-- the places of the remaining parents are empty; putting these into the tree now equals putting all into the tree before
 abbrev pub invariant-loop-parent : goal.invariant-loop-parent
 invariant-loop-parent l = record {
   away : AreAway l.tree.table (map (λ d. d.held.pid) (into_iter_items l.parent-iterator));

@@ -2,7 +2,7 @@
 use Rattle.climb_plan.proofs.Shrinking.{AreOnTheWay}
 use Rattle.climb_plan.proofs.shrink.shrink.Given as goal
 
--- what is left to do is what all of it is
+-- the remaining work has the result of the whole work
 abbrev pub invariant-loop-tree : goal.invariant-loop-tree
 invariant-loop-tree l = AreOnTheWay l.fn.tree l.tree
 

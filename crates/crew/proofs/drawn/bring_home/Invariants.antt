@@ -4,7 +4,7 @@ use Rattle.std.specs.Vec.Iter.{into_iter_items}
 use Rattle.crew.specs.Home.{placed}
 use Rattle.crew.proofs.drawn.bring_home.Given as goal
 
--- what the rest makes of the places now is what all make of them
+-- the remaining results fill the places as all results fill the first ones
 abbrev pub invariant-loop-hand : goal.invariant-loop-hand
 invariant-loop-hand g l = record {
   passes : l.passes.items ++ map (λ hand. hand.pass) (into_iter_items l.hand-iterator) ≡ map (λ hand. hand.pass) l.fn.hands.items;

@@ -5,7 +5,7 @@ use Rattle.std.specs.Vec.Iter.{into_iter_items}
 use Rattle.crew.specs.Home.{home_origins, IsMadeHome}
 use Rattle.crew.proofs.home.gather.Given as goal
 
--- the jobs that came back, those of what was made, and those of the places that are left are all
+-- the returned jobs, those of the outputs, and those of the remaining places are all
 abbrev pub invariant-loop-home : goal.invariant-loop-home
 invariant-loop-home g l = record {
   all : map g.W.Work.held l.jobs.items ++ (map g.W.Work.origin l.dones.items ++ flat_map (home_origins g.W.Work) (into_iter_items l.home-iterator)) ≡ flat_map (home_origins g.W.Work) l.fn.homes.items;

@@ -4,7 +4,7 @@ use Rattle.std.specs.Int.{div_ceil}
 use Rattle.crew.specs.Pieces.{jobs_of}
 use Rattle.crew.proofs.pieces.cut.Given as goal
 
--- the jobs that are left, and those of the pieces, are all; there is room for the pieces of the rest
+-- the remaining jobs, and those of the pieces, are all; there is room for the pieces of the rest
 abbrev pub invariant-loop-jobs : goal.invariant-loop-jobs
 invariant-loop-jobs g l = record {
   jobs : l.jobs.items ++ jobs_of (reverse l.pieces.items) ≡ l.initial.jobs.items;

@@ -3,7 +3,7 @@ use Rattle.std.specs.Prelude.{vec_capacity}
 use Rattle.crew.specs.Pieces.{jobs_of}
 use Rattle.crew.proofs.pieces.put_together.Given as goal
 
--- the jobs on the list, and those of the pieces that are left, their top first, are all
+-- the jobs on the list, and those of the remaining pieces, their top first, are all
 abbrev pub invariant-loop-piece : goal.invariant-loop-piece
 invariant-loop-piece g l = record {
   room : length l.jobs.items + length (jobs_of (reverse l.pieces.items)) ≤ vec_capacity l.jobs;

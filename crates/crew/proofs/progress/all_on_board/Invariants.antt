@@ -4,7 +4,7 @@ use Rattle.crew.specs.Marks.{forgotten, jobs_in}
 use Rattle.crew.specs.Round.{joined, numbered_pieces}
 use Rattle.crew.proofs.progress.all_on_board.Given as goal
 
--- what lies on the board, and the pieces that are left, are all pieces
+-- what lies on the board, and the remaining pieces, are all pieces
 abbrev pub invariant-loop-piece : goal.invariant-loop-piece
 invariant-loop-piece g l = record {
   room : length l.pieces ≤ deque_capacity l.board;

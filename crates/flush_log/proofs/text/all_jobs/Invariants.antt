@@ -6,7 +6,7 @@ use Rattle.flush_log.specs.ImageWork.{job_held, IsDue}
 use Rattle.flush_log.proofs.TextImages.{text_with}
 use Rattle.flush_log.proofs.text.all_jobs.Given as goal
 
--- the text of the jobs so far, and that of the pids that are left, is the whole text
+-- the frames of the jobs so far, and those of the remaining pids, are all frames
 abbrev pub invariant-loop-pid : goal.invariant-loop-pid
 invariant-loop-pid l = record {
   text : text_with l.text (tree_of l.tree) (map job_held l.jobs.items) l.pid-iterator ≡ text_of l.text (tree_of l.tree);

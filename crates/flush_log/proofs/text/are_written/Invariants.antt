@@ -5,6 +5,6 @@ use Rattle.flush_log.specs.FlushText.{pid_text}
 use Rattle.flush_log.specs.declared.text.Text.TheVariants.{Flush}
 use Rattle.flush_log.proofs.text.are_written.Given as goal
 
--- the text is that of the pids that are left, in each version
+-- the frames are those of the remaining pids, in each version
 abbrev pub invariant-loop-pid : goal.invariant-loop-pid
 invariant-loop-pid l = (version : Version) → flat_map (pid_text (Flush version) (tree_of l.tree)) (drop l.pid-index l.pids) ≡ flat_map (pid_text (Flush version) (tree_of l.tree)) l.pids

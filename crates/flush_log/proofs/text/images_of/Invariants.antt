@@ -6,7 +6,7 @@ use Rattle.frame_codec.specs.Sized.{HasWords}
 use Rattle.flush_log.specs.ImageWork.{held_text, image_made}
 use Rattle.flush_log.proofs.text.images_of.Given as goal
 
--- the images so far and those of the jobs that are left are all, there is room for the rest, and the words of all are known by those that are left
+-- the images so far and those of the remaining jobs are all, there is room for the rest, and the remaining ones show that all page ids have 64 bits
 abbrev pub invariant-loop-done : goal.invariant-loop-done
 invariant-loop-done l = record {
   made : l.images.items ++ map image_made (into_iter_items l.done-iterator) ≡ map image_made l.fn.dones.items;

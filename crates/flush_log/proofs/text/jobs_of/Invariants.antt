@@ -6,7 +6,7 @@ use Rattle.flush_log.specs.ImageWork.{job_held, IsDue}
 use Rattle.flush_log.proofs.TextImages.{text_with}
 use Rattle.flush_log.proofs.text.jobs_of.Given as goal
 
--- the text of the jobs so far, and that of the pids that are left, is the text of all
+-- the frames of the jobs so far, and those of the remaining pids, are the frames of all pids
 abbrev pub invariant-loop-pid : goal.invariant-loop-pid
 invariant-loop-pid l = record {
   text : text_with l.text (tree_of l.tree) (map job_held l.jobs.items) (drop l.pid-index l.pids) ≡ flat_map (pid_text l.text (tree_of l.tree)) l.pids;

@@ -3,7 +3,7 @@ use Rattle.frame_codec.specs.declared.format.Spelling.TheVariants.{Shared}
 use Rattle.frame_codec.proofs.SkimLemmas.{IsPassedUpTo, last_of}
 use Rattle.frame_codec.proofs.skim.skim_shared.Given as goal
 
--- the entries before this place were passed over, and the next is spelled by this key
+-- the entries before this place were skipped, and the next entry is encoded after this key
 abbrev pub invariant-loop-at : goal.invariant-loop-at
 invariant-loop-at g l =
     IsPassedUpTo l.settings (g.C.Spelled.is_short l.settings) Shared g.C.Spelled.codec (take 510 l.low) l.count l.initial.rest

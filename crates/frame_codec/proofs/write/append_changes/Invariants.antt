@@ -6,7 +6,7 @@ use Rattle.frame_codec.specs.declared.format.Spelling.TheVariants.{Whole}
 use Rattle.frame_codec.proofs.WriteLemmas.{IsUpTo}
 use Rattle.frame_codec.proofs.write.append_changes.Given as goal
 
--- what stands before this place was appended, and each cell there is one of its type
+-- the changes before this place were appended, and each of their cells is valid
 abbrev pub invariant-loop-at : goal.invariant-loop-at
 invariant-loop-at g l =
     IsUpTo Whole (flagged g.V.Spelled.codec) [] l.run [] l.at l.initial.out l.out

@@ -4,7 +4,7 @@ use Rattle.frame_codec.specs.declared.format.Spelling.TheVariants.{Whole}
 use Rattle.frame_codec.proofs.WriteLemmas.{IsUpTo}
 use Rattle.frame_codec.proofs.write.append_whole.Given as goal
 
--- what stands before this place was appended, and each cell there is one of its type
+-- the entries before this place were appended, and each of their cells is valid
 abbrev pub invariant-loop-at : goal.invariant-loop-at
 invariant-loop-at g l =
     IsUpTo Whole g.V.Spelled.codec [] l.base [] l.at l.initial.out l.out

@@ -4,7 +4,7 @@ use Rattle.frame_codec.specs.declared.format.Spelling.TheVariants.{Whole}
 use Rattle.frame_codec.proofs.WriteLemmas.{spelled_from}
 use Rattle.frame_codec.proofs.write.run_len.Given as goal
 
--- what the changes from this place on take comes on top
+-- the size of the changes from this place on is added
 abbrev pub invariant-loop-at : goal.invariant-loop-at
 invariant-loop-at g l =
     l.len + length (spelled_from Whole (flagged g.V.Spelled.codec) [] l.run [] l.at) ≡ length (spelled_from Whole (flagged g.V.Spelled.codec) [] l.run [] 0)

@@ -2,7 +2,7 @@ use Rattle.std.proofs.Common.{◌≡◌}
 use Rattle.keys.specs.RowBytes.{after_rows, StartWithRows}
 use Rattle.keys.proofs.row_list.after_rows.Given as goal
 
--- what stands after the rows that are left is what stands after all
+-- the bytes after the remaining rows are the bytes after all rows
 abbrev pub invariant-loop-left : goal.invariant-loop-left
 invariant-loop-left l = record {
   same : after_rows l.left l.rest ≡ after_rows l.fn.count l.fn.bytes;

@@ -23,7 +23,7 @@ returns-in-Ok-clause-class c =
     let e = class_replaced c.args.settings.now c.args.page c.prepend.new.self c.args.run c.in-Ok.ensures.ok some c.if-must_replace.ensures in
     from_ok c.replace_leaf.result _ (λ after. leaf_class_now after.1 ≡ class_after c.args.settings.now (seen c.args.page) c.args.run) (λ after h. h ∙ e) c.replace_leaf.ensures.class
 
--- ---- the run stands in front
+-- ---- the run is prepended
 
 pub returns-in-Ok-2-clause-page : goal.returns-in-Ok-2-clause-page
 returns-in-Ok-2-clause-page c =

@@ -103,7 +103,7 @@ pub returns-in-Ok-clause-run_back : goal.returns-in-Ok-clause-run_back
 returns-in-Ok-clause-run_back g c =
     from_err c.replace.result _ (λ again. again.1 ≡ c.args.run) (λ again h. sym (run_of again.0 _ again.1 h) ∙ run_of c.args.page _ c.args.run c.in-Ok.ensures.ok) c.replace.ensures.back
 
--- ---- the run stands in front
+-- ---- the run is prepended
 
 pub returns-in-Ok-2-clause-page : goal.returns-in-Ok-2-clause-page
 returns-in-Ok-2-clause-page g c =

@@ -97,7 +97,7 @@ returns-in_default-nearest_place-clause-least g t c =
 pub returns-in_default-nearest_place-clause-kept : goal.returns-in_default-nearest_place-clause-kept
 returns-in_default-nearest_place-clause-kept g t c = omega (arith, c.nearest_named-under.ensures.kept, c.in_default-nearest_place.ensures.kept)
 
--- ---- a run that names one, and what is under it
+-- ---- a run that contains a nearer key, and the lists below it
 
 pub returns-in-Some-under-clause-cost : goal.returns-in-Some-under-clause-cost
 returns-in-Some-under-clause-cost g t c =

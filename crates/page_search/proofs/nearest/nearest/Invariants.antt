@@ -7,7 +7,7 @@ use Rattle.page_search.proofs.NearestLemmas.{count_named}
 use Rattle.page_search.proofs.nearest.nearest.Given as goal
 
 -- The entry that is nearest to the bound on the side that is left is the one that is looked for. The way to it from the bound may
--- take what the whole way may, less what was compared, and where a key is held that is the nearest one named, no walk is done
+-- take what the whole way may, less what was compared, and if a key is held that is the nearest one named, no walk is done
 -- yet.
 abbrev pub invariant-loop-found : goal.invariant-loop-found
 invariant-loop-found g l = record {

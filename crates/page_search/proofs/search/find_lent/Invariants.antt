@@ -3,7 +3,7 @@ use Rattle.delta_chain.specs.Layers.{holds}
 use Rattle.page_search.specs.Costs.{find_cost, find_least}
 use Rattle.page_search.proofs.search.find_lent.Given as goal
 
--- no run so far names the key: what is left holds what the page holds, and costs what is left
+-- no run so far contains the key: the rest of the page holds what the page holds, and costs the rest
 abbrev pub invariant-loop-run : goal.invariant-loop-run
 invariant-loop-run g l = record {
   value : holds l.rest l.key ≡ holds l.fn.chain l.key;

@@ -3,7 +3,7 @@ use Rattle.page_search.specs.Digits.{binary_digits}
 use Rattle.page_search.specs.Places.{AreBelowBefore, AreAboveFrom}
 use Rattle.page_search.proofs.search.place.Given as goal
 
--- What is left is from low up to high: the key is above what stands before it and below what stands after it.
+-- The search continues in low..high: the key is above the keys before low and below the keys from high on.
 abbrev pub invariant-loop-low : goal.invariant-loop-low
 invariant-loop-low g l =
     let keys : List (List ℕ) = g.L.KeyList.keys l.list in

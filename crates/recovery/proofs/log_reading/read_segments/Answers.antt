@@ -7,7 +7,7 @@ use Rattle.recovery.proofs.ReadBytes.{IsUncounted, kept_then, same_on, late_sinc
 use Rattle.recovery.proofs.ReadLog.{ReadResult, last-taken}
 use Rattle.recovery.proofs.log_reading.read_segments.Goals as goal
 
--- the segments in front of the last one were not read
+-- the segments before the last one were not read
 pub returns-in_err-read_earlier-clause-read : goal.returns-in_err-read_earlier-clause-read
 returns-in_err-read_earlier-clause-read g c w file is none =
     let (now, bytes, front, state) = c.in_err-read_earlier.ensures.read w file is none in (

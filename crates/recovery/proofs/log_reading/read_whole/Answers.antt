@@ -23,7 +23,7 @@ read-requires g c =
     let kept = c.loop-number.invariant.kept.size in
     omega (arith, room, place, part, within, kept)
 
--- memory was refused, and nothing was read
+-- an allocation failed, and nothing was read
 pub returns-in_err-segments-clause-read : goal.returns-in_err-segments-clause-read
 returns-in_err-segments-clause-read g c file head is low high = (file, is, refl, nothing_of c.from_residual.result _ c.from_residual.ensures.0)
 

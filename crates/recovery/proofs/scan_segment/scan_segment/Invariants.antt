@@ -3,7 +3,7 @@ use Rattle.recovery.specs.Scan.{is_end_at}
 use Rattle.recovery.proofs.ScanLemmas.{IsUpto}
 use Rattle.recovery.proofs.scan_segment.scan_segment.Given as goal
 
--- the frames in front of the bytes that are left were identified
+-- the frames before the remaining bytes were identified
 abbrev pub invariant-loop-bytes : goal.invariant-loop-bytes
 invariant-loop-bytes l = IsUpto l.format (is_end_at l.end) (length l.bytes) l.number (drop 16 l.bytes) l.frames.items l.rest
 

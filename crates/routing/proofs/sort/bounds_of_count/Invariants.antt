@@ -3,7 +3,7 @@ use Rattle.std.specs.List.{AllByRecursion}
 use Rattle.routing.specs.Keyed.{has_key_below}
 use Rattle.routing.proofs.sort.bounds_of_count.Given as goal
 
--- all entries so far are below the key, and the next look is after them
+-- all entries so far are below the key, and the next entry examined is after them
 abbrev pub invariant-loop-high : goal.invariant-loop-high
 invariant-loop-high l = record {
   order : l.low ≤ l.high;

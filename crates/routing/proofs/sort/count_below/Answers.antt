@@ -6,7 +6,7 @@ use Rattle.routing.specs.Keyed.{has_key_below}
 use Rattle.routing.proofs.SliceLemmas.{parted_part, cut_at}
 use Rattle.routing.proofs.sort.count_below.Goals as goal
 
--- what stands before the count is below the key, and what stands after isn't
+-- the entries before the count are below the key, and those after it are not
 cut : (c : goal.After-partition_point) → (let n = c.bounds_of_count-low.result.0 + c.partition_point.result in
     AllByRecursion (λ entry. has_key_below c.args.key.now entry ≡ true) (take n c.args.keyed.now)
     × AllByRecursion (λ entry. has_key_below c.args.key.now entry ≡ false) (drop n c.args.keyed.now))

@@ -2,7 +2,7 @@ use Rattle.std.proofs.Common.{◌≡◌, ◌≤◌, ◌+◌, ◌++◌, length, m
 use Rattle.scan.specs.Leaf.{from}
 use Rattle.scan.proofs.changes.fill.Given as goal
 
--- the runs so far and those that are left are all; there is room for the others
+-- the runs so far and the remaining ones are all; there is room for the others
 abbrev pub invariant-loop-run : goal.invariant-loop-run
 invariant-loop-run l = record {
   made : l.runs.items ++ map (from l.key) l.rest.runs ≡ map (from l.key) l.fn.chain.runs;

@@ -8,7 +8,7 @@ use Rattle.scan.specs.Ends.{deleted, wiped}
 use Rattle.scan.specs.Taken.{IsTaken, AreReady}
 use Rattle.scan.proofs.ends.all_ends.Given as goal
 
--- there is an end for each command so far, and what these take away is counted
+-- there is an end for each command so far, and what these commands delete is counted
 abbrev pub invariant-loop-command : goal.invariant-loop-command
 invariant-loop-command l = record {
   taken : IsTaken (deleted (take l.command-index l.commands), wiped (take l.command-index l.commands)) l.taken;

@@ -8,7 +8,7 @@ use Rattle.scan.specs.Taken.{IsTaken, IsTakenBelow}
 use Rattle.scan.proofs.EndLemmas.{IsPassing, AreCertainBefore}
 use Rattle.scan.proofs.ends.end_of_scan.Given as goal
 
--- the walk is at a leaf of the level, before which this many pairs are certain, and knows what is taken away below it
+-- the walk is at a leaf of the level, before which this many pairs are certain, and knows what is deleted below that leaf
 abbrev pub invariant-loop-next : goal.invariant-loop-next
 invariant-loop-next l = record {
   passing : IsPassing (levels_of (tree_of l.tree)).level (leaf_with l.leaf.0.now (seen l.leaf.1.now)) l.leaves;

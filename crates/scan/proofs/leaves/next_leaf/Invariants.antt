@@ -2,7 +2,7 @@ use Rattle.std.proofs.Common.{◌≡◌, length}
 use Rattle.scan.specs.Walk.{IsWalk, walk_left}
 use Rattle.scan.proofs.leaves.next_leaf.Given as goal
 
--- what is left of the path leads to all leaves that it led to
+-- the rest of the path leads to all leaves that it led to
 abbrev pub invariant-loop-step : goal.invariant-loop-step
 invariant-loop-step l = record {
   walk : IsWalk l.tree l.path;

@@ -1,7 +1,7 @@
 use Rattle.std.proofs.Common.{◌≡◌, ℕ, ◌+◌, ◌-◌, ◌^◌, ◌<◌, ◌≤◌, length, get_or}
 use Rattle.scan.proofs.level.raise.Given as goal
 
--- those that were come to are greater by one, and the others as they were
+-- the numbers before this place are greater by one, the others are unchanged
 abbrev pub invariant-loop-at : goal.invariant-loop-at
 invariant-loop-at l = record {
   start : l.end < l.from → l.at ≡ l.from;

@@ -2,7 +2,7 @@ use Rattle.std.proofs.Common.{◌≡◌, length}
 use Rattle.scan.specs.Left.{pairs_left}
 use Rattle.scan.proofs.rows.next_pair.Given as goal
 
--- what the leaf and those after it have left is what they had
+-- the remaining pairs of the leaf and of those after it are the same as at the beginning
 abbrev pub invariant-loop-pair : goal.invariant-loop-pair
 invariant-loop-pair l = pairs_left l.leaf l.leaves ≡ pairs_left l.initial.leaf l.initial.leaves
 

@@ -12,7 +12,7 @@ loop-class-init c = record {
   room = omega (arith, c.new-sizes.ensures.capacity);
 }
 
--- a push is refused only where the inline places are full
+-- a push fails only if the inline places are full
 pub returns-in_err-push-clause-inline : goal.returns-in_err-push-clause-inline
 returns-in_err-push-clause-inline c = λ few.
     let members : 0 < c.loop-class.members = c.loop-class.invariant.begun c.if-has_begun.true in

@@ -3,7 +3,7 @@ use Rattle.verify.specs.Sizes.{sizes_under}
 use Rattle.verify.proofs.ChainLemmas.{runs_left}
 use Rattle.verify.proofs.chain_tests.fits_sizes.Given as goal
 
--- each run so far is within the settings: so the page is where the runs that are left and the base are
+-- each run so far is within the settings: so the page is within them if the remaining runs and the base are
 abbrev pub invariant-loop-next : goal.invariant-loop-next
 invariant-loop-next g l = sizes_under l.settings (g.V.CellSize.is_short l.settings) (runs_left l.next) (g.B.BaseList.entries l.base)
     ≡ sizes_under l.settings (g.V.CellSize.is_short l.settings) l.runs.runs (g.B.BaseList.entries l.base)

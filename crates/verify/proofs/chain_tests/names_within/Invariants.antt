@@ -7,7 +7,7 @@ use Rattle.index_page.specs.Range.{is_within}
 use Rattle.verify.proofs.ChainLemmas.{runs_left}
 use Rattle.verify.proofs.chain_tests.names_within.Given as goal
 
--- each run so far lies in the range: so the page does where the runs that are left and the base do
+-- each run so far lies in the range: so the page does if the remaining runs and the base do
 abbrev pub invariant-loop-next : goal.invariant-loop-next
 invariant-loop-next g l = list_all (is_within l.low (option_copied l.end)) (keys_of (changes_over (runs_left l.next) (g.B.BaseList.entries l.base)))
     ≡ list_all (is_within l.low (option_copied l.end)) (keys_of (changes_over l.runs.runs (g.B.BaseList.entries l.base)))

@@ -4,7 +4,7 @@ use Rattle.verify.specs.Met.{HaveMetTheSame}
 use Rattle.verify.specs.Seen.{first_found, all_pairs}
 use Rattle.verify.proofs.level.meet_all.Given as goal
 
--- what is found, met and counted from this place on is, with what was met and counted before it, that of all places
+-- findings, visited pids and counts from this place on, together with those before it, are those of all places
 abbrev pub invariant-loop-at : goal.invariant-loop-at
 invariant-loop-at l = record {
   found : first_found l.met (drop l.at l.places) (drop l.at l.seen) ≡ first_found l.fn.met l.places l.seen;

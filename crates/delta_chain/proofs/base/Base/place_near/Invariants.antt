@@ -2,7 +2,7 @@ use Rattle.std.proofs.Common.{◌-◌, ◌≤◌, length}
 use Rattle.delta_chain.proofs.Setting.{BelowBefore, AboveFrom}
 use Rattle.delta_chain.proofs.base.Base.place_near.Given as goal
 
--- what is left is from low up to high: the key is above what stands before it and below what stands after it
+-- the search continues in low..high: the key is above the keys before low and below the keys from high on
 abbrev pub invariant-loop-low : goal.invariant-loop-low
 invariant-loop-low g l = record {
   ordered : l.low ≤ l.high;

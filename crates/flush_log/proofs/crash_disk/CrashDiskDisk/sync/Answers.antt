@@ -136,7 +136,7 @@ returns-in-Ok-clause-seen g c _ = c.sync_recorded.ensures.seen
 pub returns-in-Ok-clause-crash : goal.returns-in-Ok-clause-crash
 returns-in-Ok-clause-crash g c _ = c.sync_recorded.ensures.crash
 
--- memory was refused
+-- an allocation failed
 pub invariant_of-self-in-Err : goal.invariant_of-self-in-Err
 invariant_of-self-in-Err g c =
     let old = c.args.self.now in

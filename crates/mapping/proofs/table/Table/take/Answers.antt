@@ -4,7 +4,7 @@ use Rattle.mapping.specs.Slots.{listed_place}
 use Rattle.mapping.proofs.TableSlots.{home_is_some, stands_within, none_is_not_some, not_home, slot_here, place-slot, page_changed}
 use Rattle.mapping.proofs.table.Table.take.Goals as goal
 
--- what is at home is a page
+-- the page in the table is a page
 pub unreachable-requires : goal.unreachable-requires
 unreachable-requires g c =
     let slots = c.self.inside.slots.items in

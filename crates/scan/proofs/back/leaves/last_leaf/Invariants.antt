@@ -3,7 +3,7 @@ use Rattle.scan.specs.Back.{walk_before}
 use Rattle.scan.specs.Walk.{IsWalk}
 use Rattle.scan.proofs.back.leaves.last_leaf.Given as goal
 
--- what is left of the path leads to all leaves that it led to
+-- the rest of the path leads to all leaves that it led to
 abbrev pub invariant-loop-step : goal.invariant-loop-step
 invariant-loop-step l = record {
   walk : IsWalk l.tree l.path;

@@ -3,7 +3,7 @@ use Rattle.std.specs.Option.{option_copied}
 use Rattle.scan.specs.Back.{before}
 use Rattle.scan.proofs.back.merge.fill.Given as goal
 
--- the runs so far and those that are left are all; there is room for the others
+-- the runs so far and the remaining ones are all; there is room for the others
 abbrev pub invariant-loop-run : goal.invariant-loop-run
 invariant-loop-run l = record {
   made : l.runs.items ++ map (before (option_copied l.hi)) l.rest.runs ≡ map (before (option_copied l.hi)) l.fn.chain.runs;

@@ -2,7 +2,7 @@ use Rattle.std.proofs.Common.{◌≡◌, length}
 use Rattle.scan.specs.Back.{pairs_before}
 use Rattle.scan.proofs.back.rows.last_pair.Given as goal
 
--- what the leaf and those before it have left is what they had
+-- the remaining pairs of the leaf and of those before it are the same as at the beginning
 abbrev pub invariant-loop-pair : goal.invariant-loop-pair
 invariant-loop-pair l = pairs_before l.leaves l.leaf ≡ pairs_before l.initial.leaves l.initial.leaf
 
