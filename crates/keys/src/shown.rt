@@ -26,16 +26,12 @@ impl<A: Allocator> fmt::Debug for Value<A> {
     }
 }
 
-// Writes a row, after a comma if it is not the first one.
-fn write_row<W: fmt::Write>(
-    is_first: bool,
-    key: &[u8],
-    value: &[u8],
-    f: &mut fmt::Formatter<W>,
-) -> fmt::Result {
-    if !is_first {
-        f.write_str(", ")?;
-    }
+// Writes the comma in front of a row that is not the first one.
+fn write_comma<W: fmt::Write>(is_first: bool, f: &mut fmt::Formatter<W>) -> fmt::Result {
+    f.write_str(if is_first { "" } else { ", " })
+}
+
+fn write_row<W: fmt::Write>(key: &[u8], value: &[u8], f: &mut fmt::Formatter<W>) -> fmt::Result {
     write_bytes(key, f)?;
     f.write_str("=")?;
     write_bytes(value, f)
@@ -46,7 +42,8 @@ impl<A: Allocator> fmt::Debug for RowList<A> {
         f.write_str("[")?;
         let mut is_first = true;
         for (key, value) in self {
-            write_row(is_first, key, value, f)?;
+            write_comma(is_first, f)?;
+            write_row(key, value, f)?;
             is_first = false;
         }
         f.write_str("]")
